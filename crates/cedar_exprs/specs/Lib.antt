@@ -1,0 +1,10 @@
+pub mod Place
+pub mod Terms
+pub mod Bare
+pub mod Ops
+pub mod Fold
+pub mod Trees
+pub mod View
+pub mod Data
+pub mod Node
+pub mod Environment

@@ -1,0 +1,143 @@
+// The builder of expressions.
+ghost use Rattle.std.specs.Prelude.{◌≡◌, None, IfOk};
+ghost use Rattle.std.specs.Option.{option_copied};
+ghost use Rattle.cedar_exprs.specs.Terms.{bare_literal, bare_unknown};
+ghost use Rattle.cedar_exprs.specs.Trees.{tree_ops, bool_of};
+ghost use Rattle.cedar_exprs.specs.View.{bare, bare_kind};
+ghost use Rattle.cedar_exprs.specs.Data.{held, held_kind, no_data, child, of_connective};
+ghost use Rattle.cedar_exprs.specs.Node.{builder_loc, builder_data, IsMadeBy};
+
+use crate::expr::{Expr, ExprKind};
+use crate::literal::Literal;
+use crate::loc::Loc;
+use crate::ops::BinaryOp;
+use crate::unknown::Unknown;
+use std::alloc::{AllocError, Global};
+use std::rc::Rc;
+
+/// Makes expressions, each with the builder's place and data on its outermost node.
+#[derive(Debug, Drop)]
+pub struct ExprBuilder<T> {
+    source_loc: Option<Loc>,
+    data: T,
+}
+
+impl<T: Default + Copy> ExprBuilder<T> {
+    /// A builder with default data and no place.
+    pub fn new() -> ExprBuilder<T>
+        ensures loc { builder_loc result ≡ None }
+        ensures default { T.is_default (builder_data result) }
+    {
+        ExprBuilder::with_data(T::default())
+    }
+
+    /// A builder with this data and no place.
+    pub fn with_data(data: T) -> ExprBuilder<T>
+        ensures loc { builder_loc result ≡ None }
+        ensures of_node { builder_data result ≡ «data» }
+    {
+        ExprBuilder {
+            source_loc: None,
+            data,
+        }
+    }
+
+    /// The place that is given to what is made.
+    pub fn loc(&self) -> Option<&Loc>
+        ensures { option_copied result ≡ builder_loc self.now }
+    {
+        self.source_loc.as_ref()
+    }
+
+    /// The data that is given to what is made.
+    pub fn data(&self) -> &T
+        ensures { result.now ≡ builder_data self.now }
+    {
+        &self.data
+    }
+
+    /// The builder with this place, or with none.
+    pub fn with_maybe_source_loc(self, source_loc: Option<Loc>) -> ExprBuilder<T>
+        ensures loc { builder_loc result ≡ source_loc }
+        ensures of_node { builder_data result ≡ builder_data self }
+    {
+        ExprBuilder {
+            source_loc,
+            data: self.data,
+        }
+    }
+
+    /// The node of this kind, as it stands: nothing is simplified.
+    pub fn with_expr_kind(self, expr_kind: ExprKind<T>) -> Expr<T>
+        ensures { IsMadeBy self (bare_kind expr_kind) (held_kind expr_kind) result }
+    {
+        Expr::new(expr_kind, self.source_loc, self.data)
+    }
+
+    /// A literal.
+    pub fn val(self, literal: Literal) -> Expr<T>
+        ensures { IsMadeBy self (tree_ops.lit_of (bare_literal literal)) no_data result }
+    {
+        self.with_expr_kind(ExprKind::Lit(literal))
+    }
+
+    /// An unknown.
+    pub fn unknown(self, unknown: Unknown) -> Expr<T>
+        ensures { IsMadeBy self (tree_ops.unknown_of (bare_unknown unknown)) no_data result }
+    {
+        self.with_expr_kind(ExprKind::Unknown(unknown))
+    }
+
+    /// The conjunction of two expressions: of two Boolean literals their literal, else the node.
+    pub fn and(
+        self,
+        alloc: Global,
+        left: Expr<T>,
+        right: Expr<T>,
+    ) -> Result<Expr<T>, AllocError>
+        ensures { IfOk result (IsMadeBy self (tree_ops.and_of (bare left) (bare right)) (of_connective left right)) }
+    {
+        match (left.as_bool(), right.as_bool()) {
+            (Some(a), Some(b)) => Ok(self.val(Literal::Bool(a && b))),
+            _ => Ok(self.with_expr_kind(ExprKind::And {
+                left: Rc::new(alloc, left)?,
+                right: Rc::new(alloc, right)?,
+            })),
+        }
+    }
+
+    /// The disjunction of two expressions: of two Boolean literals their literal, else the node.
+    pub fn or(
+        self,
+        alloc: Global,
+        left: Expr<T>,
+        right: Expr<T>,
+    ) -> Result<Expr<T>, AllocError>
+        ensures { IfOk result (IsMadeBy self (tree_ops.or_of (bare left) (bare right)) (of_connective left right)) }
+    {
+        match (left.as_bool(), right.as_bool()) {
+            (Some(a), Some(b)) => Ok(self.val(Literal::Bool(a || b))),
+            _ => Ok(self.with_expr_kind(ExprKind::Or {
+                left: Rc::new(alloc, left)?,
+                right: Rc::new(alloc, right)?,
+            })),
+        }
+    }
+
+    /// An operator on two arguments.
+    pub fn binary_app(
+        self,
+        alloc: Global,
+        op: BinaryOp,
+        arg1: Expr<T>,
+        arg2: Expr<T>,
+    ) -> Result<Expr<T>, AllocError>
+        ensures { IfOk result (IsMadeBy self (tree_ops.binary_of op (bare arg1) (bare arg2)) (child (held arg1) (child (held arg2) no_data))) }
+    {
+        Ok(self.with_expr_kind(ExprKind::BinaryApp {
+            op,
+            arg1: Rc::new(alloc, arg1)?,
+            arg2: Rc::new(alloc, arg2)?,
+        }))
+    }
+}

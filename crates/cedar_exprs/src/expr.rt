@@ -1,0 +1,198 @@
+// Expression trees.
+ghost use Rattle.std.specs.Prelude.{◌≡◌, IfOk};
+ghost use Rattle.std.specs.Option.{option_copied};
+ghost use Rattle.cedar_exprs.specs.Trees.{bool_of};
+ghost use Rattle.cedar_exprs.specs.View.{bare, bare_kind};
+ghost use Rattle.cedar_exprs.specs.Data.{held, held_kind};
+ghost use Rattle.cedar_exprs.specs.Node.{kind_of, loc_of, data_of};
+
+use crate::literal::Literal;
+use crate::loc::Loc;
+use crate::ops::BinaryOp;
+use crate::unknown::Unknown;
+use std::alloc::{AllocError, Global};
+use std::rc::Rc;
+
+/// The kinds of expressions. Match on it to walk over a tree.
+#[cycle(expr)]
+#[derive(Debug, PartialEq, Eq, Hash, Drop)]
+pub enum ExprKind<T = ()> {
+    /// A literal.
+    Lit(Literal),
+    /// A value that is not known yet.
+    Unknown(Unknown),
+    /// Both sides hold; the right one counts only where the left one holds.
+    And {
+        left: Rc<Expr<T>>,
+        right: Rc<Expr<T>>,
+    },
+    /// Either side holds; the right one counts only where the left one does not hold.
+    Or {
+        left: Rc<Expr<T>>,
+        right: Rc<Expr<T>>,
+    },
+    /// An operator on two arguments.
+    BinaryApp {
+        op: BinaryOp,
+        arg1: Rc<Expr<T>>,
+        arg2: Rc<Expr<T>>,
+    },
+}
+
+/// An expression: its kind, the place where it was written, if known, and data of the caller's type on each node.
+///
+/// Equality and hash see the kind and the data, and no place.
+#[cycle(expr)]
+#[derive(Debug, Drop)]
+#[derive_where(PartialEq, Eq, Hash; T)]
+pub struct Expr<T = ()> {
+    expr_kind: ExprKind<T>,
+    #[derive_where(skip(EqHashOrd))]
+    source_loc: Option<Loc>,
+    data: T,
+}
+
+impl<T> Expr<T> {
+    pub(crate) fn new(expr_kind: ExprKind<T>, source_loc: Option<Loc>, data: T) -> Expr<T>
+        ensures kind { kind_of result ≡ expr_kind }
+        ensures loc { loc_of result ≡ source_loc }
+        ensures of_node { data_of result ≡ «data» }
+    {
+        Expr {
+            expr_kind,
+            source_loc,
+            data,
+        }
+    }
+
+    /// The kind, with the children.
+    pub fn expr_kind(&self) -> &ExprKind<T>
+        ensures { result.now ≡ kind_of self.now }
+    {
+        &self.expr_kind
+    }
+
+    /// The kind, with the children, of an expression that is given up.
+    pub fn into_expr_kind(self) -> ExprKind<T>
+    where
+        T: Drop,
+        ensures { result ≡ kind_of self }
+    {
+        self.expr_kind
+    }
+
+    // The Boolean that the expression is a literal of.
+    pub(crate) fn as_bool(&self) -> Option<bool>
+        ensures { result ≡ bool_of (bare self.now) }
+    {
+        match &self.expr_kind {
+            ExprKind::Lit(literal) => literal.as_bool(),
+            ExprKind::Unknown(_)
+            | ExprKind::And { .. }
+            | ExprKind::Or { .. }
+            | ExprKind::BinaryApp { .. } => None,
+        }
+    }
+
+    /// The data of the outermost node.
+    pub fn data(&self) -> &T
+        ensures { result.now ≡ data_of self.now }
+    {
+        &self.data
+    }
+
+    /// The data of the outermost node of an expression that is given up.
+    pub fn into_data(self) -> T
+    where
+        T: Drop,
+        ensures { result ≡ data_of self }
+    {
+        self.data
+    }
+
+    /// The kind, the place and the data of the outermost node.
+    pub fn into_parts(self) -> (ExprKind<T>, Option<Loc>, T)
+        ensures kind { result.0 ≡ kind_of self }
+        ensures loc { result.1 ≡ loc_of self }
+        ensures of_node { result.2 ≡ data_of self }
+    {
+        (self.expr_kind, self.source_loc, self.data)
+    }
+
+    /// The place of the outermost node, if it is known.
+    pub fn source_loc(&self) -> Option<&Loc>
+        ensures { option_copied result ≡ loc_of self.now }
+    {
+        self.source_loc.as_ref()
+    }
+
+    /// The expression with this place, or none, on its outermost node; the places inside stay.
+    pub fn with_maybe_source_loc(self, source_loc: Option<Loc>) -> Expr<T>
+        ensures kind { kind_of result ≡ kind_of self }
+        ensures loc { loc_of result ≡ source_loc }
+        ensures of_node { data_of result ≡ data_of self }
+    {
+        Expr::new(self.expr_kind, source_loc, self.data)
+    }
+
+    /// Replaces the data of the outermost node.
+    pub fn set_data(&mut self, data: T)
+    where
+        T: Drop,
+        ensures kind { kind_of self.new ≡ kind_of self.old }
+        ensures loc { loc_of self.new ≡ loc_of self.old }
+        ensures of_node { data_of self.new ≡ «data» }
+    {
+        self.data = data;
+    }
+}
+
+impl<T: Copy> Expr<T> {
+    /// A copy, which shares the children.
+    pub fn clone(&self, alloc: Global) -> Result<Expr<T>, AllocError>
+        ensures tree { IfOk result (λ e. bare e ≡ bare self.now) }
+        ensures loc { IfOk result (λ e. loc_of e ≡ loc_of self.now) }
+        ensures at_each_position { IfOk result (λ e. held e ≡ held self.now) }
+    {
+        Ok(Expr::new(
+            self.expr_kind.clone(alloc)?,
+            clone_loc(alloc, &self.source_loc)?,
+            self.data,
+        ))
+    }
+}
+
+fn clone_loc(alloc: Global, loc: &Option<Loc>) -> Result<Option<Loc>, AllocError>
+    ensures { IfOk result (λ l. l ≡ loc.now) }
+{
+    match loc {
+        None => Ok(None),
+        Some(loc) => Ok(Some(loc.clone(alloc)?)),
+    }
+}
+
+impl<T: Copy> ExprKind<T> {
+    /// A copy, which shares the children.
+    pub fn clone(&self, alloc: Global) -> Result<ExprKind<T>, AllocError>
+        ensures tree { IfOk result (λ k. bare_kind k ≡ bare_kind self.now) }
+        ensures at_each_position { IfOk result (λ k. held_kind k ≡ held_kind self.now) }
+    {
+        match self {
+            ExprKind::Lit(l) => Ok(ExprKind::Lit(l.clone(alloc)?)),
+            ExprKind::Unknown(u) => Ok(ExprKind::Unknown(u.clone(alloc)?)),
+            ExprKind::And { left, right } => Ok(ExprKind::And {
+                left: left.clone()?,
+                right: right.clone()?,
+            }),
+            ExprKind::Or { left, right } => Ok(ExprKind::Or {
+                left: left.clone()?,
+                right: right.clone()?,
+            }),
+            ExprKind::BinaryApp { op, arg1, arg2 } => Ok(ExprKind::BinaryApp {
+                op: *op,
+                arg1: arg1.clone()?,
+                arg2: arg2.clone()?,
+            }),
+        }
+    }
+}

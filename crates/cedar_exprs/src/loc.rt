@@ -1,0 +1,100 @@
+// Places in a source text.
+ghost use Rattle.std.specs.Prelude.{◌≡◌, nat_eq, refl, IfOk};
+ghost use Rattle.std.specs.Rc.{rc_str_bytes};
+ghost use Rattle.std.specs.Ordering.{nat_cmp, on, as_partial_cmp};
+ghost use Rattle.std.specs.Cmp.{partial_equiv_from_equiv};
+ghost use Rattle.cedar_exprs.specs.Place.{Place, place_eq, place_eq_equiv, place_cmp, place_cmp_total, place_ties, place_po, place_fed, place_fed-alike};
+
+use std::alloc::{AllocError, Global};
+use std::cmp::Ordering;
+use std::hash::{Hash, Hasher};
+use std::marker::Model;
+use std::rc::RcStr;
+
+#[derive(Debug, Drop)]
+pub struct Loc {
+    start: usize,
+    stop: usize,
+    src: RcStr,
+}
+
+impl Model for Loc {
+    ghost use Rattle.std.specs.Rc.{rc_str_bytes};
+    ghost use Rattle.cedar_exprs.specs.Place.{Place};
+
+    ghost Value = { Place };
+
+    ghost view = { λ l. record { start = l.start; stop = l.stop; src = rc_str_bytes l.src } };
+}
+
+impl Loc {
+    pub fn new(start: usize, stop: usize, src: RcStr) -> Loc
+        ensures { result ≡ record { start = start; stop = stop; src = rc_str_bytes src } }
+    {
+        Loc { start, stop, src }
+    }
+
+    pub fn clone(&self, _alloc: Global) -> Result<Loc, AllocError>
+        ensures { IfOk result (λ l. l ≡ self.now) }
+    {
+        let src = self.src.clone()?;
+        Ok(Loc {
+            start: self.start,
+            stop: self.stop,
+            src,
+        })
+    }
+}
+
+impl PartialEq for Loc {
+    ghost eq = { place_eq };
+
+    ghost laws = { partial_equiv_from_equiv place_eq_equiv };
+
+    fn eq(&self, other: &Loc) -> bool {
+        self.start == other.start && self.stop == other.stop && self.src == other.src
+    }
+}
+
+impl Eq for Loc {
+    ghost laws = { place_eq_equiv };
+}
+
+impl PartialOrd for Loc {
+    ghost partial_cmp = { as_partial_cmp place_cmp };
+
+    ghost laws = { place_po };
+
+    fn partial_cmp(&self, other: &Loc) -> Option<Ordering> {
+        Some(self.cmp(other))
+    }
+}
+
+impl Ord for Loc {
+    ghost cmp = { place_cmp };
+
+    ghost total = { place_cmp_total };
+
+    ghost matches_partial_cmp = { λ _ _. refl };
+
+    ghost matches_eq = { place_ties };
+
+    fn cmp(&self, other: &Loc) -> Ordering {
+        self.start
+            .cmp(&other.start)
+            .then(self.stop.cmp(&other.stop))
+            .then_with(|| self.src.cmp(&other.src))
+    }
+}
+
+impl Hash for Loc {
+    ghost hash_input = { place_fed };
+
+    ghost respects_eq = { place_fed-alike };
+
+    fn hash<H: Hasher>(&self, state: &mut H) {
+        self.start.hash(state);
+        self.stop.hash(state);
+        self.src.hash(state);
+    }
+}
