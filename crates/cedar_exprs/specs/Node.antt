@@ -1,8 +1,9 @@
 -- The outermost node of an expression, and the node that a builder makes.
 use Rattle.std.specs.Prelude.{◌≡◌, Option, None}
-use Rattle.cedar_exprs.specs.Bare.{Bare}
+use Rattle.cedar_terms.specs.declared.ops.UnaryOp.TheVariants.{Not}
+use Rattle.cedar_exprs.specs.Bare.{Bare, UnaryApp}
 use Rattle.cedar_exprs.specs.View.{bare}
-use Rattle.cedar_exprs.specs.Data.{Data, Datas, holds, held}
+use Rattle.cedar_exprs.specs.Data.{Datas, holds, child, no_data, held}
 use Rattle.cedar_exprs.specs.declared.loc.Loc.{Loc}
 use Rattle.cedar_exprs.specs.declared.expr.Expr.{Expr, out-Expr}
 use Rattle.cedar_exprs.specs.declared.expr.ExprKind.{ExprKind}
@@ -32,6 +33,13 @@ pub record IsMadeBy {T : Type 0} (b : ExprBuilder T) (t : Bare) (ds : Datas T) (
   pub tree : bare e ≡ t
   pub loc : loc_of e ≡ builder_loc b
   pub «data» : held e ≡ holds (builder_data b) ds
+
+-- the negation of a node with this tree and these children's data: the negation has the builder's place and data, the
+-- node below it the builder's place and default data
+pub record IsNegated {T : Type 0} (IsDefault : T → Type 0) (b : ExprBuilder T) (t : Bare) (ds : Datas T) (e : Expr T) : Type 0 where
+  pub inner : T
+  pub is_default : IsDefault inner
+  pub made : IsMadeBy b (UnaryApp Not t) (child (holds inner ds) no_data) e
 
 -- an expression with this tree and no place
 pub record IsPlain (t : Bare) (e : Expr Unit) : Type 0 where

@@ -2,23 +2,25 @@
 ghost use Rattle.std.specs.Prelude.{◌≡◌, None, IfOk};
 ghost use Rattle.std.specs.Option.{option_copied};
 ghost use Rattle.cedar_exprs.specs.Terms.{bare_literal, bare_unknown};
+ghost use Rattle.cedar_exprs.specs.Bare.{Set, Record};
 ghost use Rattle.cedar_exprs.specs.Trees.{tree_ops, bool_of};
-ghost use Rattle.cedar_exprs.specs.View.{bare, bare_kind};
-ghost use Rattle.cedar_exprs.specs.Data.{held, held_kind, no_data, child, of_connective};
+ghost use Rattle.cedar_exprs.specs.View.{bare, bare_kind, bares, fields};
+ghost use Rattle.cedar_exprs.specs.Data.{held_kind, helds, held_values, no_data, one_child, two_children, three_children, of_connective};
 ghost use Rattle.cedar_exprs.specs.Node.{builder_loc, builder_data, IsMadeBy};
 
 use crate::expr::{Expr, ExprKind};
 use crate::literal::Literal;
 use crate::loc::Loc;
-use crate::ops::BinaryOp;
 use crate::unknown::Unknown;
+use cedar_terms::{BinaryOp, UnaryOp, Var};
 use std::alloc::{AllocError, Global};
-use std::rc::Rc;
+use std::collections::BTreeMap;
+use std::rc::{Rc, RcStr};
 
 /// Makes expressions, each with the builder's place and data on its outermost node.
 #[derive(Debug, Drop)]
 pub struct ExprBuilder<T> {
-    source_loc: Option<Loc>,
+    pub(crate) source_loc: Option<Loc>,
     data: T,
 }
 
@@ -88,6 +90,46 @@ impl<T: Default + Copy> ExprBuilder<T> {
         self.with_expr_kind(ExprKind::Unknown(unknown))
     }
 
+    /// A variable of the request.
+    pub fn var(self, var: Var) -> Expr<T>
+        ensures { IsMadeBy self (tree_ops.var_of var) no_data result }
+    {
+        self.with_expr_kind(ExprKind::Var(var))
+    }
+
+    /// The second expression where the first holds, else the third.
+    pub fn ite(
+        self,
+        alloc: Global,
+        test_expr: Expr<T>,
+        then_expr: Expr<T>,
+        else_expr: Expr<T>,
+    ) -> Result<Expr<T>, AllocError>
+        ensures { IfOk result (IsMadeBy self (tree_ops.if_of (bare test_expr) (bare then_expr) (bare else_expr)) (three_children test_expr then_expr else_expr)) }
+    {
+        Ok(self.ite_arc(
+            Rc::new(alloc, test_expr)?,
+            Rc::new(alloc, then_expr)?,
+            Rc::new(alloc, else_expr)?,
+        ))
+    }
+
+    /// The same of expressions that are shared.
+    pub fn ite_arc(
+        self,
+        test_expr: Rc<Expr<T>>,
+        then_expr: Rc<Expr<T>>,
+        else_expr: Rc<Expr<T>>,
+    ) -> Expr<T>
+        ensures { IsMadeBy self (tree_ops.if_of (bare test_expr.value) (bare then_expr.value) (bare else_expr.value)) (three_children test_expr.value then_expr.value else_expr.value) result }
+    {
+        self.with_expr_kind(ExprKind::If {
+            test_expr,
+            then_expr,
+            else_expr,
+        })
+    }
+
     /// The conjunction of two expressions: of two Boolean literals their literal, else the node.
     pub fn and(
         self,
@@ -132,12 +174,41 @@ impl<T: Default + Copy> ExprBuilder<T> {
         arg1: Expr<T>,
         arg2: Expr<T>,
     ) -> Result<Expr<T>, AllocError>
-        ensures { IfOk result (IsMadeBy self (tree_ops.binary_of op (bare arg1) (bare arg2)) (child (held arg1) (child (held arg2) no_data))) }
+        ensures { IfOk result (IsMadeBy self (tree_ops.binary_of op (bare arg1) (bare arg2)) (two_children arg1 arg2)) }
     {
         Ok(self.with_expr_kind(ExprKind::BinaryApp {
             op,
             arg1: Rc::new(alloc, arg1)?,
             arg2: Rc::new(alloc, arg2)?,
         }))
+    }
+
+    /// An operator on one argument.
+    pub fn unary_app(
+        self,
+        alloc: Global,
+        op: UnaryOp,
+        arg: Expr<T>,
+    ) -> Result<Expr<T>, AllocError>
+        ensures { IfOk result (IsMadeBy self (tree_ops.unary_of op (bare arg)) (one_child arg)) }
+    {
+        Ok(self.with_expr_kind(ExprKind::UnaryApp {
+            op,
+            arg: Rc::new(alloc, arg)?,
+        }))
+    }
+
+    /// A set by its members, in this order; repeated ones are kept.
+    pub fn set(self, alloc: Global, members: Vec<Expr<T>>) -> Result<Expr<T>, AllocError>
+        ensures { IfOk result (IsMadeBy self (Set (bares members.items)) (helds members.items)) }
+    {
+        Ok(self.with_expr_kind(ExprKind::Set(Rc::new(alloc, members)?)))
+    }
+
+    /// A record of a shared map.
+    pub fn record_arc(self, values: Rc<BTreeMap<RcStr, Expr<T>>>) -> Expr<T>
+        ensures { IsMadeBy self (Record (fields values.value.entries)) (held_values values.value.entries) result }
+    {
+        self.with_expr_kind(ExprKind::Record(values))
     }
 }

@@ -8,10 +8,11 @@ ghost use Rattle.cedar_exprs.specs.Node.{kind_of, loc_of, data_of};
 
 use crate::literal::Literal;
 use crate::loc::Loc;
-use crate::ops::BinaryOp;
 use crate::unknown::Unknown;
+use cedar_terms::{BinaryOp, UnaryOp, Var};
 use std::alloc::{AllocError, Global};
-use std::rc::Rc;
+use std::collections::BTreeMap;
+use std::rc::{Rc, RcStr};
 
 /// The kinds of expressions. Match on it to walk over a tree.
 #[cycle(expr)]
@@ -19,8 +20,16 @@ use std::rc::Rc;
 pub enum ExprKind<T = ()> {
     /// A literal.
     Lit(Literal),
+    /// A variable of the request.
+    Var(Var),
     /// A value that is not known yet.
     Unknown(Unknown),
+    /// The second where the first holds, else the third.
+    If {
+        test_expr: Rc<Expr<T>>,
+        then_expr: Rc<Expr<T>>,
+        else_expr: Rc<Expr<T>>,
+    },
     /// Both sides hold; the right one counts only where the left one holds.
     And {
         left: Rc<Expr<T>>,
@@ -31,12 +40,21 @@ pub enum ExprKind<T = ()> {
         left: Rc<Expr<T>>,
         right: Rc<Expr<T>>,
     },
+    /// An operator on one argument.
+    UnaryApp {
+        op: UnaryOp,
+        arg: Rc<Expr<T>>,
+    },
     /// An operator on two arguments.
     BinaryApp {
         op: BinaryOp,
         arg1: Rc<Expr<T>>,
         arg2: Rc<Expr<T>>,
     },
+    /// A set by its members, in the order in which they were written.
+    Set(Rc<Vec<Expr<T>>>),
+    /// A record by its keys and values.
+    Record(Rc<BTreeMap<RcStr, Expr<T>>>),
 }
 
 /// An expression: its kind, the place where it was written, if known, and data of the caller's type on each node.
@@ -87,10 +105,15 @@ impl<T> Expr<T> {
     {
         match &self.expr_kind {
             ExprKind::Lit(literal) => literal.as_bool(),
-            ExprKind::Unknown(_)
+            ExprKind::Var(_)
+            | ExprKind::Unknown(_)
+            | ExprKind::If { .. }
             | ExprKind::And { .. }
             | ExprKind::Or { .. }
-            | ExprKind::BinaryApp { .. } => None,
+            | ExprKind::UnaryApp { .. }
+            | ExprKind::BinaryApp { .. }
+            | ExprKind::Set(_)
+            | ExprKind::Record(_) => None,
         }
     }
 
@@ -162,7 +185,7 @@ impl<T: Copy> Expr<T> {
     }
 }
 
-fn clone_loc(alloc: Global, loc: &Option<Loc>) -> Result<Option<Loc>, AllocError>
+pub(crate) fn clone_loc(alloc: Global, loc: &Option<Loc>) -> Result<Option<Loc>, AllocError>
     ensures { IfOk result (λ l. l ≡ loc.now) }
 {
     match loc {
@@ -179,7 +202,17 @@ impl<T: Copy> ExprKind<T> {
     {
         match self {
             ExprKind::Lit(l) => Ok(ExprKind::Lit(l.clone(alloc)?)),
+            ExprKind::Var(v) => Ok(ExprKind::Var(*v)),
             ExprKind::Unknown(u) => Ok(ExprKind::Unknown(u.clone(alloc)?)),
+            ExprKind::If {
+                test_expr,
+                then_expr,
+                else_expr,
+            } => Ok(ExprKind::If {
+                test_expr: test_expr.clone()?,
+                then_expr: then_expr.clone()?,
+                else_expr: else_expr.clone()?,
+            }),
             ExprKind::And { left, right } => Ok(ExprKind::And {
                 left: left.clone()?,
                 right: right.clone()?,
@@ -188,11 +221,17 @@ impl<T: Copy> ExprKind<T> {
                 left: left.clone()?,
                 right: right.clone()?,
             }),
+            ExprKind::UnaryApp { op, arg } => Ok(ExprKind::UnaryApp {
+                op: *op,
+                arg: arg.clone()?,
+            }),
             ExprKind::BinaryApp { op, arg1, arg2 } => Ok(ExprKind::BinaryApp {
                 op: *op,
                 arg1: arg1.clone()?,
                 arg2: arg2.clone()?,
             }),
+            ExprKind::Set(members) => Ok(ExprKind::Set(members.clone()?)),
+            ExprKind::Record(values) => Ok(ExprKind::Record(values.clone()?)),
         }
     }
 }

@@ -6,7 +6,7 @@ mod constructors;
 pub mod expr;
 pub mod literal;
 pub mod loc;
-pub mod ops;
+mod operators;
 pub mod substitution;
 pub mod unknown;
 
@@ -14,5 +14,4 @@ pub use builder::ExprBuilder;
 pub use expr::{Expr, ExprKind};
 pub use literal::Literal;
 pub use loc::Loc;
-pub use ops::BinaryOp;
 pub use unknown::Unknown;

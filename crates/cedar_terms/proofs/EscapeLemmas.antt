@@ -1,0 +1,85 @@
+-- Why the writer's text is the UTF-8 of the escape.
+use Rattle.std.proofs.Common.{◌≡◌, ◌≢◌, ℕ, ◌<◌, ◌≤◌, ◌/◌, ◌%◌, ◌||◌, List, [], ◌∷◌, ◌++◌, map, Bool, true, false, ◌&&◌, refl, sym, ◌∙◌, ap, arith, nat_lt}
+use Rattle.std.specs.Bool.{◌==◌}
+use Rattle.std.specs.Char.{is_ascii, is_ascii_control}
+use Rattle.std.specs.Fmt.{digits, digit_glyph}
+use Rattle.std.specs.List.{list_all, flat_map}
+use Rattle.std.specs.Prelude.{codes}
+use Rattle.std.specs.Str.{encode_utf8_all}
+use Rattle.std.proofs.lemmas.Bool.{false≢true}
+use Rattle.std.proofs.lemmas.Bool.Decides.{nat_tests}
+use Rattle.std.proofs.lemmas.Fmt.{hex_one_digit, hex_two_digits}
+use Rattle.std.proofs.lemmas.Grind.{flat_map-append}
+use Rattle.std.proofs.lemmas.Str.{encode_ascii, encodes-append}
+use mathlib.Core.List.{append-nil}
+use Rattle.cedar_terms.specs.Escape.{escape_char, escape, hexadecimal}
+
+pub and-left : (a b : Bool) → (a && b) ≡ true → a ≡ true
+and-left true b h = refl
+and-left false b h = absurd (false≢true h)
+
+pub and-right : (a b : Bool) → (a && b) ≡ true → b ≡ true
+and-right true b h = h
+and-right false b h = absurd (false≢true h)
+
+pub and-both : (a b : Bool) → a ≡ true → b ≡ true → (a && b) ≡ true
+and-both a b h k = rw (h, k) refl
+
+below_128 : (c : ℕ) → is_ascii c ≡ true → c < 128
+below_128 c h = grind (arith, nat_tests)
+
+-- ASCII is its own UTF-8
+pub encode_all_ascii : (cs : List ℕ) → list_all is_ascii cs ≡ true → encode_utf8_all cs ≡ cs
+encode_all_ascii [] h = refl
+encode_all_ascii (c ∷ cs) h =
+    ap (λ x. x ++ encode_utf8_all cs) (encode_ascii c (below_128 c (and-left (is_ascii c) (list_all is_ascii cs) h)))
+    ∙ ap (λ x. c ∷ x) (encode_all_ascii cs (and-right (is_ascii c) (list_all is_ascii cs) h))
+
+pub all_ascii-append : (xs ys : List ℕ) → list_all is_ascii xs ≡ true → list_all is_ascii ys ≡ true → list_all is_ascii (xs ++ ys) ≡ true
+all_ascii-append [] ys h k = k
+all_ascii-append (x ∷ xs) ys h k =
+    and-both (is_ascii x) (list_all is_ascii (xs ++ ys)) (and-left (is_ascii x) (list_all is_ascii xs) h) (all_ascii-append xs ys (and-right (is_ascii x) (list_all is_ascii xs) h) k)
+
+glyph_ascii : (d : ℕ) → d < 16 → is_ascii (digit_glyph false d) ≡ true
+glyph_ascii d h = grind (arith, nat_tests)
+
+one_glyph : (d : ℕ) → d < 16 → list_all is_ascii (digit_glyph false d ∷ []) ≡ true
+one_glyph d h = and-both (is_ascii (digit_glyph false d)) true (glyph_ascii d h) refl
+
+two_glyphs : (d e : ℕ) → d < 16 → e < 16 → list_all is_ascii (digit_glyph false d ∷ digit_glyph false e ∷ []) ≡ true
+two_glyphs d e h k = and-both (is_ascii (digit_glyph false d)) (list_all is_ascii (digit_glyph false e ∷ [])) (glyph_ascii d h) (one_glyph e k)
+
+hexadecimal_small : (c : ℕ) → c < 16 → list_all is_ascii (hexadecimal c) ≡ true
+hexadecimal_small c h = ap (list_all is_ascii) (hex_one_digit false c h) ∙ one_glyph c h
+
+hexadecimal_large : (c : ℕ) → 16 ≤ c → c < 256 → list_all is_ascii (hexadecimal c) ≡ true
+hexadecimal_large c h k = ap (list_all is_ascii) (hex_two_digits false c h k) ∙ two_glyphs (c / 16) (c % 16) (omega arith) (omega arith)
+
+pub hexadecimal_ascii : (c : ℕ) → c < 256 → list_all is_ascii (hexadecimal c) ≡ true
+hexadecimal_ascii c h = elim (nat_lt c 16) as (λ v. nat_lt c 16 ≡ v → list_all is_ascii (hexadecimal c) ≡ true) [
+  | true ↦ λ e. hexadecimal_small c (grind (arith, nat_tests))
+  | false ↦ λ e. hexadecimal_large c (grind (arith, nat_tests)) h
+] refl
+
+-- a control without a letter of its own
+pub escape_control : (c : ℕ) → is_ascii_control c ≡ true → c ≢ 0 → c ≢ 9 → c ≢ 10 → c ≢ 13 → escape_char c ≡ codes "\\u{" ++ (hexadecimal c ++ codes "}")
+escape_control c h h0 h9 h10 h13 = grind (arith, nat_tests)
+
+pub control_is_small : (c : ℕ) → is_ascii_control c ≡ true → c < 256
+control_is_small c h = grind (arith, nat_tests)
+
+pub encode_control : (c : ℕ) → is_ascii_control c ≡ true → c ≢ 0 → c ≢ 9 → c ≢ 10 → c ≢ 13 → encode_utf8_all (escape_char c) ≡ codes "\\u{" ++ (hexadecimal c ++ codes "}")
+encode_control c h h0 h9 h10 h13 =
+    ap encode_utf8_all (escape_control c h h0 h9 h10 h13)
+    ∙ encode_all_ascii (codes "\\u{" ++ (hexadecimal c ++ codes "}"))
+    (all_ascii-append (codes "\\u{") (hexadecimal c ++ codes "}") refl (all_ascii-append (hexadecimal c) (codes "}") (hexadecimal_ascii c (control_is_small c h)) refl))
+
+pub escape-push : (xs : List ℕ) (c : ℕ) → encode_utf8_all (escape xs) ++ encode_utf8_all (escape_char c) ≡ encode_utf8_all (escape (xs ++ (c ∷ [])))
+escape-push xs c =
+    sym (encodes-append (escape xs) (escape_char c))
+    ∙ ap (λ x. encode_utf8_all (escape xs ++ x)) (sym (append-nil (escape_char c)))
+    ∙ ap encode_utf8_all (sym (flat_map-append escape_char xs (c ∷ [])))
+
+pub map-same : {A : Type 0} (xs : List A) → map (λ x. x) xs ≡ xs
+map-same [] = refl
+map-same (x ∷ xs) = ap (λ y. x ∷ y) (map-same xs)

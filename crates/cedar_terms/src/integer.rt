@@ -1,0 +1,7 @@
+//! The integers of Cedar (the crate's `integer.rs`).
+
+/// An integer value: 64 bits with a sign.
+pub type Integer = i64;
+
+/// An integer as it stands in a source: the same.
+pub type InputInteger = i64;
