@@ -1,0 +1,39 @@
+-- Lists and maps of expressions that are rebuilt in order.
+use Rattle.std.proofs.Common.{◌≡◌, ℕ, List, [], ◌∷◌, ◌++◌, map, refl, ap, ◌∙◌, ◌≤◌, length, take, Global, Greater, nat_cmp}
+use Rattle.std.specs.Cmp.Lexicographic.{slice_cmp}
+use Rattle.std.specs.List.Sorted.{IsStrictlySortedBy}
+use Rattle.std.specs.Map.{keys_of}
+use Rattle.std.specs.BTreeMap.{insert_entry}
+use Rattle.std.specs.Rc.{rc_str_bytes}
+use Rattle.std.specs.declared.rc.RcStr.{RcStr}
+use Rattle.std.proofs.lemmas.List.{take_all}
+use Rattle.cedar_exprs.specs.Bare.{trees_of}
+use Rattle.cedar_exprs.specs.Fold.{Env}
+use Rattle.cedar_exprs.specs.Trees.{substituted, all_substituted, fields_substituted}
+use Rattle.cedar_exprs.specs.View.{bare, bares, fields}
+use Rattle.cedar_exprs.proofs.Records.{Entry, text_cmp, above_first}
+use Rattle.cedar_exprs.specs.declared.expr.Expr.{Expr}
+
+all_substituted-bares : {T : Type 0} (env : Env) (es : List (Expr T)) → trees_of (map (λ e. substituted env (bare e)) es) ≡ all_substituted env (bares es)
+all_substituted-bares env [] = refl
+all_substituted-bares env (e ∷ es) = rw (all_substituted-bares env es)
+
+-- what a loop has made once it has gone over the whole list
+pub all_made : {T : Type 0} (env : Env) (made es seen : List (Expr T)) (n : ℕ) → map bare made ≡ map (λ e. substituted env (bare e)) (take n seen) → length seen ≤ n → seen ≡ es → bares made ≡ all_substituted env (bares es)
+all_made env made es seen n made_is over same =
+    ap trees_of (made_is ∙ ap (map (λ e. substituted env (bare e))) (take_all n seen over ∙ same)) ∙ all_substituted-bares env es
+
+-- one more pair of a map that is rebuilt in the order of its keys
+pub next_field : {T : Type 0} (env : Env) (made done : List (Entry T)) (e : Entry T) (more : List (Entry T)) (k : RcStr Global) (v : Expr T)
+    → fields made ≡ fields_substituted env (fields done) → IsStrictlySortedBy text_cmp (keys_of (done ++ e ∷ more)) → rc_str_bytes k ≡ rc_str_bytes e.0 → bare v ≡ substituted env (bare e.1)
+    → fields (insert_entry text_cmp made k v) ≡ fields_substituted env (fields (done ++ e ∷ []))
+unfolding IsStrictlySortedBy
+next_field env [] [] e more k v so_far sorted key value = rw (key, value) refl
+next_field env [] (d ∷ done) e more k v so_far sorted key value = cc
+next_field env (m ∷ made) [] e more k v so_far sorted key value = cc
+next_field env (m ∷ made) (d ∷ done) e more k v so_far sorted key value =
+    let same_key : rc_str_bytes m.0 ≡ rc_str_bytes d.0 = cc in
+    let same_value : bare m.1 ≡ substituted env (bare d.1) = cc in
+    let rest = next_field env made done e more k v (cc) sorted.1 key value in
+    let above : slice_cmp nat_cmp (rc_str_bytes k) (rc_str_bytes m.0) ≡ Greater = rw (key, same_key) (above_first d done e more sorted.0) in
+    rw above (rw (same_key, same_value, rest) refl)

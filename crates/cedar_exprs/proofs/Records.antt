@@ -1,0 +1,40 @@
+-- The bare fields of a map, and of a record.
+use Rattle.std.proofs.Common.{◌≡◌, List, [], ◌∷◌, ◌++◌, map, Ordering, Less, Equal, Greater, nat_cmp, Global, refl, ap, ◌∙◌, BTreeMap, rules}
+use Rattle.std.proofs.lemmas.Cmp.{nat_list_cmp_total}
+use Rattle.std.specs.Cmp.Lexicographic.{slice_cmp}
+use Rattle.std.specs.List.{AllByRecursion}
+use Rattle.std.specs.Map.{keys_of}
+use Rattle.std.specs.Ordering.{ordering_reverse}
+use Rattle.std.specs.Rc.{rc_str_bytes}
+use Rattle.std.specs.declared.rc.Rc.{Rc}
+use Rattle.std.specs.declared.rc.RcStr.{RcStr}
+use Rattle.cedar_exprs.specs.Bare.{Bare, Record}
+use Rattle.cedar_exprs.specs.View.{bare, bare_kind, bare_step, node_step, fields}
+use Rattle.cedar_exprs.specs.Node.{kind_of}
+use Rattle.cedar_exprs.specs.declared.expr.Expr.{Expr, fold_out-Expr}
+use Rattle.cedar_exprs.specs.declared.expr.ExprKind.{Record as RecordOf, the_lemmas}
+
+-- an entry of the map of a record
+abbrev pub Entry : Type 0 → Type 0
+Entry T = RcStr Global × Expr T
+
+abbrev pub text_cmp : RcStr Global → RcStr Global → Ordering
+text_cmp a b = slice_cmp nat_cmp (rc_str_bytes a) (rc_str_bytes b)
+
+bare_record : {T : Type 0} (m : Rc (BTreeMap (RcStr Global) (Expr T)) Global) → bare_kind (RecordOf m) ≡ Record (fields m.value.entries)
+bare_record m = search (rules, the_lemmas)
+
+pub bare_kind_of : {T : Type 0} (e : Expr T) → bare e ≡ bare_kind (kind_of e)
+bare_kind_of {T} e = fold_out-Expr T Bare Bare bare_step node_step e
+
+-- the bare tree of an expression that is known to be a record
+pub bare_at_record : {T : Type 0} (e : Expr T) (m : Rc (BTreeMap (RcStr Global) (Expr T)) Global) → kind_of e ≡ RecordOf m → bare e ≡ Record (fields m.value.entries)
+bare_at_record e m is = bare_kind_of e ∙ ap bare_kind is ∙ bare_record m
+
+below_later : {T : Type 0} (first : Entry T) (es : List (Entry T)) (e : Entry T) (more : List (Entry T)) → AllByRecursion (λ y. text_cmp first.0 y ≡ Less) (keys_of (es ++ e ∷ more)) → text_cmp first.0 e.0 ≡ Less
+below_later first [] e more h = h.0
+below_later first (x ∷ es) e more h = below_later first es e more h.1
+
+-- a key is above each key that stands before it
+pub above_first : {T : Type 0} (first : Entry T) (es : List (Entry T)) (e : Entry T) (more : List (Entry T)) → AllByRecursion (λ y. text_cmp first.0 y ≡ Less) (keys_of (es ++ e ∷ more)) → text_cmp e.0 first.0 ≡ Greater
+above_first first es e more h = nat_list_cmp_total.antisymm (rc_str_bytes e.0) (rc_str_bytes first.0) ∙ ap ordering_reverse (below_later first es e more h)
