@@ -1,3 +1,4 @@
 pub mod Records
 pub mod Rebuilt
+pub mod DistinctKeys
 pub mod TreeOps

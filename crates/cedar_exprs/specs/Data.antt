@@ -32,7 +32,7 @@ abbrev pub datas_of : {T : Type 0} → List (Data T) → Datas T
 datas_of [] = no_data
 datas_of (d ∷ ds) = child d (datas_of ds)
 
-abbrev pub values_of : {T : Type 0} → List (RcStr Global × Data T) → Datas T
+abbrev pub values_of : {K T : Type 0} → List (K × Data T) → Datas T
 values_of [] = no_data
 values_of (e ∷ es) = child e.1 (values_of es)
 

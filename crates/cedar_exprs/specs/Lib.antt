@@ -1,4 +1,3 @@
-pub mod Place
 pub mod Terms
 pub mod Bare
 pub mod Ops
@@ -7,4 +6,6 @@ pub mod Trees
 pub mod View
 pub mod Data
 pub mod Node
+pub mod Keys
+pub mod Errors
 pub mod Environment

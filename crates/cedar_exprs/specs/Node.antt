@@ -4,7 +4,7 @@ use Rattle.cedar_terms.specs.declared.ops.UnaryOp.TheVariants.{Not}
 use Rattle.cedar_exprs.specs.Bare.{Bare, UnaryApp}
 use Rattle.cedar_exprs.specs.View.{bare}
 use Rattle.cedar_exprs.specs.Data.{Datas, holds, child, no_data, held}
-use Rattle.cedar_exprs.specs.declared.loc.Loc.{Loc}
+use Rattle.cedar_names.specs.Place.{Place}
 use Rattle.cedar_exprs.specs.declared.expr.Expr.{Expr, out-Expr}
 use Rattle.cedar_exprs.specs.declared.expr.ExprKind.{ExprKind}
 use Rattle.cedar_exprs.specs.declared.builder.ExprBuilder.{ExprBuilder}
@@ -13,7 +13,7 @@ abbrev pub kind_of : {T : Type 0} → Expr T → ExprKind T
 kind_of e = e.expr_kind
 
 -- the place of the outermost node
-abbrev pub loc_of : {T : Type 0} → Expr T → Option Loc
+abbrev pub loc_of : {T : Type 0} → Expr T → Option Place
 loc_of e = e.source_loc
 
 -- the data of the outermost node
@@ -21,7 +21,7 @@ abbrev pub data_of : {T : Type 0} → Expr T → T
 data_of e = e.«data»
 
 -- the place that a builder gives to what it makes
-abbrev pub builder_loc : {T : Type 0} → ExprBuilder T → Option Loc
+abbrev pub builder_loc : {T : Type 0} → ExprBuilder T → Option Place
 builder_loc b = b.source_loc
 
 -- the data that a builder gives to what it makes

@@ -1,16 +1,20 @@
 // The builder of expressions.
-ghost use Rattle.std.specs.Prelude.{◌≡◌, None, IfOk};
+ghost use Rattle.std.specs.Prelude.{◌≡◌, None, IfOk, IfErr, OnOk, IsTrue};
 ghost use Rattle.std.specs.Option.{option_copied};
 ghost use Rattle.cedar_exprs.specs.Terms.{bare_literal, bare_unknown};
 ghost use Rattle.cedar_exprs.specs.Bare.{Set, Record};
 ghost use Rattle.cedar_exprs.specs.Trees.{tree_ops, bool_of};
 ghost use Rattle.cedar_exprs.specs.View.{bare, bare_kind, bares, fields};
 ghost use Rattle.cedar_exprs.specs.Data.{held_kind, helds, held_values, no_data, one_child, two_children, three_children, of_connective};
+ghost use Rattle.cedar_exprs.specs.Keys.{keyed, keys_of, are_distinct, record_fields, record_datas};
+ghost use Rattle.cedar_exprs.specs.Errors.{OnKeys};
 ghost use Rattle.cedar_exprs.specs.Node.{builder_loc, builder_data, IsMadeBy};
 
 use crate::expr::{Expr, ExprKind};
+use crate::expression_construction_errors::ExpressionConstructionError;
+use crate::keys::distinct_keys;
 use crate::literal::Literal;
-use crate::loc::Loc;
+use cedar_names::Loc;
 use crate::unknown::Unknown;
 use cedar_terms::{BinaryOp, UnaryOp, Var};
 use std::alloc::{AllocError, Global};
@@ -210,5 +214,23 @@ impl<T: Default + Copy> ExprBuilder<T> {
         ensures { IsMadeBy self (Record (fields values.value.entries)) (held_values values.value.entries) result }
     {
         self.with_expr_kind(ExprKind::Record(values))
+    }
+
+    /// A record by its pairs, which may come in any order.
+    ///
+    /// The first pair whose key stood before it is refused as a duplicate key.
+    pub fn record(
+        self,
+        alloc: Global,
+        pairs: Vec<(RcStr, Expr<T>)>,
+    ) -> Result<Expr<T>, ExpressionConstructionError>
+    where
+        T: Drop,
+        ensures made { IfOk result (IsMadeBy self (Record (record_fields pairs.items)) (record_datas pairs.items)) }
+        ensures distinct { OnOk result (IsTrue (are_distinct (keys_of (keyed pairs.items)))) }
+        ensures refused { IfErr result (OnKeys (keys_of (keyed pairs.items))) }
+    {
+        let values = distinct_keys(alloc, pairs)?;
+        Ok(self.record_arc(Rc::new(alloc, values)?))
     }
 }

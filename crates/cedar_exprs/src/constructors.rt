@@ -1,13 +1,16 @@
 // The constructors of expressions without data: what the builder without a place makes.
-ghost use Rattle.std.specs.Prelude.{◌≡◌, IfOk};
+ghost use Rattle.std.specs.Prelude.{◌≡◌, IfOk, IfErr, OnOk, IsTrue};
 ghost use Rattle.cedar_exprs.specs.Terms.{bare_literal, bare_unknown};
 ghost use Rattle.cedar_exprs.specs.Bare.{Set, Record};
 ghost use Rattle.cedar_exprs.specs.Trees.{tree_ops};
 ghost use Rattle.cedar_exprs.specs.View.{bare, bares, fields};
+ghost use Rattle.cedar_exprs.specs.Keys.{keyed, keys_of, are_distinct, record_fields};
+ghost use Rattle.cedar_exprs.specs.Errors.{OnKeys};
 ghost use Rattle.cedar_exprs.specs.Node.{IsPlain};
 
 use crate::builder::ExprBuilder;
 use crate::expr::Expr;
+use crate::expression_construction_errors::ExpressionConstructionError;
 use crate::literal::Literal;
 use crate::unknown::Unknown;
 use cedar_terms::{BinaryOp, UnaryOp, Var};
@@ -98,6 +101,20 @@ impl Expr<()> {
         ensures { IfOk result (IsPlain (Set (bares members.items))) }
     {
         ExprBuilder::new().set(alloc, members)
+    }
+
+    /// A record by its pairs, which may come in any order.
+    ///
+    /// The first pair whose key stood before it is refused as a duplicate key.
+    pub fn record(
+        alloc: Global,
+        pairs: Vec<(RcStr, Expr<()>)>,
+    ) -> Result<Expr<()>, ExpressionConstructionError>
+        ensures made { IfOk result (IsPlain (Record (record_fields pairs.items))) }
+        ensures distinct { OnOk result (IsTrue (are_distinct (keys_of (keyed pairs.items)))) }
+        ensures refused { IfErr result (OnKeys (keys_of (keyed pairs.items))) }
+    {
+        ExprBuilder::new().record(alloc, pairs)
     }
 
     /// A record of a shared map.

@@ -7,7 +7,7 @@ ghost use Rattle.cedar_exprs.specs.Data.{held, held_kind};
 ghost use Rattle.cedar_exprs.specs.Node.{kind_of, loc_of, data_of};
 
 use crate::literal::Literal;
-use crate::loc::Loc;
+use cedar_names::Loc;
 use crate::unknown::Unknown;
 use cedar_terms::{BinaryOp, UnaryOp, Var};
 use std::alloc::{AllocError, Global};
@@ -185,6 +185,7 @@ impl<T: Copy> Expr<T> {
     }
 }
 
+// A copy of a place, if there is one.
 pub(crate) fn clone_loc(alloc: Global, loc: &Option<Loc>) -> Result<Option<Loc>, AllocError>
     ensures { IfOk result (λ l. l ≡ loc.now) }
 {

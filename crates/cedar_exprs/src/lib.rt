@@ -4,14 +4,15 @@
 pub mod builder;
 mod constructors;
 pub mod expr;
+pub mod expression_construction_errors;
+mod keys;
 pub mod literal;
-pub mod loc;
 mod operators;
 pub mod substitution;
 pub mod unknown;
 
 pub use builder::ExprBuilder;
 pub use expr::{Expr, ExprKind};
+pub use expression_construction_errors::{DuplicateKeyError, ExpressionConstructionError};
 pub use literal::Literal;
-pub use loc::Loc;
 pub use unknown::Unknown;

@@ -3,7 +3,7 @@ ghost use Rattle.std.specs.Prelude.{◌≡◌, nat_eq, refl, IfOk};
 ghost use Rattle.std.specs.Rc.{rc_str_bytes};
 ghost use Rattle.std.specs.Ordering.{nat_cmp, on, as_partial_cmp};
 ghost use Rattle.std.specs.Cmp.{partial_equiv_from_equiv};
-ghost use Rattle.cedar_exprs.specs.Place.{Place, place_eq, place_eq_equiv, place_cmp, place_cmp_total, place_ties, place_po, place_fed, place_fed-alike};
+ghost use Rattle.cedar_names.specs.Place.{Place, place_eq, place_eq_equiv, place_cmp, place_cmp_total, place_ties, place_po, place_fed, place_fed-alike};
 
 use std::alloc::{AllocError, Global};
 use std::cmp::Ordering;
@@ -11,16 +11,19 @@ use std::hash::{Hash, Hasher};
 use std::marker::Model;
 use std::rc::RcStr;
 
+/// A place: the bytes `start..stop` of the text `src` (Cedar's file `parser/loc.rs`).
+///
+/// Places compare by `start`, then `stop`, then `src`. Nothing that holds a place compares it.
 #[derive(Debug, Drop)]
 pub struct Loc {
-    start: usize,
-    stop: usize,
-    src: RcStr,
+    pub start: usize,
+    pub stop: usize,
+    pub src: RcStr,
 }
 
 impl Model for Loc {
     ghost use Rattle.std.specs.Rc.{rc_str_bytes};
-    ghost use Rattle.cedar_exprs.specs.Place.{Place};
+    ghost use Rattle.cedar_names.specs.Place.{Place};
 
     ghost Value = { Place };
 
@@ -28,12 +31,14 @@ impl Model for Loc {
 }
 
 impl Loc {
+    /// The place `start..stop` of `src`, both in bytes.
     pub fn new(start: usize, stop: usize, src: RcStr) -> Loc
         ensures { result ≡ record { start = start; stop = stop; src = rc_str_bytes src } }
     {
         Loc { start, stop, src }
     }
 
+    /// A copy.
     pub fn clone(&self, _alloc: Global) -> Result<Loc, AllocError>
         ensures { IfOk result (λ l. l ≡ self.now) }
     {
@@ -43,6 +48,16 @@ impl Loc {
             stop: self.stop,
             src,
         })
+    }
+}
+
+// A copy of the place, if there is one.
+pub(crate) fn clone_loc(alloc: Global, loc: &Option<Loc>) -> Result<Option<Loc>, AllocError>
+    ensures { IfOk result (λ l. l ≡ loc.now) }
+{
+    match loc {
+        None => Ok(None),
+        Some(loc) => Ok(Some(loc.clone(alloc)?)),
     }
 }
 

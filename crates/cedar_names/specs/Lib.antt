@@ -1,0 +1,10 @@
+pub mod Grammar
+pub mod Names
+pub mod NameOrder
+pub mod Place
+pub mod Texts
+pub mod Bare
+pub mod Readers
+pub mod PlainNames
+pub mod Slots
+pub mod NonEmpty

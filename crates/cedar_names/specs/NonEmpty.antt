@@ -1,0 +1,14 @@
+-- Lists of one item or more.
+use Rattle.std.specs.Prelude.{List, ◌∷◌, ◌++◌, option_to_list}
+use Rattle.std.specs.Option.{option_copied}
+use Rattle.std.specs.Slice.Iter.{iter_rest}
+use Rattle.cedar_names.specs.declared.non_empty.NonEmpty.{NonEmpty}
+use Rattle.cedar_names.specs.declared.non_empty.NonEmptyIter.{NonEmptyIter}
+
+-- all its items
+abbrev pub list_of : {T : Type 0} → NonEmpty T → List T
+list_of x = x.head ∷ x.tail.items
+
+-- the items that the iterator has left
+abbrev pub rest_of : {T : Type 0} → NonEmptyIter T → List T
+rest_of it = option_to_list (option_copied it.head) ++ iter_rest it.tail

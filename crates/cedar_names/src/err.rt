@@ -1,0 +1,74 @@
+// Errors of the readers.
+ghost use Rattle.std.specs.Prelude.{◌≡◌, IfOk};
+ghost use Rattle.cedar_names.specs.declared.err.ParseErrors.TheVariants.{Memory, Reserved};
+
+use crate::name::InternalName;
+use std::alloc::{AllocError, AllocFailed, Global};
+use thiserror::Error;
+
+/// A name has the component `__cedar` where that is not allowed (Cedar's file `name.rs`, after RFC 52).
+#[derive(Debug, PartialEq, Eq, Hash, Drop, Error)]
+#[error("The name `{name}` contains `__cedar`, which is reserved")]
+pub struct ReservedNameError {
+    pub(crate) name: InternalName,
+}
+
+impl ReservedNameError {
+    ghost use Rattle.cedar_names.specs.Bare.{bare, place_of};
+    ghost use Rattle.cedar_names.specs.Readers.{refused_name, refused_place};
+
+    /// The name that was refused.
+    pub fn name(&self) -> &InternalName
+        ensures name { bare result.now ≡ refused_name self.now }
+        ensures place { place_of result.now ≡ refused_place self.now }
+    {
+        &self.name
+    }
+
+    /// A copy.
+    pub fn clone(&self, alloc: Global) -> Result<ReservedNameError, AllocError>
+        ensures name { IfOk result (λ e. refused_name e ≡ refused_name self.now) }
+        ensures place { IfOk result (λ e. refused_place e ≡ refused_place self.now) }
+    {
+        let name = self.name.clone(alloc)?;
+        Ok(ReservedNameError { name })
+    }
+}
+
+/// Why a text was refused (Cedar's file `parser/err.rs`, without its reports).
+#[derive(Debug, Drop, Error)]
+pub enum ParseErrors {
+    /// The text is outside the grammar of what was asked for, which `kind` names.
+    #[error("not a normalized {kind}")]
+    NotNormalized { kind: &'static str },
+    /// The text is inside the grammar, and has the component `__cedar`.
+    #[error(transparent)]
+    Reserved(ReservedNameError),
+    /// Memory was refused.
+    #[error("no memory")]
+    Memory,
+}
+
+impl From<ReservedNameError> for ParseErrors {
+    ghost from_gives = { λ r e. e ≡ Reserved r };
+
+    fn from(e: ReservedNameError) -> ParseErrors {
+        ParseErrors::Reserved(e)
+    }
+}
+
+impl From<AllocError> for ParseErrors {
+    ghost from_gives = { λ _ e. e ≡ Memory };
+
+    fn from(_: AllocError) -> ParseErrors {
+        ParseErrors::Memory
+    }
+}
+
+impl<T: Drop> From<AllocFailed<T>> for ParseErrors {
+    ghost from_gives = { λ _ e. e ≡ Memory };
+
+    fn from(_: AllocFailed<T>) -> ParseErrors {
+        ParseErrors::Memory
+    }
+}

@@ -1,0 +1,32 @@
+// Reading of texts in their normalized form.
+ghost use Rattle.std.specs.Prelude.{◌≡◌, ℕ, List, IfOk, IfErr};
+ghost use Rattle.cedar_names.specs.Names.{BareName};
+ghost use Rattle.cedar_names.specs.Readers.{OnReadError};
+
+use crate::err::ParseErrors;
+use std::alloc::Global;
+
+/// What can be read from a text in its normalized form: with no spaces and no comments
+/// (Cedar's file `from_normalized_str.rs`).
+///
+/// An implementation says in its ghost members what it reads: `reads` what a value read from a
+/// text is, `outside` where a text is outside the grammar, `forbids` which names of the grammar
+/// are refused, and `kind` the word for what was asked.
+pub trait FromNormalizedStr: Sized {
+    ghost kind: { List ℕ };
+
+    ghost outside: { List ℕ → Type 0 };
+
+    ghost forbids: { List ℕ → BareName → Type 0 };
+
+    ghost reads: { List ℕ → Self → Type 0 };
+
+    /// The word for this type in `ParseErrors::NotNormalized`, as `internal name`.
+    fn describe_self() -> &'static str
+        ensures { result.now ≡ kind };
+
+    /// The value with this text.
+    fn from_normalized_str(alloc: Global, s: &str) -> Result<Self, ParseErrors>
+        ensures ok { IfOk result (λ x. reads s.now x) }
+        ensures refused { IfErr result (λ e. OnReadError e kind (outside s.now) (forbids s.now)) };
+}

@@ -1,0 +1,24 @@
+// Identifiers and names, by their texts.
+#![tactic(auto)]
+
+mod err;
+mod from_normalized_str;
+mod id;
+pub mod laws;
+mod loc;
+mod name;
+mod non_empty;
+mod plain_name;
+mod slot;
+
+pub use err::{ParseErrors, ReservedNameError};
+pub use from_normalized_str::FromNormalizedStr;
+pub use id::{AnyId, Id, UnreservedId, is_normalized_ident};
+pub use loc::Loc;
+pub use name::InternalName;
+pub use non_empty::{NonEmpty, NonEmptyIter};
+pub use plain_name::Name;
+pub use slot::{PrincipalOrResource, Slot, SlotId};
+
+#[cfg(test)]
+mod tests;

@@ -1,0 +1,378 @@
+// Names with namespaces.
+ghost use Rattle.std.specs.Prelude.{◌≡◌, ◌≢◌, ℕ, [], MatchResult, Some, None, refl, IfOk, IfErr, codes, false, IsTrue, ◌↔◌, ◌++◌};
+ghost use Rattle.std.specs.List.{list_any};
+ghost use Rattle.std.specs.Option.{option_copied};
+ghost use Rattle.std.specs.Slice.Iter.{iter_rest};
+ghost use Rattle.std.specs.String.{string_bytes};
+ghost use Rattle.std.specs.Ordering.{on, as_partial_cmp};
+ghost use Rattle.std.specs.Cmp.{partial_equiv_from_equiv, on_equiv, on_po, on_total};
+ghost use Rattle.cedar_names.specs.Grammar.{is_id, is_reserved};
+ghost use Rattle.cedar_names.specs.Names.{further_text};
+ghost use Rattle.cedar_names.specs.Readers.{OnReadError, IsNeverReserved};
+
+use crate::err::ParseErrors;
+use crate::from_normalized_str::FromNormalizedStr;
+use crate::id::{Id, read_id};
+use crate::loc::{Loc, clone_loc};
+use crate::plain_name::Name;
+use std::alloc::{AllocError, Global};
+use std::cmp::Ordering;
+use std::convert::{AsRef, AsStr, TryFrom};
+use std::fmt;
+use std::hash::{Hash, Hasher};
+use std::rc::RcStr;
+use std::slice;
+
+fn any_reserved(ids: &[Id]) -> bool
+    ensures { result ≡ list_any is_reserved ids.now }
+{
+    ids.iter().any(|id| id.is_reserved())
+}
+
+fn clone_path(alloc: Global, path: &[Id]) -> Result<Vec<Id>, AllocError>
+    ensures { IfOk result (λ v. v.items ≡ path.now) }
+{
+    let mut copy = Vec::new(alloc);
+    for id in path {
+        copy.push(id.clone(alloc)?)?;
+    }
+    Ok(copy)
+}
+
+// The identifiers joined by `::`.
+fn joined(alloc: Global, first: &Id, further: &[Id]) -> Result<String, AllocError>
+    ensures { IfOk result (λ text. string_bytes text ≡ first.now ++ further_text further.now) }
+{
+    let mut text = String::from_str(alloc, first.as_str())?;
+    for id in further {
+        text.push_str("::")?;
+        text.push_str(id.as_str())?;
+    }
+    Ok(text)
+}
+
+/// A name of an entity type, a function and the like, which may have namespaces and may have
+/// the component `__cedar` (Cedar's file `name.rs`).
+///
+/// Names compare by their basenames, then by their paths as lists. Their places are not
+/// compared.
+#[derive(Debug, Drop)]
+pub struct InternalName {
+    basename: Id,
+    // An empty path is kept as none, so that a name of one identifier needs no memory.
+    path: Option<Vec<Id>>,
+    loc: Option<Loc>,
+}
+
+impl InternalName {
+    ghost use Rattle.cedar_names.specs.Bare.{bare, bare_now, place_of};
+    ghost use Rattle.cedar_names.specs.PlainNames.{bare_name_now};
+    ghost use Rattle.cedar_names.specs.Names.{has_reserved, qualified, unqualified, within, joined_text};
+
+    /// The name with this basename, path and place.
+    pub fn new(basename: Id, path: Vec<Id>, loc: Option<Loc>) -> InternalName
+        ensures name { bare result ≡ record { path = path.items; basename = basename } }
+        ensures loc { place_of result ≡ loc }
+    {
+        let path = if path.is_empty() { None } else { Some(path) };
+        InternalName {
+            basename,
+            path,
+            loc,
+        }
+    }
+
+    /// The name with no namespace.
+    pub fn unqualified_name(id: Id, loc: Option<Loc>) -> InternalName
+        ensures name { bare result ≡ unqualified id }
+        ensures loc { place_of result ≡ loc }
+    {
+        InternalName {
+            basename: id,
+            path: None,
+            loc,
+        }
+    }
+
+    /// The namespace `__cedar`, with no place.
+    pub fn cedar(alloc: Global) -> Result<InternalName, AllocError>
+        ensures name { IfOk result (λ n. bare n ≡ unqualified (codes "__cedar")) }
+        ensures loc { IfOk result (λ n. place_of n ≡ None) }
+    {
+        Ok(InternalName::unqualified_name(Id::reserved(alloc)?, None))
+    }
+
+    /// The name of one identifier with this text, with no place.
+    ///
+    /// Any other text is refused as no `Id`.
+    pub fn parse_unqualified_name(alloc: Global, s: &str) -> Result<InternalName, ParseErrors>
+        ensures name { IfOk result (λ n. (bare n ≡ unqualified s.now) × IsTrue (is_id s.now)) }
+        ensures loc { IfOk result (λ n. place_of n ≡ None) }
+        ensures refused { IfErr result (λ e. OnReadError e (codes "Id") (is_id s.now ≡ false) (IsNeverReserved s.now)) }
+    {
+        let id = read_id(alloc, s, "Id")?;
+        Ok(InternalName::unqualified_name(id, None))
+    }
+
+    /// The name within a namespace, which always goes before it.
+    pub fn type_in_namespace(
+        alloc: Global,
+        basename: Id,
+        namespace: InternalName,
+        loc: Option<Loc>,
+    ) -> Result<InternalName, AllocError>
+        ensures name { IfOk result (λ n. bare n ≡ within (bare namespace) basename) }
+        ensures loc { IfOk result (λ n. place_of n ≡ loc) }
+    {
+        let InternalName {
+            basename: last,
+            path,
+            loc: _,
+        } = namespace;
+        let mut path = path.unwrap_or(Vec::new(alloc));
+        path.push(last)?;
+        Ok(InternalName::new(basename, path, loc))
+    }
+
+    /// Its place, if it has one.
+    pub fn loc(&self) -> Option<&Loc>
+        ensures { option_copied result ≡ place_of self.now }
+    {
+        self.loc.as_ref()
+    }
+
+    /// Its last identifier.
+    pub fn basename(&self) -> &Id
+        ensures { result.now ≡ (bare self.now).basename }
+    {
+        &self.basename
+    }
+
+    /// The identifiers before the last, from the first on.
+    pub fn namespace_components(&self) -> slice::Iter<'_, Id>
+        ensures { iter_rest result ≡ (bare self.now).path }
+    {
+        self.path().iter()
+    }
+
+    /// The text of its namespace: `foo::bar` for `foo::bar::baz`, and no text for `baz`.
+    pub fn namespace(&self, alloc: Global) -> Result<String, AllocError>
+        ensures { IfOk result (λ text. string_bytes text ≡ joined_text (bare self.now).path) }
+    {
+        match self.path().split_first() {
+            None => Ok(String::new(alloc)),
+            Some((first, further)) => joined(alloc, first, further),
+        }
+    }
+
+    /// The name within the namespace, where the name has none and one is given; else a copy.
+    ///
+    /// `baz` with `foo::bar` is `foo::bar::baz`, and `C::D` with `A::B` is `C::D`. The place is
+    /// that of the name.
+    pub fn qualify_with(
+        &self,
+        alloc: Global,
+        namespace: Option<&InternalName>,
+    ) -> Result<InternalName, AllocError>
+        ensures name { IfOk result (λ n. bare n ≡ qualified (bare self.now) (bare_now namespace.entry)) }
+        ensures loc { IfOk result (λ n. place_of n ≡ place_of self.now) }
+    {
+        match namespace {
+            Some(namespace) if self.is_unqualified() => {
+                let mut path = clone_path(alloc, namespace.path())?;
+                path.push(namespace.basename.clone(alloc)?)?;
+                let basename = self.basename.clone(alloc)?;
+                let loc = clone_loc(alloc, &self.loc)?;
+                Ok(InternalName::new(basename, path, loc))
+            }
+            _ => self.clone(alloc),
+        }
+    }
+
+    /// As `qualify_with`, with a namespace that is not reserved.
+    pub fn qualify_with_name(
+        &self,
+        alloc: Global,
+        namespace: Option<&Name>,
+    ) -> Result<InternalName, AllocError>
+        ensures name { IfOk result (λ n. bare n ≡ qualified (bare self.now) (bare_name_now namespace.entry)) }
+        ensures loc { IfOk result (λ n. place_of n ≡ place_of self.now) }
+    {
+        match namespace {
+            Some(namespace) => self.qualify_with(alloc, Some(namespace.as_ref())),
+            None => self.clone(alloc),
+        }
+    }
+
+    /// Whether it has no namespace.
+    pub fn is_unqualified(&self) -> bool
+        ensures { IsTrue result ↔ ((bare self.now).path ≡ []) }
+    {
+        self.path().is_empty()
+    }
+
+    /// Whether some component is `__cedar` (RFC 52).
+    pub fn is_reserved(&self) -> bool
+        ensures { result ≡ has_reserved (bare self.now) }
+    {
+        any_reserved(self.path()) || self.basename.is_reserved()
+    }
+
+    /// A copy.
+    pub fn clone(&self, alloc: Global) -> Result<InternalName, AllocError>
+        ensures name { IfOk result (λ n. bare n ≡ bare self.now) }
+        ensures loc { IfOk result (λ n. place_of n ≡ place_of self.now) }
+    {
+        let basename = self.basename.clone(alloc)?;
+        let path = clone_path(alloc, self.path())?;
+        let loc = clone_loc(alloc, &self.loc)?;
+        Ok(InternalName::new(basename, path, loc))
+    }
+
+    fn path(&self) -> &[Id]
+        ensures { result.now ≡ (bare self.now).path }
+    {
+        match &self.path {
+            None => &[],
+            Some(path) => path.as_slice(),
+        }
+    }
+}
+
+impl FromNormalizedStr for InternalName {
+    ghost use Rattle.cedar_names.specs.Bare.{bare, place_of, IsWholeOf};
+    ghost use Rattle.cedar_names.specs.Names.{IsNameOf, IsNameText};
+
+    ghost kind = { codes "internal name" };
+
+    ghost outside = { λ s. IsNameText s → ⊥ };
+
+    ghost forbids = { IsNeverReserved };
+
+    ghost reads = { λ s n. IsNameOf s (bare n) × IsWholeOf s (place_of n) };
+
+    fn describe_self() -> &'static str {
+        "internal name"
+    }
+
+    fn from_normalized_str(alloc: Global, s: &str) -> Result<InternalName, ParseErrors> {
+        let mut path = Vec::new(alloc);
+        let mut rest = s;
+        'parts: while let Some((first, later)) = rest.split_once("::") {
+            path.push(read_id(alloc, first, "internal name")?)?;
+            rest = later;
+        }
+        let basename = read_id(alloc, rest, "internal name")?;
+        let src = RcStr::from_str(alloc, s)?;
+        let loc = Loc::new(0, s.len(), src);
+        Ok(InternalName::new(basename, path, Some(loc)))
+    }
+}
+
+impl From<Id> for InternalName {
+    ghost use Rattle.cedar_names.specs.Bare.{bare, place_of};
+    ghost use Rattle.cedar_names.specs.Names.{unqualified};
+
+    ghost from_gives = { λ id n. (bare n ≡ unqualified id) × (place_of n ≡ None) };
+
+    fn from(value: Id) -> InternalName {
+        InternalName::unqualified_name(value, None)
+    }
+}
+
+impl TryFrom<InternalName> for Id {
+    type Error = ();
+
+    ghost use Rattle.cedar_names.specs.Bare.{bare};
+    ghost use Rattle.cedar_names.specs.Names.{unqualified};
+
+    ghost try_from_gives = { λ n r. MatchResult r (λ id. bare n ≡ unqualified id) (λ _. (bare n).path ≢ []) };
+
+    fn try_from(value: InternalName) -> Result<Id, ()> {
+        if value.is_unqualified() {
+            Ok(value.basename)
+        } else {
+            Err(())
+        }
+    }
+}
+
+impl PartialEq for InternalName {
+    ghost use Rattle.cedar_names.specs.Bare.{bare};
+    ghost use Rattle.cedar_names.specs.NameOrder.{name_eq, name_eq_equiv};
+
+    ghost eq = { on bare name_eq };
+
+    ghost laws = { partial_equiv_from_equiv (on_equiv bare name_eq_equiv) };
+
+    fn eq(&self, other: &InternalName) -> bool {
+        self.basename == other.basename && self.path() == other.path()
+    }
+}
+
+impl Eq for InternalName {
+    ghost use Rattle.cedar_names.specs.Bare.{bare};
+    ghost use Rattle.cedar_names.specs.NameOrder.{name_eq_equiv};
+
+    ghost laws = { on_equiv bare name_eq_equiv };
+}
+
+impl PartialOrd for InternalName {
+    ghost use Rattle.cedar_names.specs.Bare.{bare};
+    ghost use Rattle.cedar_names.specs.NameOrder.{name_cmp, name_po};
+
+    ghost partial_cmp = { as_partial_cmp (on bare name_cmp) };
+
+    ghost laws = { on_po bare name_po };
+
+    fn partial_cmp(&self, other: &InternalName) -> Option<Ordering> {
+        Some(self.cmp(other))
+    }
+}
+
+impl Ord for InternalName {
+    ghost use Rattle.cedar_names.specs.Bare.{bare};
+    ghost use Rattle.cedar_names.specs.NameOrder.{name_cmp, name_cmp_total, name_ties};
+
+    ghost cmp = { on bare name_cmp };
+
+    ghost total = { on_total bare name_cmp_total };
+
+    ghost matches_partial_cmp = { λ _ _. refl };
+
+    ghost matches_eq = { λ m n. name_ties (bare m) (bare n) };
+
+    fn cmp(&self, other: &InternalName) -> Ordering {
+        self.basename
+            .cmp(&other.basename)
+            .then_with(|| self.path().cmp(other.path()))
+    }
+}
+
+impl Hash for InternalName {
+    ghost use Rattle.cedar_names.specs.Bare.{bare};
+    ghost use Rattle.cedar_names.specs.NameOrder.{name_fed, name_fed-alike};
+
+    ghost hash_input = { λ n. name_fed (bare n) };
+
+    ghost respects_eq = { λ m n h. name_fed-alike (bare m) (bare n) h };
+
+    fn hash<H: Hasher>(&self, state: &mut H) {
+        self.basename.hash(state);
+        self.path().hash(state);
+    }
+}
+
+impl fmt::Display for InternalName {
+    ghost use Rattle.cedar_names.specs.Bare.{bare};
+    ghost use Rattle.cedar_names.specs.Names.{name_text};
+
+    ghost output = { λ n. Some (name_text (bare n)) };
+
+    fn fmt<W: fmt::Write>(&self, f: &mut fmt::Formatter<W>) -> fmt::Result {
+        for part in self.path() {
+            write!(f, "{part}::")?;
+        }
+        write!(f, "{}", self.basename)
+    }
+}

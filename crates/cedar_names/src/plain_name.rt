@@ -1,0 +1,301 @@
+// Names without the component `__cedar`.
+ghost use Rattle.std.specs.Prelude.{◌≡◌, false};
+ghost use Rattle.cedar_names.specs.Bare.{bare};
+ghost use Rattle.cedar_names.specs.Names.{has_reserved};
+
+use crate::err::{ParseErrors, ReservedNameError};
+use crate::from_normalized_str::FromNormalizedStr;
+use crate::id::{Id, UnreservedId};
+use crate::loc::Loc;
+use crate::name::InternalName;
+use std::alloc::{AllocError, Global};
+use std::cmp::Ordering;
+use std::convert::{AsRef, TryFrom};
+use std::fmt;
+use std::hash::{Hash, Hasher};
+
+/// A name that a user may define: an `InternalName` without the component `__cedar` (Cedar's
+/// file `name.rs`, after RFC 52).
+///
+/// It compares as an `InternalName` does.
+#[derive(Debug, Drop)]
+pub struct Name {
+    name: InternalName,
+    ghost not_reserved: { has_reserved (bare name) ≡ false },
+}
+
+impl Name {
+    ghost use Rattle.std.specs.Prelude.{[], IfOk, IfErr, IsTrue, None, codes, ◌↔◌};
+    ghost use Rattle.std.specs.Option.{option_copied};
+    ghost use Rattle.cedar_names.specs.Bare.{bare_now, place_of};
+    ghost use Rattle.cedar_names.specs.Grammar.{is_id};
+    ghost use Rattle.cedar_names.specs.Names.{qualified, unqualified};
+    ghost use Rattle.cedar_names.specs.PlainNames.{bare_of_name, place_of_name, bare_name_now};
+    ghost use Rattle.cedar_names.specs.Readers.{OnReadError, IsReservedName};
+
+    /// The name of one identifier with this text, with no place.
+    ///
+    /// Any other text is refused as no `Id`, and `__cedar` as reserved.
+    pub fn parse_unqualified_name(alloc: Global, s: &str) -> Result<Name, ParseErrors>
+        ensures name { IfOk result (λ n. (bare_of_name n ≡ unqualified s.now) × IsTrue (is_id s.now)) }
+        ensures allowed { IfOk result (λ n. has_reserved (bare_of_name n) ≡ false) }
+        ensures loc { IfOk result (λ n. place_of_name n ≡ None) }
+        ensures refused { IfErr result (λ e. OnReadError e (codes "Id") (is_id s.now ≡ false) (IsReservedName s.now)) }
+    {
+        let name = InternalName::parse_unqualified_name(alloc, s)?;
+        Ok(Name::try_from(name)?)
+    }
+
+    /// The name with no namespace and no place.
+    pub fn unqualified_name(id: UnreservedId) -> Name
+        ensures name { bare_of_name result ≡ unqualified id }
+        ensures loc { place_of_name result ≡ None }
+    {
+        Name {
+            name: InternalName::unqualified_name(Id::from(id), None),
+        }
+    }
+
+    /// Its last identifier, borrowed.
+    pub fn basename_as_ref(&self) -> &Id
+        ensures { result.now ≡ (bare_of_name self.now).basename }
+    {
+        self.name.basename()
+    }
+
+    /// A copy of its last identifier.
+    pub fn basename(&self, alloc: Global) -> Result<UnreservedId, AllocError>
+        ensures { IfOk result (λ id. id ≡ (bare_of_name self.now).basename) }
+    {
+        let id = self.name.basename().clone(alloc)?;
+        Ok(UnreservedId::from_unreserved(id))
+    }
+
+    /// Whether it has no namespace.
+    pub fn is_unqualified(&self) -> bool
+        ensures { IsTrue result ↔ ((bare_of_name self.now).path ≡ []) }
+    {
+        self.name.is_unqualified()
+    }
+
+    /// The name within the namespace, where the name has none and one is given; else a copy, as
+    /// `InternalName::qualify_with`.
+    pub fn qualify_with(
+        &self,
+        alloc: Global,
+        namespace: Option<&InternalName>,
+    ) -> Result<InternalName, AllocError>
+        ensures name { IfOk result (λ n. bare n ≡ qualified (bare_of_name self.now) (bare_now namespace.entry)) }
+        ensures loc { IfOk result (λ n. place_of n ≡ place_of_name self.now) }
+    {
+        self.name.qualify_with(alloc, namespace)
+    }
+
+    /// As `qualify_with`, with a namespace that is not reserved either, so that the name made is
+    /// none.
+    pub fn qualify_with_name(
+        &self,
+        alloc: Global,
+        namespace: Option<&Name>,
+    ) -> Result<Name, AllocError>
+        ensures name { IfOk result (λ n. bare_of_name n ≡ qualified (bare_of_name self.now) (bare_name_now namespace.entry)) }
+        ensures loc { IfOk result (λ n. place_of_name n ≡ place_of_name self.now) }
+    {
+        let name = self.name.qualify_with_name(alloc, namespace)?;
+        Ok(Name { name })
+    }
+
+    /// Its place, if it has one.
+    pub fn loc(&self) -> Option<&Loc>
+        ensures { option_copied result ≡ place_of_name self.now }
+    {
+        self.name.loc()
+    }
+
+    /// A copy.
+    pub fn clone(&self, alloc: Global) -> Result<Name, AllocError>
+        ensures name { IfOk result (λ n. bare_of_name n ≡ bare_of_name self.now) }
+        ensures loc { IfOk result (λ n. place_of_name n ≡ place_of_name self.now) }
+    {
+        let name = self.name.clone(alloc)?;
+        Ok(Name { name })
+    }
+}
+
+impl FromNormalizedStr for Name {
+    ghost use Rattle.std.specs.Prelude.{codes};
+    ghost use Rattle.cedar_names.specs.Bare.{IsWholeOf};
+    ghost use Rattle.cedar_names.specs.Names.{IsNameOf, IsNameText};
+    ghost use Rattle.cedar_names.specs.PlainNames.{bare_of_name, place_of_name};
+    ghost use Rattle.cedar_names.specs.Readers.{IsReservedName};
+
+    ghost kind = { codes "Name" };
+
+    ghost outside = { λ s. IsNameText s → ⊥ };
+
+    ghost forbids = { IsReservedName };
+
+    ghost reads = { λ s n. IsNameOf s (bare_of_name n) × (has_reserved (bare_of_name n) ≡ false) × IsWholeOf s (place_of_name n) };
+
+    fn describe_self() -> &'static str {
+        "Name"
+    }
+
+    fn from_normalized_str(alloc: Global, s: &str) -> Result<Name, ParseErrors> {
+        match InternalName::from_normalized_str(alloc, s) {
+            Ok(name) => Ok(Name::try_from(name)?),
+            Err(ParseErrors::NotNormalized { .. }) => Err(ParseErrors::NotNormalized {
+                kind: "Name",
+            }),
+            Err(e) => Err(e),
+        }
+    }
+}
+
+impl AsRef<InternalName> for Name {
+    ghost use Rattle.cedar_names.specs.PlainNames.{internal};
+
+    fn as_ref(&self) -> &InternalName
+        ensures { result.now ≡ internal self.now }
+    {
+        &self.name
+    }
+}
+
+impl From<UnreservedId> for Name {
+    ghost use Rattle.std.specs.Prelude.{None};
+    ghost use Rattle.cedar_names.specs.Names.{unqualified};
+    ghost use Rattle.cedar_names.specs.PlainNames.{bare_of_name, place_of_name};
+
+    ghost from_gives = { λ id n. (bare_of_name n ≡ unqualified id) × (place_of_name n ≡ None) };
+
+    fn from(value: UnreservedId) -> Name {
+        Name::unqualified_name(value)
+    }
+}
+
+impl TryFrom<InternalName> for Name {
+    type Error = ReservedNameError;
+
+    ghost use Rattle.std.specs.Prelude.{MatchResult, true};
+    ghost use Rattle.cedar_names.specs.Bare.{place_of};
+    ghost use Rattle.cedar_names.specs.PlainNames.{internal};
+    ghost use Rattle.cedar_names.specs.Readers.{refused_name, refused_place};
+
+    ghost try_from_gives = { λ n r. MatchResult r (λ m. (internal m ≡ n) × (has_reserved (bare n) ≡ false)) (λ e. (refused_name e ≡ bare n) × (refused_place e ≡ place_of n) × (has_reserved (bare n) ≡ true)) };
+
+    fn try_from(name: InternalName) -> Result<Name, ReservedNameError> {
+        if name.is_reserved() {
+            return Err(ReservedNameError { name });
+        }
+        Ok(Name { name })
+    }
+}
+
+impl From<Name> for InternalName {
+    ghost use Rattle.cedar_names.specs.PlainNames.{internal};
+
+    ghost from_gives = { λ n m. m ≡ internal n };
+
+    fn from(value: Name) -> InternalName {
+        value.name
+    }
+}
+
+impl TryFrom<Name> for UnreservedId {
+    type Error = ();
+
+    ghost use Rattle.std.specs.Prelude.{MatchResult, [], ◌≢◌};
+    ghost use Rattle.cedar_names.specs.Names.{unqualified};
+    ghost use Rattle.cedar_names.specs.PlainNames.{bare_of_name};
+
+    ghost try_from_gives = { λ n r. MatchResult r (λ id. bare_of_name n ≡ unqualified id) (λ _. (bare_of_name n).path ≢ []) };
+
+    fn try_from(value: Name) -> Result<UnreservedId, ()> {
+        let id = Id::try_from(value.name)?;
+        Ok(UnreservedId::from_unreserved(id))
+    }
+}
+
+impl PartialEq for Name {
+    ghost use Rattle.std.specs.Ordering.{on};
+    ghost use Rattle.std.specs.Cmp.{partial_equiv_from_equiv, on_equiv};
+    ghost use Rattle.cedar_names.specs.NameOrder.{name_eq, name_eq_equiv};
+    ghost use Rattle.cedar_names.specs.PlainNames.{bare_of_name};
+
+    ghost eq = { on bare_of_name name_eq };
+
+    ghost laws = { partial_equiv_from_equiv (on_equiv bare_of_name name_eq_equiv) };
+
+    fn eq(&self, other: &Name) -> bool {
+        self.name == other.name
+    }
+}
+
+impl Eq for Name {
+    ghost use Rattle.std.specs.Cmp.{on_equiv};
+    ghost use Rattle.cedar_names.specs.NameOrder.{name_eq_equiv};
+    ghost use Rattle.cedar_names.specs.PlainNames.{bare_of_name};
+
+    ghost laws = { on_equiv bare_of_name name_eq_equiv };
+}
+
+impl PartialOrd for Name {
+    ghost use Rattle.std.specs.Ordering.{on, as_partial_cmp};
+    ghost use Rattle.std.specs.Cmp.{on_po};
+    ghost use Rattle.cedar_names.specs.NameOrder.{name_cmp, name_po};
+    ghost use Rattle.cedar_names.specs.PlainNames.{bare_of_name};
+
+    ghost partial_cmp = { as_partial_cmp (on bare_of_name name_cmp) };
+
+    ghost laws = { on_po bare_of_name name_po };
+
+    fn partial_cmp(&self, other: &Name) -> Option<Ordering> {
+        Some(self.cmp(other))
+    }
+}
+
+impl Ord for Name {
+    ghost use Rattle.std.specs.Prelude.{refl};
+    ghost use Rattle.std.specs.Ordering.{on};
+    ghost use Rattle.std.specs.Cmp.{on_total};
+    ghost use Rattle.cedar_names.specs.NameOrder.{name_cmp, name_cmp_total, name_ties};
+    ghost use Rattle.cedar_names.specs.PlainNames.{bare_of_name};
+
+    ghost cmp = { on bare_of_name name_cmp };
+
+    ghost total = { on_total bare_of_name name_cmp_total };
+
+    ghost matches_partial_cmp = { λ _ _. refl };
+
+    ghost matches_eq = { λ m n. name_ties (bare_of_name m) (bare_of_name n) };
+
+    fn cmp(&self, other: &Name) -> Ordering {
+        self.name.cmp(&other.name)
+    }
+}
+
+impl Hash for Name {
+    ghost use Rattle.cedar_names.specs.NameOrder.{name_fed, name_fed-alike};
+    ghost use Rattle.cedar_names.specs.PlainNames.{bare_of_name};
+
+    ghost hash_input = { λ n. name_fed (bare_of_name n) };
+
+    ghost respects_eq = { λ m n h. name_fed-alike (bare_of_name m) (bare_of_name n) h };
+
+    fn hash<H: Hasher>(&self, state: &mut H) {
+        self.name.hash(state);
+    }
+}
+
+impl fmt::Display for Name {
+    ghost use Rattle.std.specs.Prelude.{Some};
+    ghost use Rattle.cedar_names.specs.Names.{name_text};
+    ghost use Rattle.cedar_names.specs.PlainNames.{bare_of_name};
+
+    ghost output = { λ n. Some (name_text (bare_of_name n)) };
+
+    fn fmt<W: fmt::Write>(&self, f: &mut fmt::Formatter<W>) -> fmt::Result {
+        self.name.fmt(f)
+    }
+}

@@ -1,0 +1,94 @@
+// Slots of templates.
+ghost use Rattle.std.specs.Prelude.{◌≡◌, ◌↔◌, IsTrue, IfOk, Some};
+ghost use Rattle.cedar_names.specs.Slots.{slot_of, slot_text};
+
+use crate::loc::{Loc, clone_loc};
+use std::alloc::{AllocError, Global};
+use std::fmt;
+
+/// The principal or the resource, which are what a slot may stand for (Cedar's file `policy.rs`).
+#[derive(Clone, Copy, Debug, PartialEq, Eq, Hash)]
+pub enum PrincipalOrResource {
+    Principal,
+    Resource,
+}
+
+/// The name of a slot, in this order (Cedar's file `name.rs`).
+#[derive(Clone, Copy, Debug, PartialEq, Eq, PartialOrd, Ord, Hash)]
+pub enum SlotId {
+    /// `?principal`
+    Principal,
+    /// `?resource`
+    Resource,
+}
+
+impl SlotId {
+    /// The slot `?principal`.
+    pub fn principal() -> SlotId
+        ensures { result ≡ SlotId.Principal }
+    {
+        SlotId::Principal
+    }
+
+    /// The slot `?resource`.
+    pub fn resource() -> SlotId
+        ensures { result ≡ SlotId.Resource }
+    {
+        SlotId::Resource
+    }
+
+    /// Whether it is `?principal`.
+    pub fn is_principal(&self) -> bool
+        ensures { IsTrue result ↔ (self.now ≡ SlotId.Principal) }
+    {
+        matches!(self, SlotId::Principal)
+    }
+
+    /// Whether it is `?resource`.
+    pub fn is_resource(&self) -> bool
+        ensures { IsTrue result ↔ (self.now ≡ SlotId.Resource) }
+    {
+        matches!(self, SlotId::Resource)
+    }
+}
+
+impl From<PrincipalOrResource> for SlotId {
+    ghost from_gives = { λ v slot. slot ≡ slot_of v };
+
+    fn from(v: PrincipalOrResource) -> SlotId {
+        match v {
+            PrincipalOrResource::Principal => SlotId::Principal,
+            PrincipalOrResource::Resource => SlotId::Resource,
+        }
+    }
+}
+
+impl fmt::Display for SlotId {
+    ghost output = { λ slot. Some (slot_text slot) };
+
+    fn fmt<W: fmt::Write>(&self, f: &mut fmt::Formatter<W>) -> fmt::Result {
+        match self {
+            SlotId::Principal => write!(f, "?principal"),
+            SlotId::Resource => write!(f, "?resource"),
+        }
+    }
+}
+
+/// A slot and its place, which is not compared (Cedar's file `name.rs`).
+#[derive(Debug, Drop)]
+#[derive_where(PartialEq, Eq, Hash)]
+pub struct Slot {
+    pub id: SlotId,
+    #[derive_where(skip(EqHashOrd))]
+    pub loc: Option<Loc>,
+}
+
+impl Slot {
+    /// A copy.
+    pub fn clone(&self, alloc: Global) -> Result<Slot, AllocError>
+        ensures { IfOk result (λ slot. slot ≡ self.now) }
+    {
+        let loc = clone_loc(alloc, &self.loc)?;
+        Ok(Slot { id: self.id, loc })
+    }
+}
