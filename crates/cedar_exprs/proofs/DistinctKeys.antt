@@ -1,5 +1,5 @@
 -- A map that is made of pairs one by one, as long as their keys are distinct.
-use Rattle.std.proofs.Common.{◌≡◌, List, [], ◌∷◌, ◌++◌, map, fold, Bool, true, false, not, ◌&&◌, ◌||◌, IsTrue, Ordering, Less, Equal, Greater, nat_cmp, nat_eq, Global, refl, ap, sym, ◌∙◌, is_some, Option, Some, None, cond, length, ◌+◌, arith}
+use Rattle.std.proofs.Common.{◌≡◌, List, [], ◌∷◌, ◌++◌, map, fold, Bool, true, false, not, ◌&&◌, ◌||◌, Ordering, Less, Equal, Greater, nat_cmp, nat_eq, Global, refl, ap, sym, ◌∙◌, is_some, Option, Some, cond, length, arith}
 use Rattle.std.specs.Ordering.{match_ordering, is_eq}
 use Rattle.std.specs.Map.{lookup}
 use Rattle.std.specs.BTreeMap.{insert_entry}
@@ -10,15 +10,24 @@ use Rattle.std.proofs.lemmas.Bool.{false≢true}
 use Rattle.std.proofs.lemmas.List.{map-append}
 use Rattle.std.proofs.lemmas.List.Folds.{list_any-append}
 use Rattle.std.proofs.lemmas.List.Sums.{fold-append}
-use Rattle.cedar_exprs.specs.Terms.{Text}
-use Rattle.cedar_exprs.specs.Keys.{is_among, are_distinct, in_key_order, keyed, keys_of, IsFirstRepeat}
+use Rattle.cedar_builders.specs.Bare.{Text}
+use Rattle.cedar_builders.specs.Keys.{keys_of, is_among, are_distinct}
+use Rattle.cedar_exprs.specs.Keys.{in_key_order, keyed, IsFirstRepeat}
 use Rattle.cedar_exprs.proofs.Records.{text_cmp}
 
+-- the keys of pairs whose keys are texts
+abbrev pub texts : {A : Type 0} → List (Text × A) → List Text
+texts = map (λ p. p.0)
+
+pub keys-keyed : {A : Type 0} (ps : List (RcStr Global × A)) → keys_of ps ≡ texts (keyed ps)
+keys-keyed [] = refl
+keys-keyed (p ∷ ps) = ap (λ ks. rc_str_bytes p.0 ∷ ks) (keys-keyed ps)
+
 -- whether two texts are equal
-abbrev same : Text → Text → Bool
+abbrev pub same : Text → Text → Bool
 same = pointwise nat_eq
 
-abbrev put : {A : Type 0} → List (Text × A) → Text × A → List (Text × A)
+abbrev pub put : {A : Type 0} → List (Text × A) → Text × A → List (Text × A)
 put es p = insert_entry (slice_cmp nat_cmp) es p.0 p.1
 
 or_swap : (a b c : Bool) → (a || (b || c)) ≡ (b || (a || c))
@@ -53,7 +62,7 @@ module _ {A : Type 0} where
   some_or false v r = refl
 
   -- a look-up finds a key exactly where it is among the keys
-  looked_up : (k : Text) (es : List (RcStr Global × A)) → is_some (lookup (λ l. is_eq (slice_cmp nat_cmp k (rc_str_bytes l))) es) ≡ is_among k (keys_of (keyed es))
+  looked_up : (k : Text) (es : List (RcStr Global × A)) → is_some (lookup (λ l. is_eq (slice_cmp nat_cmp k (rc_str_bytes l))) es) ≡ is_among k (texts (keyed es))
   looked_up k [] = refl
   looked_up k (e ∷ es) = some_or _ _ _ ∙ λ i. sym (texts_ties k (rc_str_bytes e.0)) i || looked_up k es i
 
@@ -61,30 +70,30 @@ module _ {A : Type 0} where
   in_key_order-push ps p = fold-append put [] ps (p ∷ [])
 
   -- the keys with one more
-  among-put : (k : Text) (es : List (Text × A)) (p : Text × A) → is_among k (keys_of (put es p)) ≡ (same k p.0 || is_among k (keys_of es))
+  among-put : (k : Text) (es : List (Text × A)) (p : Text × A) → is_among k (texts (put es p)) ≡ (same k p.0 || is_among k (texts es))
   among-put k [] p = refl
   among-put k (e ∷ es) p =
-      elim (slice_cmp nat_cmp p.0 e.0) as (λ o. slice_cmp nat_cmp p.0 e.0 ≡ o → is_among k (keys_of (match_ordering o (p ∷ e ∷ es) ((e.0, p.1) ∷ es) (e ∷ put es p))) ≡ (same k p.0 || is_among k (keys_of (e ∷ es)))) [
+      elim (slice_cmp nat_cmp p.0 e.0) as (λ o. slice_cmp nat_cmp p.0 e.0 ≡ o → is_among k (texts (match_ordering o (p ∷ e ∷ es) ((e.0, p.1) ∷ es) (e ∷ put es p))) ≡ (same k p.0 || is_among k (texts (e ∷ es)))) [
         | Less ↦ λ is. refl
         | Equal ↦ λ is.
-          let equal : p.0 ≡ e.0 = (bytes_decides p.0 e.0).0 (texts_ties p.0 e.0 ∙ ap is_eq is) in
-          sym (or_same (same k e.0) (is_among k (keys_of es))) ∙ ap (λ l. same k l || (same k e.0 || is_among k (keys_of es))) (sym equal)
-        | Greater ↦ λ is. ap (λ b. same k e.0 || b) (among-put k es p) ∙ or_swap (same k e.0) (same k p.0) (is_among k (keys_of es))
+            let equal : p.0 ≡ e.0 = (bytes_decides p.0 e.0).0 (texts_ties p.0 e.0 ∙ ap is_eq is) in
+            sym (or_same (same k e.0) (is_among k (texts es))) ∙ ap (λ l. same k l || (same k e.0 || is_among k (texts es))) (sym equal)
+        | Greater ↦ λ is. ap (λ b. same k e.0 || b) (among-put k es p) ∙ or_swap (same k e.0) (same k p.0) (is_among k (texts es))
       ] refl
 
-  among-fold : (k : Text) (es ps : List (Text × A)) → is_among k (keys_of (fold put es ps)) ≡ (is_among k (keys_of ps) || is_among k (keys_of es))
+  among-fold : (k : Text) (es ps : List (Text × A)) → is_among k (texts (fold put es ps)) ≡ (is_among k (texts ps) || is_among k (texts es))
   among-fold k es [] = refl
   among-fold k es (p ∷ ps) =
       among-fold k (put es p) ps
-      ∙ (ap (λ b. is_among k (keys_of ps) || b) (among-put k es p)
-      ∙ (or_swap (is_among k (keys_of ps)) (same k p.0) (is_among k (keys_of es)) ∙ sym (or_assoc (same k p.0) (is_among k (keys_of ps)) (is_among k (keys_of es)))))
+      ∙ (ap (λ b. is_among k (texts ps) || b) (among-put k es p)
+      ∙ (or_swap (is_among k (texts ps)) (same k p.0) (is_among k (texts es)) ∙ sym (or_assoc (same k p.0) (is_among k (texts ps)) (is_among k (texts es)))))
 
-  among-in_key_order : (k : Text) (ps : List (Text × A)) → is_among k (keys_of (in_key_order ps)) ≡ is_among k (keys_of ps)
+  among-in_key_order : (k : Text) (ps : List (Text × A)) → is_among k (texts (in_key_order ps)) ≡ is_among k (texts ps)
   among-in_key_order k ps = among-fold k [] ps ∙ or_false _
 
   -- a look-up in the map of the pairs so far finds a key exactly where it is among theirs
-  pub found : (k : Text) (es : List (RcStr Global × A)) (ps : List (Text × A)) → keyed es ≡ in_key_order ps → is_some (lookup (λ l. is_eq (slice_cmp nat_cmp k (rc_str_bytes l))) es) ≡ is_among k (keys_of ps)
-  found k es ps made = looked_up k es ∙ (ap (λ qs. is_among k (keys_of qs)) made ∙ among-in_key_order k ps)
+  pub found : (k : Text) (es : List (RcStr Global × A)) (ps : List (Text × A)) → keyed es ≡ in_key_order ps → is_some (lookup (λ l. is_eq (slice_cmp nat_cmp k (rc_str_bytes l))) es) ≡ is_among k (texts ps)
+  found k es ps made = looked_up k es ∙ (ap (λ qs. is_among k (texts qs)) made ∙ among-in_key_order k ps)
 
   -- one more pair
   pub made-push : (es : List (RcStr Global × A)) (ps : List (RcStr Global × A)) (k : RcStr Global) (v : A) → keyed es ≡ in_key_order (keyed ps) → keyed (insert_entry text_cmp es k v) ≡ in_key_order (keyed (ps ++ ((k, v) ∷ [])))
@@ -94,9 +103,9 @@ module _ {A : Type 0} where
       ∙ (sym (in_key_order-push (keyed ps) (rc_str_bytes k, v)) ∙ ap in_key_order (sym (map-append (λ p. (rc_str_bytes p.0, p.1)) ps ((k, v) ∷ [])))))
 
   -- the keys with one more
-  pub keys-push : (ps qs : List (RcStr Global × A)) (k : RcStr Global) (v : A) → keys_of (keyed (ps ++ ((k, v) ∷ qs))) ≡ keys_of (keyed ps) ++ (rc_str_bytes k ∷ keys_of (keyed qs))
-  keys-push [] qs k v = refl
-  keys-push (p ∷ ps) qs k v = ap (λ ks. rc_str_bytes p.0 ∷ ks) (keys-push ps qs k v)
+  pub texts-push : (ps qs : List (RcStr Global × A)) (k : RcStr Global) (v : A) → texts (keyed (ps ++ ((k, v) ∷ qs))) ≡ texts (keyed ps) ++ (rc_str_bytes k ∷ texts (keyed qs))
+  texts-push [] qs k v = refl
+  texts-push (p ∷ ps) qs k v = ap (λ ks. rc_str_bytes p.0 ∷ ks) (texts-push ps qs k v)
 
 and_true : (a b : Bool) → (a && b) ≡ true → (a ≡ true) × (b ≡ true)
 and_true true b h = (refl, h)

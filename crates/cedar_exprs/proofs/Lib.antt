@@ -1,4 +1,13 @@
+pub mod Nodes
 pub mod Records
-pub mod Rebuilt
 pub mod DistinctKeys
-pub mod TreeOps
+pub mod KeyOrder
+pub mod RisingKeys
+pub mod Rebuilt
+pub mod BuildingChildren
+pub mod Leaves
+pub mod Levels
+pub mod Derived
+pub mod Walks
+pub mod Outside
+pub mod OutsideBare

@@ -7,9 +7,9 @@ use Rattle.std.specs.BTreeMap.{insert_entry}
 use Rattle.std.specs.Rc.{rc_str_bytes}
 use Rattle.std.specs.declared.rc.RcStr.{RcStr}
 use Rattle.std.proofs.lemmas.List.{take_all}
-use Rattle.cedar_exprs.specs.Bare.{trees_of}
-use Rattle.cedar_exprs.specs.Fold.{Env}
-use Rattle.cedar_exprs.specs.Trees.{substituted, all_substituted, fields_substituted}
+use Rattle.cedar_builders.specs.Bare.{trees_of}
+use Rattle.cedar_builders.specs.Environment.{Env}
+use Rattle.cedar_builders.specs.Trees.{substituted, all_substituted, fields_substituted}
 use Rattle.cedar_exprs.specs.View.{bare, bares, fields}
 use Rattle.cedar_exprs.proofs.Records.{Entry, text_cmp, above_first}
 use Rattle.cedar_exprs.specs.declared.expr.Expr.{Expr}

@@ -1,5 +1,5 @@
 -- The bare fields of a map, and of a record.
-use Rattle.std.proofs.Common.{◌≡◌, List, [], ◌∷◌, ◌++◌, map, Ordering, Less, Equal, Greater, nat_cmp, Global, refl, ap, ◌∙◌, BTreeMap, rules}
+use Rattle.std.proofs.Common.{◌≡◌, List, [], ◌∷◌, ◌++◌, map, Ordering, Less, Greater, nat_cmp, Global, refl, ap, ◌∙◌, BTreeMap}
 use Rattle.std.proofs.lemmas.Cmp.{nat_list_cmp_total}
 use Rattle.std.specs.Cmp.Lexicographic.{slice_cmp}
 use Rattle.std.specs.List.{AllByRecursion}
@@ -8,14 +8,15 @@ use Rattle.std.specs.Ordering.{ordering_reverse}
 use Rattle.std.specs.Rc.{rc_str_bytes}
 use Rattle.std.specs.declared.rc.Rc.{Rc}
 use Rattle.std.specs.declared.rc.RcStr.{RcStr}
-use Rattle.cedar_exprs.specs.Bare.{Bare, Record, field, fields_of}
-use Rattle.cedar_exprs.specs.View.{bare, bare_kind, bare_step, node_step, fields}
+use Rattle.cedar_builders.specs.Bare.{Bare, Record, field, fields_of}
+use Rattle.cedar_exprs.specs.View.{bare, bare_kind, bare_step, node_step, fields, kind_of}
 use Rattle.cedar_exprs.specs.Data.{held, held_values, values_of, holds, child}
 use Rattle.cedar_exprs.specs.Keys.{keyed, in_key_order, record_fields, record_datas}
-use Rattle.cedar_exprs.specs.Node.{kind_of, builder_data, IsMadeBy}
+use Rattle.cedar_exprs.specs.Node.{builder_data, IsMadeBy}
 use Rattle.cedar_exprs.specs.declared.builder.ExprBuilder.{ExprBuilder}
 use Rattle.cedar_exprs.specs.declared.expr.Expr.{Expr, fold_out-Expr}
-use Rattle.cedar_exprs.specs.declared.expr.ExprKind.{Record as RecordOf, the_lemmas}
+use Rattle.cedar_exprs.specs.declared.expr.ExprKind.{Record as RecordOf}
+use Rattle.cedar_exprs.proofs.Nodes.{bare_record}
 
 -- an entry of the map of a record
 abbrev pub Entry : Type 0 → Type 0
@@ -23,9 +24,6 @@ Entry T = RcStr Global × Expr T
 
 abbrev pub text_cmp : RcStr Global → RcStr Global → Ordering
 text_cmp a b = slice_cmp nat_cmp (rc_str_bytes a) (rc_str_bytes b)
-
-bare_record : {T : Type 0} (m : Rc (BTreeMap (RcStr Global) (Expr T)) Global) → bare_kind (RecordOf m) ≡ Record (fields m.value.entries)
-bare_record m = search (rules, the_lemmas)
 
 pub bare_kind_of : {T : Type 0} (e : Expr T) → bare e ≡ bare_kind (kind_of e)
 bare_kind_of {T} e = fold_out-Expr T Bare Bare bare_step node_step e

@@ -2,7 +2,7 @@
 use Rattle.std.specs.Prelude.{Bool, IsTrue, ⊤, List, [], ◌∷◌, map, Option, Some, None}
 use Rattle.std.specs.Global.{Global}
 use Rattle.std.specs.declared.rc.RcStr.{RcStr}
-use Rattle.cedar_exprs.specs.Trees.{bool_of}
+use Rattle.cedar_builders.specs.Trees.{bool_of}
 use Rattle.cedar_exprs.specs.View.{bare}
 use Rattle.cedar_exprs.specs.declared.expr.Expr.{Expr, Expr-F, fold-Expr}
 use Rattle.cedar_exprs.specs.declared.expr.ExprKind.{ExprKind, ExprKind-F, fold-ExprKind}
@@ -40,14 +40,21 @@ values_of (e ∷ es) = child e.1 (values_of es)
 abbrev pub held_step : {T : Type 0} → ExprKind-F T (Datas T) (Data T) → Datas T
 held_step (ExprKind-F.Lit l) = no_data
 held_step (ExprKind-F.Var v) = no_data
+held_step (ExprKind-F.Slot s) = no_data
 held_step (ExprKind-F.Unknown u) = no_data
 held_step (ExprKind-F.If a b c) = child a.value (child b.value (child c.value no_data))
 held_step (ExprKind-F.And a b) = child a.value (child b.value no_data)
 held_step (ExprKind-F.Or a b) = child a.value (child b.value no_data)
 held_step (ExprKind-F.UnaryApp o a) = child a.value no_data
 held_step (ExprKind-F.BinaryApp o a b) = child a.value (child b.value no_data)
+held_step (ExprKind-F.ExtensionFunctionApp n es) = datas_of es.value.items
+held_step (ExprKind-F.GetAttr a k) = child a.value no_data
+held_step (ExprKind-F.HasAttr a k) = child a.value no_data
+held_step (ExprKind-F.ExtHasAttr a ks) = child a.value no_data
+held_step (ExprKind-F.Like a p) = child a.value no_data
 held_step (ExprKind-F.Set es) = datas_of es.value.items
 held_step (ExprKind-F.Record es) = values_of es.value.entries
+held_step (ExprKind-F.Is a n) = child a.value no_data
 
 abbrev pub holds_step : {T : Type 0} → Expr-F T (Datas T) (Data T) → Data T
 holds_step e = holds e.«data» e.expr_kind

@@ -1,26 +1,16 @@
 -- Pairs of keys and values, as they come and in the order of their keys.
-use Rattle.std.specs.Prelude.{◌≡◌, Bool, true, false, not, ◌&&◌, IsTrue, List, [], ◌∷◌, ◌++◌, map, fold, nat_eq}
+use Rattle.std.specs.Prelude.{◌≡◌, IsTrue, List, [], ◌∷◌, ◌++◌, map, fold}
 use Rattle.std.specs.Ordering.{nat_cmp}
 use Rattle.std.specs.Global.{Global}
-use Rattle.std.specs.List.{list_any}
 use Rattle.std.specs.Rc.{rc_str_bytes}
 use Rattle.std.specs.BTreeMap.{insert_entry}
-use Rattle.std.specs.Cmp.Lexicographic.{slice_cmp, pointwise}
+use Rattle.std.specs.Cmp.Lexicographic.{slice_cmp}
 use Rattle.std.specs.declared.rc.RcStr.{RcStr}
-use Rattle.cedar_exprs.specs.Terms.{Text}
-use Rattle.cedar_exprs.specs.Bare.{Fields, fields_of}
+use Rattle.cedar_builders.specs.Bare.{Text, Fields, fields_of}
+use Rattle.cedar_builders.specs.Keys.{is_among, are_distinct}
 use Rattle.cedar_exprs.specs.View.{bare}
 use Rattle.cedar_exprs.specs.Data.{Datas, held, values_of}
 use Rattle.cedar_exprs.specs.declared.expr.Expr.{Expr}
-
--- whether a key is one of these
-abbrev pub is_among : Text → List Text → Bool
-is_among k ks = list_any (λ l. pointwise nat_eq k l) ks
-
--- whether no key stands twice
-abbrev pub are_distinct : List Text → Bool
-are_distinct [] = true
-are_distinct (k ∷ ks) = not (is_among k ks) && are_distinct ks
 
 -- the pairs in the order of their keys: each is put to its place in turn
 abbrev pub in_key_order : {A : Type 0} → List (Text × A) → List (Text × A)
@@ -29,9 +19,6 @@ in_key_order ps = fold (λ es p. insert_entry (slice_cmp nat_cmp) es p.0 p.1) []
 -- pairs with each key as its text
 abbrev pub keyed : {A : Type 0} → List (RcStr Global × A) → List (Text × A)
 keyed = map (λ p. (rc_str_bytes p.0, p.1))
-
-abbrev pub keys_of : {A : Type 0} → List (Text × A) → List Text
-keys_of = map (λ p. p.0)
 
 -- the first key that stands behind an equal one
 pub record IsFirstRepeat (ks : List Text) (k : Text) : Type 0 where

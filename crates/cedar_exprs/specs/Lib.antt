@@ -1,11 +1,8 @@
-pub mod Terms
-pub mod Bare
-pub mod Ops
-pub mod Fold
-pub mod Trees
 pub mod View
 pub mod Data
 pub mod Node
 pub mod Keys
-pub mod Errors
-pub mod Environment
+pub mod RisingKeys
+pub mod Walks
+pub mod Outside
+pub mod Restricted

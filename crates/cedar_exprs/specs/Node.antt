@@ -1,24 +1,15 @@
--- The outermost node of an expression, and the node that a builder makes.
-use Rattle.std.specs.Prelude.{◌≡◌, Option, None}
-use Rattle.cedar_terms.specs.declared.ops.UnaryOp.TheVariants.{Not}
-use Rattle.cedar_exprs.specs.Bare.{Bare, UnaryApp}
-use Rattle.cedar_exprs.specs.View.{bare}
-use Rattle.cedar_exprs.specs.Data.{Datas, holds, child, no_data, held}
+-- The node that the struct `ExprBuilder` of `expr.rs` makes.
+use Rattle.std.specs.Prelude.{◌≡◌, ⊤, Option, None, Result, Ok, Err}
 use Rattle.cedar_names.specs.Place.{Place}
-use Rattle.cedar_exprs.specs.declared.expr.Expr.{Expr, out-Expr}
-use Rattle.cedar_exprs.specs.declared.expr.ExprKind.{ExprKind}
+use Rattle.cedar_terms.specs.declared.ops.UnaryOp.TheVariants.{Not}
+use Rattle.std.specs.declared.convert.Infallible.{Infallible}
+use Rattle.cedar_builders.specs.declared.expr_builder.BuildFault.{BuildFault}
+use Rattle.cedar_builders.specs.declared.expr_builder.BuildFault.TheVariants.{Build, Memory}
+use Rattle.cedar_builders.specs.Bare.{Bare, UnaryApp}
+use Rattle.cedar_exprs.specs.View.{bare, loc_of}
+use Rattle.cedar_exprs.specs.Data.{Datas, holds, child, no_data, held}
+use Rattle.cedar_exprs.specs.declared.expr.Expr.{Expr}
 use Rattle.cedar_exprs.specs.declared.builder.ExprBuilder.{ExprBuilder}
-
-abbrev pub kind_of : {T : Type 0} → Expr T → ExprKind T
-kind_of e = e.expr_kind
-
--- the place of the outermost node
-abbrev pub loc_of : {T : Type 0} → Expr T → Option Place
-loc_of e = e.source_loc
-
--- the data of the outermost node
-abbrev pub data_of : {T : Type 0} → Expr T → T
-data_of e = e.«data»
 
 -- the place that a builder gives to what it makes
 abbrev pub builder_loc : {T : Type 0} → ExprBuilder T → Option Place
@@ -45,3 +36,13 @@ pub record IsNegated {T : Type 0} (IsDefault : T → Type 0) (b : ExprBuilder T)
 pub record IsPlain (t : Bare) (e : Expr Unit) : Type 0 where
   pub tree : bare e ≡ t
   pub loc : loc_of e ≡ None
+
+-- an error that there is none of
+abbrev pub never : Infallible → ⊥
+never e = elim e [ ]
+
+-- what holds of an expression that was built, want of memory aside
+abbrev pub IfBuilt : {E : Type 0} → Result E (BuildFault Infallible) → (E → Type 0) → Type 0
+IfBuilt (Ok e) P = P e
+IfBuilt (Err (Build d)) P = ⊥
+IfBuilt (Err Memory) P = ⊤

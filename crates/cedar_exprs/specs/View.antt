@@ -1,10 +1,15 @@
 -- The bare tree of an expression, generic in the type of its data.
-use Rattle.std.specs.Prelude.{List, [], ◌∷◌, map}
+use Rattle.std.specs.Prelude.{List, [], ◌∷◌, map, Option}
 use Rattle.std.specs.Global.{Global}
 use Rattle.std.specs.Rc.{rc_str_bytes}
 use Rattle.std.specs.declared.rc.RcStr.{RcStr}
-use Rattle.cedar_exprs.specs.Terms.{bare_literal, bare_unknown}
-use Rattle.cedar_exprs.specs.Bare.{Bare, Lit, Var, Unknown, If, And, Or, UnaryApp, BinaryApp, Set, Record, Bares, trees_of, Fields, no_fields, field}
+use Rattle.cedar_names.specs.Place.{Place}
+use Rattle.cedar_names.specs.PlainNames.{bare_of_name}
+use Rattle.cedar_names.specs.declared.non_empty.NonEmpty.{NonEmpty}
+use Rattle.cedar_terms.specs.Entities.{bare_entity_type}
+use Rattle.cedar_terms.specs.Literals.{bare_literal}
+use Rattle.cedar_terms.specs.Unknowns.{BareUnknown, bare_unknown}
+use Rattle.cedar_builders.specs.Bare.{Text, Bare, Lit, Var, Slot, Unknown, If, And, Or, UnaryApp, BinaryApp, ExtensionFunctionApp, GetAttr, HasAttr, ExtHasAttr, Like, Set, Record, Is, Bares, trees_of, Fields, no_fields, field}
 use Rattle.cedar_exprs.specs.declared.expr.Expr.{Expr, Expr-F, fold-Expr}
 use Rattle.cedar_exprs.specs.declared.expr.ExprKind.{ExprKind, ExprKind-F, fold-ExprKind}
 
@@ -13,18 +18,33 @@ abbrev pub fields_at : List (RcStr Global × Bare) → Fields
 fields_at [] = no_fields
 fields_at (e ∷ es) = field (rc_str_bytes e.0) e.1 (fields_at es)
 
+-- the further attributes of a path
+abbrev pub further : NonEmpty (RcStr Global) → List Text
+further ks = map rc_str_bytes ks.tail.items
+
+-- the tree of an unknown
+abbrev pub unknown_tree : BareUnknown → Bare
+unknown_tree u = Unknown u.name u.annotation
+
 -- one level, whose children are bare trees already
 abbrev pub bare_step : {T : Type 0} → ExprKind-F T Bare Bare → Bare
 bare_step (ExprKind-F.Lit l) = Lit (bare_literal l)
 bare_step (ExprKind-F.Var v) = Var v
-bare_step (ExprKind-F.Unknown u) = Unknown (bare_unknown u)
+bare_step (ExprKind-F.Slot s) = Slot s
+bare_step (ExprKind-F.Unknown u) = unknown_tree (bare_unknown u)
 bare_step (ExprKind-F.If a b c) = If a.value b.value c.value
 bare_step (ExprKind-F.And a b) = And a.value b.value
 bare_step (ExprKind-F.Or a b) = Or a.value b.value
 bare_step (ExprKind-F.UnaryApp o a) = UnaryApp o a.value
 bare_step (ExprKind-F.BinaryApp o a b) = BinaryApp o a.value b.value
+bare_step (ExprKind-F.ExtensionFunctionApp n es) = ExtensionFunctionApp (bare_of_name n) (trees_of es.value.items)
+bare_step (ExprKind-F.GetAttr a k) = GetAttr a.value (rc_str_bytes k)
+bare_step (ExprKind-F.HasAttr a k) = HasAttr a.value (rc_str_bytes k)
+bare_step (ExprKind-F.ExtHasAttr a ks) = ExtHasAttr a.value (rc_str_bytes ks.head) (further ks)
+bare_step (ExprKind-F.Like a p) = Like a.value p
 bare_step (ExprKind-F.Set es) = Set (trees_of es.value.items)
 bare_step (ExprKind-F.Record es) = Record (fields_at es.value.entries)
+bare_step (ExprKind-F.Is a n) = Is a.value (bare_entity_type n)
 
 -- place and data are dropped
 abbrev pub node_step : {T : Type 0} → Expr-F T Bare Bare → Bare
@@ -45,3 +65,13 @@ bares es = trees_of (map bare es)
 -- the keys of a map with the bare trees of its values
 abbrev pub fields : {T : Type 0} → List (RcStr Global × Expr T) → Fields
 fields es = fields_at (map (λ e. (e.0, bare e.1)) es)
+
+-- the outermost node: its kind, its place and its data
+abbrev pub kind_of : {T : Type 0} → Expr T → ExprKind T
+kind_of e = e.expr_kind
+
+abbrev pub loc_of : {T : Type 0} → Expr T → Option Place
+loc_of e = e.source_loc
+
+abbrev pub data_of : {T : Type 0} → Expr T → T
+data_of e = e.«data»

@@ -1,76 +1,58 @@
-// The builder of expressions.
-ghost use Rattle.std.specs.Prelude.{◌≡◌, None, IfOk, IfErr, OnOk, IsTrue};
+//! The builder of expressions (the struct `ExprBuilder` of `expr.rs`).
+ghost use Rattle.std.specs.Prelude.{◌≡◌, None, IfOk, IfErr, OnOk, IsTrue, Ok, map, refl, ⊤};
 ghost use Rattle.std.specs.Option.{option_copied};
-ghost use Rattle.cedar_exprs.specs.Terms.{bare_literal, bare_unknown};
-ghost use Rattle.cedar_exprs.specs.Bare.{Set, Record};
-ghost use Rattle.cedar_exprs.specs.Trees.{tree_ops, bool_of};
-ghost use Rattle.cedar_exprs.specs.View.{bare, bare_kind, bares, fields};
+ghost use Rattle.std.specs.Rc.{rc_str_bytes};
+ghost use Rattle.cedar_names.specs.PlainNames.{bare_of_name};
+ghost use Rattle.cedar_terms.specs.Entities.{bare_entity_type};
+ghost use Rattle.cedar_terms.specs.Literals.{bare_literal, BoolLit};
+ghost use Rattle.cedar_terms.specs.Unknowns.{bare_unknown};
+ghost use Rattle.cedar_builders.specs.Bare.{Bare, Lit, ExtensionFunctionApp, Set, Record};
+ghost use Rattle.cedar_builders.specs.Keys.{keys_of, are_distinct, meant_pairs, IsRising, HasRepeat};
+ghost use Rattle.cedar_builders.specs.Errors.{key_of, OnDuplicateKey};
+ghost use Rattle.cedar_builders.specs.declared.expression_construction_errors.ExpressionConstructionError.TheVariants as error;
+ghost use Rattle.cedar_builders.specs.Trees.{tree_ops};
+ghost use Rattle.cedar_exprs.specs.View.{bare, bare_kind, bares, fields, loc_of, further, unknown_tree};
 ghost use Rattle.cedar_exprs.specs.Data.{held_kind, helds, held_values, no_data, one_child, two_children, three_children, of_connective};
-ghost use Rattle.cedar_exprs.specs.Keys.{keyed, keys_of, are_distinct, record_fields, record_datas};
-ghost use Rattle.cedar_exprs.specs.Errors.{OnKeys};
-ghost use Rattle.cedar_exprs.specs.Node.{builder_loc, builder_data, IsMadeBy};
+ghost use Rattle.cedar_exprs.specs.Keys.{IsFirstRepeat, record_fields, record_datas};
+ghost use Rattle.cedar_exprs.specs.Node.{builder_loc, builder_data, IsMadeBy, never, IfBuilt};
 
-use crate::expr::{Expr, ExprKind};
-use crate::expression_construction_errors::ExpressionConstructionError;
+use crate::expr::{Expr, ExprKind, clone_loc};
 use crate::keys::distinct_keys;
-use crate::literal::Literal;
-use cedar_names::Loc;
-use crate::unknown::Unknown;
-use cedar_terms::{BinaryOp, UnaryOp, Var};
+use cedar_builders::{
+    BuildFault, ExprBuilderInfallibleBuild, ExpressionConstructionError, LawfulExprBuilder,
+    expr_builder,
+};
+use cedar_names::{Loc, Name, NonEmpty, SlotId};
+use cedar_terms::{BinaryOp, EntityType, Literal, Pattern, UnaryOp, Unknown, Var};
 use std::alloc::{AllocError, Global};
 use std::collections::BTreeMap;
+use std::convert::Infallible;
 use std::rc::{Rc, RcStr};
 
 /// Makes expressions, each with the builder's place and data on its outermost node.
+///
+/// `and` and `or` of two Boolean literals make the literal of the result, and `extended_has_attr` of one attribute makes what
+/// `has_attr` does; every other call makes its node.
 #[derive(Debug, Drop)]
 pub struct ExprBuilder<T> {
-    pub(crate) source_loc: Option<Loc>,
+    source_loc: Option<Loc>,
     data: T,
 }
 
 impl<T: Default + Copy> ExprBuilder<T> {
-    /// A builder with default data and no place.
-    pub fn new() -> ExprBuilder<T>
-        ensures loc { builder_loc result ≡ None }
-        ensures default { T.is_default (builder_data result) }
+    /// The builder with the place of this expression.
+    pub fn with_same_source_loc<U>(
+        self,
+        alloc: Global,
+        expr: &Expr<U>,
+    ) -> Result<ExprBuilder<T>, AllocError>
+        ensures loc { IfOk result (λ b. builder_loc b ≡ loc_of expr.now) }
+        ensures of_node { IfOk result (λ b. builder_data b ≡ builder_data self) }
     {
-        ExprBuilder::with_data(T::default())
-    }
-
-    /// A builder with this data and no place.
-    pub fn with_data(data: T) -> ExprBuilder<T>
-        ensures loc { builder_loc result ≡ None }
-        ensures of_node { builder_data result ≡ «data» }
-    {
-        ExprBuilder {
-            source_loc: None,
-            data,
-        }
-    }
-
-    /// The place that is given to what is made.
-    pub fn loc(&self) -> Option<&Loc>
-        ensures { option_copied result ≡ builder_loc self.now }
-    {
-        self.source_loc.as_ref()
-    }
-
-    /// The data that is given to what is made.
-    pub fn data(&self) -> &T
-        ensures { result.now ≡ builder_data self.now }
-    {
-        &self.data
-    }
-
-    /// The builder with this place, or with none.
-    pub fn with_maybe_source_loc(self, source_loc: Option<Loc>) -> ExprBuilder<T>
-        ensures loc { builder_loc result ≡ source_loc }
-        ensures of_node { builder_data result ≡ builder_data self }
-    {
-        ExprBuilder {
-            source_loc,
+        Ok(ExprBuilder {
+            source_loc: clone_loc(alloc, expr.source_loc())?,
             data: self.data,
-        }
+        })
     }
 
     /// The node of this kind, as it stands: nothing is simplified.
@@ -80,45 +62,14 @@ impl<T: Default + Copy> ExprBuilder<T> {
         Expr::new(expr_kind, self.source_loc, self.data)
     }
 
-    /// A literal.
-    pub fn val(self, literal: Literal) -> Expr<T>
-        ensures { IsMadeBy self (tree_ops.lit_of (bare_literal literal)) no_data result }
+    // The literal of a Boolean.
+    fn bool_literal(self, value: bool) -> Expr<T>
+        ensures { IsMadeBy self (Lit (BoolLit value)) no_data result }
     {
-        self.with_expr_kind(ExprKind::Lit(literal))
+        self.with_expr_kind(ExprKind::Lit(Literal::Bool(value)))
     }
 
-    /// An unknown.
-    pub fn unknown(self, unknown: Unknown) -> Expr<T>
-        ensures { IsMadeBy self (tree_ops.unknown_of (bare_unknown unknown)) no_data result }
-    {
-        self.with_expr_kind(ExprKind::Unknown(unknown))
-    }
-
-    /// A variable of the request.
-    pub fn var(self, var: Var) -> Expr<T>
-        ensures { IsMadeBy self (tree_ops.var_of var) no_data result }
-    {
-        self.with_expr_kind(ExprKind::Var(var))
-    }
-
-    /// The second expression where the first holds, else the third.
-    pub fn ite(
-        self,
-        alloc: Global,
-        test_expr: Expr<T>,
-        then_expr: Expr<T>,
-        else_expr: Expr<T>,
-    ) -> Result<Expr<T>, AllocError>
-        ensures { IfOk result (IsMadeBy self (tree_ops.if_of (bare test_expr) (bare then_expr) (bare else_expr)) (three_children test_expr then_expr else_expr)) }
-    {
-        Ok(self.ite_arc(
-            Rc::new(alloc, test_expr)?,
-            Rc::new(alloc, then_expr)?,
-            Rc::new(alloc, else_expr)?,
-        ))
-    }
-
-    /// The same of expressions that are shared.
+    /// The second expression where the first holds, else the third, all of them shared.
     pub fn ite_arc(
         self,
         test_expr: Rc<Expr<T>>,
@@ -134,17 +85,128 @@ impl<T: Default + Copy> ExprBuilder<T> {
         })
     }
 
-    /// The conjunction of two expressions: of two Boolean literals their literal, else the node.
-    pub fn and(
+    /// A record of a shared map.
+    pub fn record_arc(self, values: Rc<BTreeMap<RcStr, Expr<T>>>) -> Expr<T>
+        ensures { IsMadeBy self (Record (fields values.value.entries)) (held_values values.value.entries) result }
+    {
+        self.with_expr_kind(ExprKind::Record(values))
+    }
+}
+
+impl<T: Default + Copy> expr_builder::ExprBuilder for ExprBuilder<T> {
+    type Expr = Expr<T>;
+
+    type Data = T;
+
+    type BuildError = Infallible;
+
+    ghost Meaning = { Bare };
+
+    ghost Fault = { ⊥ };
+
+    ghost ops = { tree_ops };
+
+    ghost meaning_of = { bare };
+
+    ghost fault_of = { never };
+
+    ghost is_new = { λ b. T.is_default (builder_data b) };
+
+    ghost place_of = { builder_loc };
+
+    ghost kept_place = { λ place. place };
+
+    ghost makes_unary = { λ b op arg e. IsMadeBy b (tree_ops.unary_of op (bare arg)) (one_child arg) e };
+
+    ghost makes_binary = { λ b op arg1 arg2 e. IsMadeBy b (tree_ops.binary_of op (bare arg1) (bare arg2)) (two_children arg1 arg2) e };
+
+    fn new() -> ExprBuilder<T>
+        ensures loc { builder_loc result ≡ None }
+        ensures default { T.is_default (builder_data result) }
+    {
+        ExprBuilder {
+            source_loc: None,
+            data: T::default(),
+        }
+    }
+
+    fn with_data(data: T) -> ExprBuilder<T>
+        ensures loc { builder_loc result ≡ None }
+        ensures of_node { builder_data result ≡ «data» }
+    {
+        ExprBuilder {
+            source_loc: None,
+            data,
+        }
+    }
+
+    fn loc(&self) -> Option<&Loc>
+        ensures { option_copied result ≡ builder_loc self.now }
+    {
+        self.source_loc.as_ref()
+    }
+
+    fn data(&self) -> &T
+        ensures { result.now ≡ builder_data self.now }
+    {
+        &self.data
+    }
+
+    fn with_maybe_source_loc(self, source_loc: Option<Loc>) -> ExprBuilder<T>
+        ensures loc { builder_loc result ≡ source_loc }
+        ensures of_node { builder_data result ≡ builder_data self }
+    {
+        ExprBuilder {
+            source_loc,
+            data: self.data,
+        }
+    }
+
+    fn val(self, _alloc: Global, literal: Literal) -> Result<Expr<T>, AllocError>
+        ensures { IfOk result (IsMadeBy self (tree_ops.lit_of (bare_literal literal)) no_data) }
+    {
+        Ok(self.with_expr_kind(ExprKind::Lit(literal)))
+    }
+
+    fn var(self, _alloc: Global, var: Var) -> Result<Expr<T>, AllocError>
+        ensures { IfOk result (IsMadeBy self (tree_ops.var_of var) no_data) }
+    {
+        Ok(self.with_expr_kind(ExprKind::Var(var)))
+    }
+
+    fn slot(self, _alloc: Global, slot: SlotId) -> Result<Expr<T>, AllocError>
+        ensures { IfOk result (IsMadeBy self (tree_ops.slot_of slot) no_data) }
+    {
+        Ok(self.with_expr_kind(ExprKind::Slot(slot)))
+    }
+
+    fn unknown(self, _alloc: Global, unknown: Unknown) -> Result<Expr<T>, AllocError>
+        ensures { IfOk result (IsMadeBy self (unknown_tree (bare_unknown unknown)) no_data) }
+    {
+        Ok(self.with_expr_kind(ExprKind::Unknown(unknown)))
+    }
+
+    fn ite(
         self,
         alloc: Global,
-        left: Expr<T>,
-        right: Expr<T>,
+        test_expr: Expr<T>,
+        then_expr: Expr<T>,
+        else_expr: Expr<T>,
     ) -> Result<Expr<T>, AllocError>
+        ensures { IfOk result (IsMadeBy self (tree_ops.if_of (bare test_expr) (bare then_expr) (bare else_expr)) (three_children test_expr then_expr else_expr)) }
+    {
+        Ok(self.ite_arc(
+            Rc::new(alloc, test_expr)?,
+            Rc::new(alloc, then_expr)?,
+            Rc::new(alloc, else_expr)?,
+        ))
+    }
+
+    fn and(self, alloc: Global, left: Expr<T>, right: Expr<T>) -> Result<Expr<T>, AllocError>
         ensures { IfOk result (IsMadeBy self (tree_ops.and_of (bare left) (bare right)) (of_connective left right)) }
     {
         match (left.as_bool(), right.as_bool()) {
-            (Some(a), Some(b)) => Ok(self.val(Literal::Bool(a && b))),
+            (Some(a), Some(b)) => Ok(self.bool_literal(a && b)),
             _ => Ok(self.with_expr_kind(ExprKind::And {
                 left: Rc::new(alloc, left)?,
                 right: Rc::new(alloc, right)?,
@@ -152,17 +214,11 @@ impl<T: Default + Copy> ExprBuilder<T> {
         }
     }
 
-    /// The disjunction of two expressions: of two Boolean literals their literal, else the node.
-    pub fn or(
-        self,
-        alloc: Global,
-        left: Expr<T>,
-        right: Expr<T>,
-    ) -> Result<Expr<T>, AllocError>
+    fn or(self, alloc: Global, left: Expr<T>, right: Expr<T>) -> Result<Expr<T>, AllocError>
         ensures { IfOk result (IsMadeBy self (tree_ops.or_of (bare left) (bare right)) (of_connective left right)) }
     {
         match (left.as_bool(), right.as_bool()) {
-            (Some(a), Some(b)) => Ok(self.val(Literal::Bool(a || b))),
+            (Some(a), Some(b)) => Ok(self.bool_literal(a || b)),
             _ => Ok(self.with_expr_kind(ExprKind::Or {
                 left: Rc::new(alloc, left)?,
                 right: Rc::new(alloc, right)?,
@@ -170,8 +226,16 @@ impl<T: Default + Copy> ExprBuilder<T> {
         }
     }
 
-    /// An operator on two arguments.
-    pub fn binary_app(
+    fn unary_app(self, alloc: Global, op: UnaryOp, arg: Expr<T>) -> Result<Expr<T>, AllocError>
+        ensures { IfOk result (IsMadeBy self (tree_ops.unary_of op (bare arg)) (one_child arg)) }
+    {
+        Ok(self.with_expr_kind(ExprKind::UnaryApp {
+            op,
+            arg: Rc::new(alloc, arg)?,
+        }))
+    }
+
+    fn binary_app(
         self,
         alloc: Global,
         op: BinaryOp,
@@ -187,50 +251,105 @@ impl<T: Default + Copy> ExprBuilder<T> {
         }))
     }
 
-    /// An operator on one argument.
-    pub fn unary_app(
+    fn call_extension_fn(
         self,
         alloc: Global,
-        op: UnaryOp,
-        arg: Expr<T>,
-    ) -> Result<Expr<T>, AllocError>
-        ensures { IfOk result (IsMadeBy self (tree_ops.unary_of op (bare arg)) (one_child arg)) }
+        fn_name: Name,
+        args: Vec<Expr<T>>,
+    ) -> Result<Expr<T>, BuildFault<Infallible>>
+        ensures { IfBuilt result (IsMadeBy self (ExtensionFunctionApp (bare_of_name fn_name) (bares args.items)) (helds args.items)) }
     {
-        Ok(self.with_expr_kind(ExprKind::UnaryApp {
-            op,
-            arg: Rc::new(alloc, arg)?,
+        Ok(self.with_expr_kind(ExprKind::ExtensionFunctionApp {
+            fn_name,
+            args: Rc::new(alloc, args)?,
         }))
     }
 
-    /// A set by its members, in this order; repeated ones are kept.
-    pub fn set(self, alloc: Global, members: Vec<Expr<T>>) -> Result<Expr<T>, AllocError>
+    fn get_attr(self, alloc: Global, expr: Expr<T>, attr: RcStr) -> Result<Expr<T>, AllocError>
+        ensures { IfOk result (IsMadeBy self (tree_ops.get_of (bare expr) (rc_str_bytes attr)) (one_child expr)) }
+    {
+        Ok(self.with_expr_kind(ExprKind::GetAttr {
+            expr: Rc::new(alloc, expr)?,
+            attr,
+        }))
+    }
+
+    fn has_attr(self, alloc: Global, expr: Expr<T>, attr: RcStr) -> Result<Expr<T>, AllocError>
+        ensures { IfOk result (IsMadeBy self (tree_ops.has_of (bare expr) (rc_str_bytes attr)) (one_child expr)) }
+    {
+        Ok(self.with_expr_kind(ExprKind::HasAttr {
+            expr: Rc::new(alloc, expr)?,
+            attr,
+        }))
+    }
+
+    fn extended_has_attr(
+        self,
+        alloc: Global,
+        expr: Expr<T>,
+        attrs: NonEmpty<RcStr>,
+    ) -> Result<Expr<T>, AllocError>
+        ensures { IfOk result (IsMadeBy self (tree_ops.ext_has_of (bare expr) (rc_str_bytes attrs.head) (further attrs)) (one_child expr)) }
+    {
+        if attrs.tail.is_empty() {
+            return self.has_attr(alloc, expr, attrs.head);
+        }
+        Ok(self.with_expr_kind(ExprKind::ExtHasAttr {
+            expr: Rc::new(alloc, expr)?,
+            attrs,
+        }))
+    }
+
+    fn like(self, alloc: Global, expr: Expr<T>, pattern: Pattern) -> Result<Expr<T>, AllocError>
+        ensures { IfOk result (IsMadeBy self (tree_ops.like_of (bare expr) pattern) (one_child expr)) }
+    {
+        Ok(self.with_expr_kind(ExprKind::Like {
+            expr: Rc::new(alloc, expr)?,
+            pattern,
+        }))
+    }
+
+    fn is_entity_type(
+        self,
+        alloc: Global,
+        expr: Expr<T>,
+        entity_type: EntityType,
+    ) -> Result<Expr<T>, AllocError>
+        ensures { IfOk result (IsMadeBy self (tree_ops.is_of (bare expr) (bare_entity_type entity_type)) (one_child expr)) }
+    {
+        Ok(self.with_expr_kind(ExprKind::Is {
+            expr: Rc::new(alloc, expr)?,
+            entity_type,
+        }))
+    }
+
+    fn set(self, alloc: Global, members: Vec<Expr<T>>) -> Result<Expr<T>, AllocError>
         ensures { IfOk result (IsMadeBy self (Set (bares members.items)) (helds members.items)) }
     {
         Ok(self.with_expr_kind(ExprKind::Set(Rc::new(alloc, members)?)))
     }
 
-    /// A record of a shared map.
-    pub fn record_arc(self, values: Rc<BTreeMap<RcStr, Expr<T>>>) -> Expr<T>
-        ensures { IsMadeBy self (Record (fields values.value.entries)) (held_values values.value.entries) result }
-    {
-        self.with_expr_kind(ExprKind::Record(values))
-    }
-
-    /// A record by its pairs, which may come in any order.
-    ///
-    /// The first pair whose key stood before it is refused as a duplicate key.
-    pub fn record(
+    fn record(
         self,
         alloc: Global,
         pairs: Vec<(RcStr, Expr<T>)>,
     ) -> Result<Expr<T>, ExpressionConstructionError>
-    where
-        T: Drop,
         ensures made { IfOk result (IsMadeBy self (Record (record_fields pairs.items)) (record_datas pairs.items)) }
-        ensures distinct { OnOk result (IsTrue (are_distinct (keys_of (keyed pairs.items)))) }
-        ensures refused { IfErr result (OnKeys (keys_of (keyed pairs.items))) }
+        ensures distinct { OnOk result (IsTrue (are_distinct (keys_of pairs.items))) }
+        ensures refused { IfErr result (OnDuplicateKey (λ e. IsFirstRepeat (keys_of pairs.items) (key_of e))) }
+
+        // What the trait asks of every builder.
+        ensures means { IsRising (keys_of pairs.items) → IfOk result (λ e. bare e ≡ tree_ops.record_of (meant_pairs bare pairs.items)) }
+        ensures accepts { IsRising (keys_of pairs.items) → IfErr result (λ e. e ≡ error.Memory) }
+        ensures refuses { IfErr result (OnDuplicateKey (λ _. HasRepeat (keys_of pairs.items))) }
     {
         let values = distinct_keys(alloc, pairs)?;
         Ok(self.record_arc(Rc::new(alloc, values)?))
     }
+}
+
+impl<T: Default + Copy> ExprBuilderInfallibleBuild for ExprBuilder<T> {}
+
+impl<T: Default + Copy> LawfulExprBuilder for ExprBuilder<T> {
+    ghost lawful = { record { and_of_literals = λ a b. refl; or_of_literals = λ a b. refl; ext_has_of_one = λ m k. refl } };
 }

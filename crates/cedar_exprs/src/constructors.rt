@@ -1,19 +1,23 @@
-// The constructors of expressions without data: what the builder without a place makes.
+//! The constructors of expressions without data and places (`expr.rs`): what the builder makes that has neither.
 ghost use Rattle.std.specs.Prelude.{◌≡◌, IfOk, IfErr, OnOk, IsTrue};
-ghost use Rattle.cedar_exprs.specs.Terms.{bare_literal, bare_unknown};
-ghost use Rattle.cedar_exprs.specs.Bare.{Set, Record};
-ghost use Rattle.cedar_exprs.specs.Trees.{tree_ops};
-ghost use Rattle.cedar_exprs.specs.View.{bare, bares, fields};
-ghost use Rattle.cedar_exprs.specs.Keys.{keyed, keys_of, are_distinct, record_fields};
-ghost use Rattle.cedar_exprs.specs.Errors.{OnKeys};
+ghost use Rattle.std.specs.Rc.{rc_str_bytes};
+ghost use Rattle.cedar_names.specs.PlainNames.{bare_of_name};
+ghost use Rattle.cedar_terms.specs.Entities.{bare_entity_type};
+ghost use Rattle.cedar_terms.specs.Literals.{bare_literal};
+ghost use Rattle.cedar_terms.specs.Unknowns.{bare_unknown};
+ghost use Rattle.cedar_builders.specs.Bare.{ExtensionFunctionApp, Set, Record};
+ghost use Rattle.cedar_builders.specs.Keys.{keys_of, are_distinct};
+ghost use Rattle.cedar_builders.specs.Errors.{key_of, OnDuplicateKey};
+ghost use Rattle.cedar_builders.specs.Trees.{tree_ops};
+ghost use Rattle.cedar_exprs.specs.View.{bare, bares, fields, further, unknown_tree};
+ghost use Rattle.cedar_exprs.specs.Keys.{IsFirstRepeat, record_fields};
 ghost use Rattle.cedar_exprs.specs.Node.{IsPlain};
 
 use crate::builder::ExprBuilder;
-use crate::expr::Expr;
-use crate::expression_construction_errors::ExpressionConstructionError;
-use crate::literal::Literal;
-use crate::unknown::Unknown;
-use cedar_terms::{BinaryOp, UnaryOp, Var};
+use crate::expr::{Expr, ExprKind};
+use cedar_builders::{BuildFault, ExprBuilder as _, ExpressionConstructionError};
+use cedar_names::{Name, NonEmpty, SlotId};
+use cedar_terms::{BinaryOp, EntityType, Literal, Pattern, UnaryOp, Unknown, Var};
 use std::alloc::{AllocError, Global};
 use std::collections::BTreeMap;
 use std::rc::{Rc, RcStr};
@@ -23,21 +27,28 @@ impl Expr<()> {
     pub fn val(literal: Literal) -> Expr<()>
         ensures { IsPlain (tree_ops.lit_of (bare_literal literal)) result }
     {
-        ExprBuilder::new().val(literal)
+        ExprBuilder::new().with_expr_kind(ExprKind::Lit(literal))
     }
 
     /// A variable of the request.
     pub fn var(var: Var) -> Expr<()>
         ensures { IsPlain (tree_ops.var_of var) result }
     {
-        ExprBuilder::new().var(var)
+        ExprBuilder::new().with_expr_kind(ExprKind::Var(var))
     }
 
-    /// An unknown.
-    pub fn unknown(unknown: Unknown) -> Expr<()>
-        ensures { IsPlain (tree_ops.unknown_of (bare_unknown unknown)) result }
+    /// A slot of a template.
+    pub fn slot(slot: SlotId) -> Expr<()>
+        ensures { IsPlain (tree_ops.slot_of slot) result }
     {
-        ExprBuilder::new().unknown(unknown)
+        ExprBuilder::new().with_expr_kind(ExprKind::Slot(slot))
+    }
+
+    /// A value that is not known yet.
+    pub fn unknown(unknown: Unknown) -> Expr<()>
+        ensures { IsPlain (unknown_tree (bare_unknown unknown)) result }
+    {
+        ExprBuilder::new().with_expr_kind(ExprKind::Unknown(unknown))
     }
 
     /// The second expression where the first holds, else the third.
@@ -103,6 +114,64 @@ impl Expr<()> {
         ExprBuilder::new().set(alloc, members)
     }
 
+    /// A call of an extension function.
+    pub fn call_extension_fn(
+        alloc: Global,
+        fn_name: Name,
+        args: Vec<Expr<()>>,
+    ) -> Result<Expr<()>, AllocError>
+        ensures { IfOk result (IsPlain (ExtensionFunctionApp (bare_of_name fn_name) (bares args.items))) }
+    {
+        match ExprBuilder::new().call_extension_fn(alloc, fn_name, args) {
+            Ok(call) => Ok(call),
+            Err(BuildFault::Build(never)) => match never {},
+            Err(BuildFault::Memory) => Err(AllocError),
+        }
+    }
+
+    /// `expr.attr`: an attribute of an entity or a field of a record.
+    pub fn get_attr(alloc: Global, expr: Expr<()>, attr: RcStr) -> Result<Expr<()>, AllocError>
+        ensures { IfOk result (IsPlain (tree_ops.get_of (bare expr) (rc_str_bytes attr))) }
+    {
+        ExprBuilder::new().get_attr(alloc, expr, attr)
+    }
+
+    /// `expr has attr`: whether an entity has the attribute, or a record the field.
+    pub fn has_attr(alloc: Global, expr: Expr<()>, attr: RcStr) -> Result<Expr<()>, AllocError>
+        ensures { IfOk result (IsPlain (tree_ops.has_of (bare expr) (rc_str_bytes attr))) }
+    {
+        ExprBuilder::new().has_attr(alloc, expr, attr)
+    }
+
+    /// `expr has a.b.c`: whether each attribute is there in turn. Of one attribute it makes what `has_attr` does.
+    pub fn extended_has_attr(
+        alloc: Global,
+        expr: Expr<()>,
+        attrs: NonEmpty<RcStr>,
+    ) -> Result<Expr<()>, AllocError>
+        ensures { IfOk result (IsPlain (tree_ops.ext_has_of (bare expr) (rc_str_bytes attrs.head) (further attrs))) }
+    {
+        ExprBuilder::new().extended_has_attr(alloc, expr, attrs)
+    }
+
+    /// `expr like pattern`: whether the pattern matches the text.
+    pub fn like(alloc: Global, expr: Expr<()>, pattern: Pattern) -> Result<Expr<()>, AllocError>
+        ensures { IfOk result (IsPlain (tree_ops.like_of (bare expr) pattern)) }
+    {
+        ExprBuilder::new().like(alloc, expr, pattern)
+    }
+
+    /// `expr is entity_type`: whether the entity is of the type.
+    pub fn is_entity_type(
+        alloc: Global,
+        expr: Expr<()>,
+        entity_type: EntityType,
+    ) -> Result<Expr<()>, AllocError>
+        ensures { IfOk result (IsPlain (tree_ops.is_of (bare expr) (bare_entity_type entity_type))) }
+    {
+        ExprBuilder::new().is_entity_type(alloc, expr, entity_type)
+    }
+
     /// A record by its pairs, which may come in any order.
     ///
     /// The first pair whose key stood before it is refused as a duplicate key.
@@ -111,8 +180,8 @@ impl Expr<()> {
         pairs: Vec<(RcStr, Expr<()>)>,
     ) -> Result<Expr<()>, ExpressionConstructionError>
         ensures made { IfOk result (IsPlain (Record (record_fields pairs.items))) }
-        ensures distinct { OnOk result (IsTrue (are_distinct (keys_of (keyed pairs.items)))) }
-        ensures refused { IfErr result (OnKeys (keys_of (keyed pairs.items))) }
+        ensures distinct { OnOk result (IsTrue (are_distinct (keys_of pairs.items))) }
+        ensures refused { IfErr result (OnDuplicateKey (λ e. IsFirstRepeat (keys_of pairs.items) (key_of e))) }
     {
         ExprBuilder::new().record(alloc, pairs)
     }
@@ -128,125 +197,133 @@ impl Expr<()> {
     pub fn not(alloc: Global, arg: Expr<()>) -> Result<Expr<()>, AllocError>
         ensures { IfOk result (IsPlain (tree_ops.unary_of UnaryOp.Not (bare arg))) }
     {
-        ExprBuilder::new().not(alloc, arg)
+        Expr::unary_app(alloc, UnaryOp::Not, arg)
     }
 
     /// `-arg`.
     pub fn neg(alloc: Global, arg: Expr<()>) -> Result<Expr<()>, AllocError>
         ensures { IfOk result (IsPlain (tree_ops.unary_of UnaryOp.Neg (bare arg))) }
     {
-        ExprBuilder::new().neg(alloc, arg)
+        Expr::unary_app(alloc, UnaryOp::Neg, arg)
     }
 
     /// `arg.isEmpty()`: whether the set has no member.
     pub fn is_empty(alloc: Global, arg: Expr<()>) -> Result<Expr<()>, AllocError>
         ensures { IfOk result (IsPlain (tree_ops.unary_of UnaryOp.IsEmpty (bare arg))) }
     {
-        ExprBuilder::new().is_empty(alloc, arg)
+        Expr::unary_app(alloc, UnaryOp::IsEmpty, arg)
     }
 
     /// `arg1 == arg2`.
     pub fn is_eq(alloc: Global, arg1: Expr<()>, arg2: Expr<()>) -> Result<Expr<()>, AllocError>
         ensures { IfOk result (IsPlain (tree_ops.binary_of BinaryOp.Eq (bare arg1) (bare arg2))) }
     {
-        ExprBuilder::new().is_eq(alloc, arg1, arg2)
+        Expr::binary_app(alloc, BinaryOp::Eq, arg1, arg2)
     }
 
     /// `arg1 < arg2`.
     pub fn less(alloc: Global, arg1: Expr<()>, arg2: Expr<()>) -> Result<Expr<()>, AllocError>
         ensures { IfOk result (IsPlain (tree_ops.binary_of BinaryOp.Less (bare arg1) (bare arg2))) }
     {
-        ExprBuilder::new().less(alloc, arg1, arg2)
+        Expr::binary_app(alloc, BinaryOp::Less, arg1, arg2)
     }
 
     /// `arg1 <= arg2`.
     pub fn lesseq(alloc: Global, arg1: Expr<()>, arg2: Expr<()>) -> Result<Expr<()>, AllocError>
         ensures { IfOk result (IsPlain (tree_ops.binary_of BinaryOp.LessEq (bare arg1) (bare arg2))) }
     {
-        ExprBuilder::new().lesseq(alloc, arg1, arg2)
+        Expr::binary_app(alloc, BinaryOp::LessEq, arg1, arg2)
     }
 
     /// `arg1 + arg2`.
     pub fn add(alloc: Global, arg1: Expr<()>, arg2: Expr<()>) -> Result<Expr<()>, AllocError>
         ensures { IfOk result (IsPlain (tree_ops.binary_of BinaryOp.Add (bare arg1) (bare arg2))) }
     {
-        ExprBuilder::new().add(alloc, arg1, arg2)
+        Expr::binary_app(alloc, BinaryOp::Add, arg1, arg2)
     }
 
     /// `arg1 - arg2`.
     pub fn sub(alloc: Global, arg1: Expr<()>, arg2: Expr<()>) -> Result<Expr<()>, AllocError>
         ensures { IfOk result (IsPlain (tree_ops.binary_of BinaryOp.Sub (bare arg1) (bare arg2))) }
     {
-        ExprBuilder::new().sub(alloc, arg1, arg2)
+        Expr::binary_app(alloc, BinaryOp::Sub, arg1, arg2)
     }
 
     /// `arg1 * arg2`.
     pub fn mul(alloc: Global, arg1: Expr<()>, arg2: Expr<()>) -> Result<Expr<()>, AllocError>
         ensures { IfOk result (IsPlain (tree_ops.binary_of BinaryOp.Mul (bare arg1) (bare arg2))) }
     {
-        ExprBuilder::new().mul(alloc, arg1, arg2)
+        Expr::binary_app(alloc, BinaryOp::Mul, arg1, arg2)
     }
 
     /// `arg1 in arg2`: membership in the hierarchy.
     pub fn is_in(alloc: Global, arg1: Expr<()>, arg2: Expr<()>) -> Result<Expr<()>, AllocError>
         ensures { IfOk result (IsPlain (tree_ops.binary_of BinaryOp.In (bare arg1) (bare arg2))) }
     {
-        ExprBuilder::new().is_in(alloc, arg1, arg2)
+        Expr::binary_app(alloc, BinaryOp::In, arg1, arg2)
     }
 
     /// `arg1.contains(arg2)`: whether the set has the member.
     pub fn contains(alloc: Global, arg1: Expr<()>, arg2: Expr<()>) -> Result<Expr<()>, AllocError>
         ensures { IfOk result (IsPlain (tree_ops.binary_of BinaryOp.Contains (bare arg1) (bare arg2))) }
     {
-        ExprBuilder::new().contains(alloc, arg1, arg2)
+        Expr::binary_app(alloc, BinaryOp::Contains, arg1, arg2)
     }
 
     /// `arg1.containsAll(arg2)`: whether the first set contains the second.
-    pub fn contains_all(alloc: Global, arg1: Expr<()>, arg2: Expr<()>) -> Result<Expr<()>, AllocError>
+    pub fn contains_all(
+        alloc: Global,
+        arg1: Expr<()>,
+        arg2: Expr<()>,
+    ) -> Result<Expr<()>, AllocError>
         ensures { IfOk result (IsPlain (tree_ops.binary_of BinaryOp.ContainsAll (bare arg1) (bare arg2))) }
     {
-        ExprBuilder::new().contains_all(alloc, arg1, arg2)
+        Expr::binary_app(alloc, BinaryOp::ContainsAll, arg1, arg2)
     }
 
     /// `arg1.containsAny(arg2)`: whether the sets share a member.
-    pub fn contains_any(alloc: Global, arg1: Expr<()>, arg2: Expr<()>) -> Result<Expr<()>, AllocError>
+    pub fn contains_any(
+        alloc: Global,
+        arg1: Expr<()>,
+        arg2: Expr<()>,
+    ) -> Result<Expr<()>, AllocError>
         ensures { IfOk result (IsPlain (tree_ops.binary_of BinaryOp.ContainsAny (bare arg1) (bare arg2))) }
     {
-        ExprBuilder::new().contains_any(alloc, arg1, arg2)
+        Expr::binary_app(alloc, BinaryOp::ContainsAny, arg1, arg2)
     }
 
     /// `arg1.getTag(arg2)`: the tag of an entity.
     pub fn get_tag(alloc: Global, arg1: Expr<()>, arg2: Expr<()>) -> Result<Expr<()>, AllocError>
         ensures { IfOk result (IsPlain (tree_ops.binary_of BinaryOp.GetTag (bare arg1) (bare arg2))) }
     {
-        ExprBuilder::new().get_tag(alloc, arg1, arg2)
+        Expr::binary_app(alloc, BinaryOp::GetTag, arg1, arg2)
     }
 
     /// `arg1.hasTag(arg2)`: whether an entity has the tag.
     pub fn has_tag(alloc: Global, arg1: Expr<()>, arg2: Expr<()>) -> Result<Expr<()>, AllocError>
         ensures { IfOk result (IsPlain (tree_ops.binary_of BinaryOp.HasTag (bare arg1) (bare arg2))) }
     {
-        ExprBuilder::new().has_tag(alloc, arg1, arg2)
+        Expr::binary_app(alloc, BinaryOp::HasTag, arg1, arg2)
     }
 
     /// `!(arg1 == arg2)`: two nodes.
     pub fn noteq(alloc: Global, arg1: Expr<()>, arg2: Expr<()>) -> Result<Expr<()>, AllocError>
         ensures { IfOk result (IsPlain (tree_ops.unary_of UnaryOp.Not (tree_ops.binary_of BinaryOp.Eq (bare arg1) (bare arg2)))) }
     {
-        ExprBuilder::new().noteq(alloc, arg1, arg2)
+        Expr::not(alloc, Expr::is_eq(alloc, arg1, arg2)?)
     }
 
     /// `!(arg1 <= arg2)`: two nodes.
     pub fn greater(alloc: Global, arg1: Expr<()>, arg2: Expr<()>) -> Result<Expr<()>, AllocError>
         ensures { IfOk result (IsPlain (tree_ops.unary_of UnaryOp.Not (tree_ops.binary_of BinaryOp.LessEq (bare arg1) (bare arg2)))) }
     {
-        ExprBuilder::new().greater(alloc, arg1, arg2)
+        Expr::not(alloc, Expr::lesseq(alloc, arg1, arg2)?)
     }
 
     /// `!(arg1 < arg2)`: two nodes.
     pub fn greatereq(alloc: Global, arg1: Expr<()>, arg2: Expr<()>) -> Result<Expr<()>, AllocError>
         ensures { IfOk result (IsPlain (tree_ops.unary_of UnaryOp.Not (tree_ops.binary_of BinaryOp.Less (bare arg1) (bare arg2)))) }
     {
-        ExprBuilder::new().greatereq(alloc, arg1, arg2)
+        Expr::not(alloc, Expr::less(alloc, arg1, arg2)?)
     }
 }

@@ -1,17 +1,18 @@
 // Expression trees.
 ghost use Rattle.std.specs.Prelude.{◌≡◌, IfOk};
 ghost use Rattle.std.specs.Option.{option_copied};
-ghost use Rattle.cedar_exprs.specs.Trees.{bool_of};
-ghost use Rattle.cedar_exprs.specs.View.{bare, bare_kind};
+ghost use Rattle.cedar_terms.specs.Literals.{bare_literal};
+ghost use Rattle.cedar_builders.specs.Trees.{bool_of, literal_bool};
+ghost use Rattle.cedar_exprs.specs.View.{bare, bare_kind, kind_of, loc_of, data_of};
 ghost use Rattle.cedar_exprs.specs.Data.{held, held_kind};
-ghost use Rattle.cedar_exprs.specs.Node.{kind_of, loc_of, data_of};
+ghost use Rattle.cedar_exprs.specs.RisingKeys.{KeysRise};
 
-use crate::literal::Literal;
-use cedar_names::Loc;
-use crate::unknown::Unknown;
-use cedar_terms::{BinaryOp, UnaryOp, Var};
+use crate::shape;
+use cedar_names::{Loc, Name, NonEmpty, SlotId};
+use cedar_terms::{BinaryOp, EntityType, Literal, Pattern, UnaryOp, Unknown, Var};
 use std::alloc::{AllocError, Global};
 use std::collections::BTreeMap;
+use std::hash::Hasher;
 use std::rc::{Rc, RcStr};
 
 /// The kinds of expressions. Match on it to walk over a tree.
@@ -22,6 +23,8 @@ pub enum ExprKind<T = ()> {
     Lit(Literal),
     /// A variable of the request.
     Var(Var),
+    /// A slot of a template.
+    Slot(SlotId),
     /// A value that is not known yet.
     Unknown(Unknown),
     /// The second where the first holds, else the third.
@@ -51,10 +54,40 @@ pub enum ExprKind<T = ()> {
         arg1: Rc<Expr<T>>,
         arg2: Rc<Expr<T>>,
     },
+    /// A call of an extension function.
+    ExtensionFunctionApp {
+        fn_name: Name,
+        args: Rc<Vec<Expr<T>>>,
+    },
+    /// An attribute of an entity or a field of a record.
+    GetAttr {
+        expr: Rc<Expr<T>>,
+        attr: RcStr,
+    },
+    /// Whether an entity has an attribute, or a record a field.
+    HasAttr {
+        expr: Rc<Expr<T>>,
+        attr: RcStr,
+    },
+    /// Whether the first attribute is there, and in it the second, and so on.
+    ExtHasAttr {
+        expr: Rc<Expr<T>>,
+        attrs: NonEmpty<RcStr>,
+    },
+    /// Whether a text matches a pattern.
+    Like {
+        expr: Rc<Expr<T>>,
+        pattern: Pattern,
+    },
     /// A set by its members, in the order in which they were written.
     Set(Rc<Vec<Expr<T>>>),
     /// A record by its keys and values.
     Record(Rc<BTreeMap<RcStr, Expr<T>>>),
+    /// Whether an entity has a type.
+    Is {
+        expr: Rc<Expr<T>>,
+        entity_type: EntityType,
+    },
 }
 
 /// An expression: its kind, the place where it was written, if known, and data of the caller's type on each node.
@@ -90,6 +123,15 @@ impl<T> Expr<T> {
         &self.expr_kind
     }
 
+    /// Feeds the kind's number as one byte and then its fields, without places and data: alike expressions feed alike.
+    ///
+    /// The keys of each record are fed in rising order.
+    pub fn hash_shape<H: Hasher>(&self, state: &mut H)
+        ensures keys_rise { KeysRise (bare self.now) }
+    {
+        shape::hash_shape(self, state)
+    }
+
     /// The kind, with the children, of an expression that is given up.
     pub fn into_expr_kind(self) -> ExprKind<T>
     where
@@ -104,16 +146,23 @@ impl<T> Expr<T> {
         ensures { result ≡ bool_of (bare self.now) }
     {
         match &self.expr_kind {
-            ExprKind::Lit(literal) => literal.as_bool(),
+            ExprKind::Lit(literal) => literal_bool(literal),
             ExprKind::Var(_)
+            | ExprKind::Slot(_)
             | ExprKind::Unknown(_)
             | ExprKind::If { .. }
             | ExprKind::And { .. }
             | ExprKind::Or { .. }
             | ExprKind::UnaryApp { .. }
             | ExprKind::BinaryApp { .. }
+            | ExprKind::ExtensionFunctionApp { .. }
+            | ExprKind::GetAttr { .. }
+            | ExprKind::HasAttr { .. }
+            | ExprKind::ExtHasAttr { .. }
+            | ExprKind::Like { .. }
             | ExprKind::Set(_)
-            | ExprKind::Record(_) => None,
+            | ExprKind::Record(_)
+            | ExprKind::Is { .. } => None,
         }
     }
 
@@ -179,15 +228,27 @@ impl<T: Copy> Expr<T> {
     {
         Ok(Expr::new(
             self.expr_kind.clone(alloc)?,
-            clone_loc(alloc, &self.source_loc)?,
+            clone_loc(alloc, self.source_loc())?,
             self.data,
         ))
     }
 }
 
+// The Boolean that a literal is.
+fn literal_bool(literal: &Literal) -> Option<bool>
+    ensures { result ≡ literal_bool (bare_literal literal.now) }
+{
+    match literal {
+        Literal::Bool(b) => Some(*b),
+        Literal::Long(_) => None,
+        Literal::String(_) => None,
+        Literal::EntityUID(_) => None,
+    }
+}
+
 // A copy of a place, if there is one.
-pub(crate) fn clone_loc(alloc: Global, loc: &Option<Loc>) -> Result<Option<Loc>, AllocError>
-    ensures { IfOk result (λ l. l ≡ loc.now) }
+pub(crate) fn clone_loc(alloc: Global, loc: Option<&Loc>) -> Result<Option<Loc>, AllocError>
+    ensures { IfOk result (λ l. l ≡ option_copied loc.entry) }
 {
     match loc {
         None => Ok(None),
@@ -204,6 +265,7 @@ impl<T: Copy> ExprKind<T> {
         match self {
             ExprKind::Lit(l) => Ok(ExprKind::Lit(l.clone(alloc)?)),
             ExprKind::Var(v) => Ok(ExprKind::Var(*v)),
+            ExprKind::Slot(s) => Ok(ExprKind::Slot(*s)),
             ExprKind::Unknown(u) => Ok(ExprKind::Unknown(u.clone(alloc)?)),
             ExprKind::If {
                 test_expr,
@@ -231,8 +293,34 @@ impl<T: Copy> ExprKind<T> {
                 arg1: arg1.clone()?,
                 arg2: arg2.clone()?,
             }),
+            ExprKind::ExtensionFunctionApp { fn_name, args } => {
+                Ok(ExprKind::ExtensionFunctionApp {
+                    fn_name: fn_name.clone(alloc)?,
+                    args: args.clone()?,
+                })
+            }
+            ExprKind::GetAttr { expr, attr } => Ok(ExprKind::GetAttr {
+                expr: expr.clone()?,
+                attr: attr.clone()?,
+            }),
+            ExprKind::HasAttr { expr, attr } => Ok(ExprKind::HasAttr {
+                expr: expr.clone()?,
+                attr: attr.clone()?,
+            }),
+            ExprKind::ExtHasAttr { expr, attrs } => Ok(ExprKind::ExtHasAttr {
+                expr: expr.clone()?,
+                attrs: attrs.clone(alloc)?,
+            }),
+            ExprKind::Like { expr, pattern } => Ok(ExprKind::Like {
+                expr: expr.clone()?,
+                pattern: pattern.clone(alloc)?,
+            }),
             ExprKind::Set(members) => Ok(ExprKind::Set(members.clone()?)),
             ExprKind::Record(values) => Ok(ExprKind::Record(values.clone()?)),
+            ExprKind::Is { expr, entity_type } => Ok(ExprKind::Is {
+                expr: expr.clone()?,
+                entity_type: entity_type.clone(alloc)?,
+            }),
         }
     }
 }

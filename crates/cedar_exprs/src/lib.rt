@@ -1,18 +1,17 @@
-//! Expression trees, the builder that makes them, and substitution that is a fold over bare trees.
+//! Expression trees, the builder that makes them, building by any builder, and substitution that is a fold over bare trees.
 #![tactic(auto)]
 
 pub mod builder;
+mod building;
 mod constructors;
 pub mod expr;
-pub mod expression_construction_errors;
+mod first_fault;
 mod keys;
-pub mod literal;
-mod operators;
-pub mod substitution;
-pub mod unknown;
+pub mod laws;
+pub mod restricted;
+mod shape;
+mod substitution;
 
 pub use builder::ExprBuilder;
 pub use expr::{Expr, ExprKind};
-pub use expression_construction_errors::{DuplicateKeyError, ExpressionConstructionError};
-pub use literal::Literal;
-pub use unknown::Unknown;
+pub use restricted::{RestrictedExpr, RestrictedExprError, SubstituteValue};

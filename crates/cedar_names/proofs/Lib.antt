@@ -1,1 +1,3 @@
 pub mod Split
+pub mod LookUps
+pub mod SameReference

@@ -8,3 +8,5 @@ pub mod Readers
 pub mod PlainNames
 pub mod Slots
 pub mod NonEmpty
+pub mod Resolution
+pub mod RawNames

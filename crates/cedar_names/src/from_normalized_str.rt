@@ -1,6 +1,6 @@
 // Reading of texts in their normalized form.
 ghost use Rattle.std.specs.Prelude.{◌≡◌, ℕ, List, IfOk, IfErr};
-ghost use Rattle.cedar_names.specs.Names.{BareName};
+ghost use Rattle.cedar_names.specs.declared.err.ReservedNameError.{ReservedNameError};
 ghost use Rattle.cedar_names.specs.Readers.{OnReadError};
 
 use crate::err::ParseErrors;
@@ -10,14 +10,14 @@ use std::alloc::Global;
 /// (Cedar's file `from_normalized_str.rs`).
 ///
 /// An implementation says in its ghost members what it reads: `reads` what a value read from a
-/// text is, `outside` where a text is outside the grammar, `forbids` which names of the grammar
-/// are refused, and `kind` the word for what was asked.
+/// text is, `outside` where a text is outside the grammar, `forbids` what the error
+/// holds where a name of the grammar is refused, and `kind` the word for what was asked.
 pub trait FromNormalizedStr: Sized {
     ghost kind: { List ℕ };
 
     ghost outside: { List ℕ → Type 0 };
 
-    ghost forbids: { List ℕ → BareName → Type 0 };
+    ghost forbids: { List ℕ → ReservedNameError → Type 0 };
 
     ghost reads: { List ℕ → Self → Type 0 };
 

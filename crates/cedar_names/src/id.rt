@@ -1,5 +1,5 @@
 // Identifiers.
-ghost use Rattle.std.specs.Prelude.{◌≡◌, IsTrue, IfOk, IfErr, MatchResult, Some, true, false, codes, List, ℕ, nat_eq, refl};
+ghost use Rattle.std.specs.Prelude.{◌≡◌, IsTrue, IfOk, IfErr, MatchResult, Some, None, true, false, codes, List, ℕ, nat_eq, refl};
 ghost use Rattle.std.specs.List.{list_all};
 ghost use Rattle.std.specs.Rc.{rc_str_bytes};
 ghost use Rattle.std.specs.Ordering.{nat_cmp};
@@ -10,7 +10,7 @@ ghost use Rattle.std.proofs.Common.{ap};
 ghost use Rattle.cedar_names.specs.Texts.{bytes_same};
 ghost use Rattle.cedar_names.specs.Grammar.{is_start, is_part, is_any_id, is_keyword, is_id, is_reserved, is_unreserved_id};
 ghost use Rattle.cedar_names.specs.Names.{unqualified};
-ghost use Rattle.cedar_names.specs.Readers.{OnReadError, IsNeverReserved, IsReservedName, refused_name};
+ghost use Rattle.cedar_names.specs.Readers.{OnReadError, IsNeverReserved, IsReservedId, refused_name, refused_place};
 
 use crate::err::{ParseErrors, ReservedNameError};
 use crate::from_normalized_str::FromNormalizedStr;
@@ -296,7 +296,7 @@ impl FromNormalizedStr for UnreservedId {
 
     ghost outside = { λ s. is_id s ≡ false };
 
-    ghost forbids = { IsReservedName };
+    ghost forbids = { IsReservedId };
 
     ghost reads = { λ s u. (u ≡ s) × IsTrue (is_unreserved_id s) };
 
@@ -313,7 +313,7 @@ impl FromNormalizedStr for UnreservedId {
 impl TryFrom<Id> for UnreservedId {
     type Error = ReservedNameError;
 
-    ghost try_from_gives = { λ id r. MatchResult r (λ u. (u ≡ id) × (is_reserved id ≡ false)) (λ e. (refused_name e ≡ unqualified id) × (is_reserved id ≡ true)) };
+    ghost try_from_gives = { λ id r. MatchResult r (λ u. (is_reserved id ≡ false) × (u ≡ id)) (λ e. (is_reserved id ≡ true) × (refused_name e ≡ unqualified id) × (refused_place e ≡ None)) };
 
     fn try_from(value: Id) -> Result<UnreservedId, ReservedNameError> {
         if value.is_reserved() {
@@ -381,8 +381,9 @@ impl AnyId {
     pub fn clone(&self, _alloc: Global) -> Result<AnyId, AllocError>
         ensures { IfOk result (λ id. id ≡ self.now) }
     {
-        let text = self.text.clone()?;
-        Ok(AnyId { text })
+        Ok(AnyId {
+            text: self.text.clone()?,
+        })
     }
 }
 

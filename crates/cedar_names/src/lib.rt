@@ -1,6 +1,7 @@
 // Identifiers and names, by their texts.
 #![tactic(auto)]
 
+mod all_defs;
 mod err;
 mod from_normalized_str;
 mod id;
@@ -9,8 +10,10 @@ mod loc;
 mod name;
 mod non_empty;
 mod plain_name;
+mod raw_name;
 mod slot;
 
+pub use all_defs::AllDefs;
 pub use err::{ParseErrors, ReservedNameError};
 pub use from_normalized_str::FromNormalizedStr;
 pub use id::{AnyId, Id, UnreservedId, is_normalized_ident};
@@ -18,6 +21,7 @@ pub use loc::Loc;
 pub use name::InternalName;
 pub use non_empty::{NonEmpty, NonEmptyIter};
 pub use plain_name::Name;
+pub use raw_name::{ConditionalName, RawName, ReferenceType, TypeNotDefinedError};
 pub use slot::{PrincipalOrResource, Slot, SlotId};
 
 #[cfg(test)]

@@ -18,10 +18,9 @@ use crate::plain_name::Name;
 use std::alloc::{AllocError, Global};
 use std::cmp::Ordering;
 use std::convert::{AsRef, AsStr, TryFrom};
-use std::fmt;
 use std::hash::{Hash, Hasher};
 use std::rc::RcStr;
-use std::slice;
+use std::{fmt, slice};
 
 fn any_reserved(ids: &[Id]) -> bool
     ensures { result ≡ list_any is_reserved ids.now }

@@ -52,7 +52,7 @@ impl NonEmpty<RcStr> {
     {
         let head = self.head.clone()?;
         let tail = clone_texts(alloc, &self.tail)?;
-        Ok(NonEmpty { head, tail })
+        Ok(NonEmpty::new(head, tail))
     }
 }
 
@@ -129,7 +129,7 @@ impl<T: Hash> Hash for NonEmpty<T> {
 }
 
 /// The items of a `NonEmpty`, from the first on.
-#[derive(Drop)]
+#[derive(Debug, Drop)]
 pub struct NonEmptyIter<'a, T> {
     head: Option<&'a T>,
     tail: slice::Iter<'a, T>,

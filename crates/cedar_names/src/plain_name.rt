@@ -31,7 +31,7 @@ impl Name {
     ghost use Rattle.cedar_names.specs.Grammar.{is_id};
     ghost use Rattle.cedar_names.specs.Names.{qualified, unqualified};
     ghost use Rattle.cedar_names.specs.PlainNames.{bare_of_name, place_of_name, bare_name_now};
-    ghost use Rattle.cedar_names.specs.Readers.{OnReadError, IsReservedName};
+    ghost use Rattle.cedar_names.specs.Readers.{OnReadError, IsReservedId};
 
     /// The name of one identifier with this text, with no place.
     ///
@@ -40,7 +40,7 @@ impl Name {
         ensures name { IfOk result (λ n. (bare_of_name n ≡ unqualified s.now) × IsTrue (is_id s.now)) }
         ensures allowed { IfOk result (λ n. has_reserved (bare_of_name n) ≡ false) }
         ensures loc { IfOk result (λ n. place_of_name n ≡ None) }
-        ensures refused { IfErr result (λ e. OnReadError e (codes "Id") (is_id s.now ≡ false) (IsReservedName s.now)) }
+        ensures refused { IfErr result (λ e. OnReadError e (codes "Id") (is_id s.now ≡ false) (IsReservedId s.now)) }
     {
         let name = InternalName::parse_unqualified_name(alloc, s)?;
         Ok(Name::try_from(name)?)
@@ -67,7 +67,7 @@ impl Name {
     pub fn basename(&self, alloc: Global) -> Result<UnreservedId, AllocError>
         ensures { IfOk result (λ id. id ≡ (bare_of_name self.now).basename) }
     {
-        let id = self.name.basename().clone(alloc)?;
+        let id = self.basename_as_ref().clone(alloc)?;
         Ok(UnreservedId::from_unreserved(id))
     }
 
@@ -182,7 +182,7 @@ impl TryFrom<InternalName> for Name {
     ghost use Rattle.cedar_names.specs.PlainNames.{internal};
     ghost use Rattle.cedar_names.specs.Readers.{refused_name, refused_place};
 
-    ghost try_from_gives = { λ n r. MatchResult r (λ m. (internal m ≡ n) × (has_reserved (bare n) ≡ false)) (λ e. (refused_name e ≡ bare n) × (refused_place e ≡ place_of n) × (has_reserved (bare n) ≡ true)) };
+    ghost try_from_gives = { λ n r. MatchResult r (λ m. (has_reserved (bare n) ≡ false) × (internal m ≡ n)) (λ e. (has_reserved (bare n) ≡ true) × (refused_name e ≡ bare n) × (refused_place e ≡ place_of n)) };
 
     fn try_from(name: InternalName) -> Result<Name, ReservedNameError> {
         if name.is_reserved() {

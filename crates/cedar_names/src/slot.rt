@@ -27,14 +27,14 @@ impl SlotId {
     pub fn principal() -> SlotId
         ensures { result ≡ SlotId.Principal }
     {
-        SlotId::Principal
+        Self::Principal
     }
 
     /// The slot `?resource`.
     pub fn resource() -> SlotId
         ensures { result ≡ SlotId.Resource }
     {
-        SlotId::Resource
+        Self::Resource
     }
 
     /// Whether it is `?principal`.

@@ -1,17 +1,63 @@
 // Values from outside: texts, places, error texts, and each call once.
 use super::*;
-use std::collections::{BTreeMap, HashMap};
+use std::collections::{BTreeMap, BTreeSet, HashMap};
 use std::convert::{AsRef, AsStr, TryFrom};
 use std::fmt::Display;
 use std::rc::RcStr;
 use std::test::Fail;
 
-// What is read from the text, printed, or the error's text.
-fn printed<T: FromNormalizedStr + Display + Drop>(rt: &HostRuntime, s: &str) -> Result<String, Fail> {
-    match T::from_normalized_str(rt.alloc(), s) {
+// Texts that are identifiers, by `|`.
+const IDENTIFIERS: &str = "Foo|_foo|foo1|___cedar|permit|_1|_";
+
+const KEYWORDS: &str = "true|false|if|then|else|in|is|like|has";
+
+// Texts that are neither identifiers nor keywords nor names.
+const NO_NAMES: &str =
+    "|foo\n| foo|foo |::foo|foo::|foo::\"bar\"|foo//comment|1foo|fo o|foo-bar|foo:bar|foo :: bar|a:::b|\u{e9}";
+
+// What was read, printed, or the error's text.
+fn text_of<T: Display + Drop>(
+    rt: &HostRuntime,
+    read: Result<T, ParseErrors>,
+) -> Result<String, Fail> {
+    match read {
         Ok(read) => Ok(read.to_string(rt.alloc())?),
         Err(e) => Ok(e.to_string(rt.alloc())?),
     }
+}
+
+fn printed<T: FromNormalizedStr + Display + Drop>(
+    rt: &HostRuntime,
+    s: &str,
+) -> Result<String, Fail> {
+    text_of(rt, T::from_normalized_str(rt.alloc(), s))
+}
+
+// Whether each text, by `|`, is read and printed back.
+fn all_read<T: FromNormalizedStr + Display + Drop>(
+    rt: &HostRuntime,
+    texts: &str,
+) -> Result<bool, Fail> {
+    for s in texts.split('|') {
+        if printed::<T>(rt, s)?.as_str() != s {
+            return Ok(false);
+        }
+    }
+    Ok(true)
+}
+
+// Whether each text, by `|`, is refused with this error text.
+fn all_refused<T: FromNormalizedStr + Display + Drop>(
+    rt: &HostRuntime,
+    texts: &str,
+    error: &str,
+) -> Result<bool, Fail> {
+    for s in texts.split('|') {
+        if printed::<T>(rt, s)?.as_str() != error {
+            return Ok(false);
+        }
+    }
+    Ok(true)
 }
 
 fn id(rt: &HostRuntime, s: &str) -> Result<Id, Fail> {
@@ -30,143 +76,153 @@ fn loc(rt: &HostRuntime, start: usize, stop: usize, s: &str) -> Result<Loc, Fail
     Ok(Loc::new(start, stop, RcStr::from_str(rt.alloc(), s)?))
 }
 
-const NO_IDENTIFIERS: [&str; 13] = [
-    "",
-    " foo",
-    "foo ",
-    "foo\n",
-    "::foo",
-    "foo::",
-    "foo::bar",
-    "foo::\"bar\"",
-    "foo//comment",
-    "1foo",
-    "fo o",
-    "foo-bar",
-    "\u{e9}",
-];
-
-const KEYWORDS: [&str; 9] = [
-    "true", "false", "if", "then", "else", "in", "is", "like", "has",
-];
-
 #[test]
 fn reads_identifiers(rt: HostRuntime) -> Result<(), Fail> {
-    for s in ["Foo", "_foo", "foo1", "___cedar", "permit", "_1", "_"] {
-        assert_eq!(rt; printed::<Id>(&rt, s)?.as_str(), s);
-        assert_eq!(rt; printed::<UnreservedId>(&rt, s)?.as_str(), s);
-        assert_eq!(rt; printed::<AnyId>(&rt, s)?.as_str(), s);
-        assert!(rt; is_normalized_ident(s), "{s}");
-    }
-    for s in NO_IDENTIFIERS {
-        assert_eq!(rt; printed::<Id>(&rt, s)?.as_str(), "not a normalized Id");
-        assert_eq!(rt; printed::<UnreservedId>(&rt, s)?.as_str(), "not a normalized Unreserved Id");
-        assert_eq!(rt; printed::<AnyId>(&rt, s)?.as_str(), "not a normalized AnyId");
-        assert!(rt; !is_normalized_ident(s), "{s}");
-    }
-    for s in KEYWORDS {
-        assert_eq!(rt; printed::<Id>(&rt, s)?.as_str(), "not a normalized Id");
-        assert_eq!(rt; printed::<UnreservedId>(&rt, s)?.as_str(), "not a normalized Unreserved Id");
-        assert_eq!(rt; printed::<AnyId>(&rt, s)?.as_str(), s);
-        assert!(rt; !is_normalized_ident(s), "{s}");
-    }
-    assert_eq!(rt; printed::<Id>(&rt, "__cedar")?.as_str(), "__cedar");
-    assert_eq!(rt; printed::<AnyId>(&rt, "__cedar")?.as_str(), "__cedar");
-    assert_eq!(rt;
-        printed::<UnreservedId>(&rt, "__cedar")?.as_str(),
-        "The name `__cedar` contains `__cedar`, which is reserved"
-    );
-    assert!(rt; !is_normalized_ident("__cedar"));
-    assert!(rt; !is_normalized_ident("1a"));
+    assert!(rt; all_read::<Id>(&rt, IDENTIFIERS)?);
+    assert!(rt; all_read::<UnreservedId>(&rt, IDENTIFIERS)?);
+    assert!(rt; all_read::<AnyId>(&rt, IDENTIFIERS)?);
+    assert!(rt; all_read::<AnyId>(&rt, KEYWORDS)?);
+    assert!(rt; all_read::<Id>(&rt, "__cedar")?);
+    assert!(rt; all_read::<AnyId>(&rt, "__cedar")?);
     Ok(())
 }
 
 #[test]
-fn reads_names(rt: HostRuntime) -> Result<(), Fail> {
-    for s in ["foo", "foo::bar::baz", "___cedar::foo", "permit::foo", "A::_cedar"] {
-        assert_eq!(rt; printed::<InternalName>(&rt, s)?.as_str(), s);
-        assert_eq!(rt; printed::<Name>(&rt, s)?.as_str(), s);
-    }
-    for s in [
-        "foo\n", " foo", "::foo", "foo::", "", "if::__cedar", "foo :: bar", "foo:bar", "a:::b",
-        "foo::\"bar\"", "foo::if", "1a", "\u{e9}",
-    ] {
-        assert_eq!(rt; printed::<InternalName>(&rt, s)?.as_str(), "not a normalized internal name");
-        assert_eq!(rt; printed::<Name>(&rt, s)?.as_str(), "not a normalized Name");
-    }
-    for s in ["A::__cedar::B", "__cedar", "A::__cedar"] {
-        assert_eq!(rt; printed::<InternalName>(&rt, s)?.as_str(), s);
-        match Name::from_normalized_str(rt.alloc(), s) {
-            Err(ParseErrors::Reserved(e)) => {
-                assert_eq!(rt; e.name().to_string(rt.alloc())?.as_str(), s);
-                assert!(rt; e.name().loc().is_some());
-            }
-            _ => assert!(rt; false, "{s} is reserved"),
-        }
-    }
-    assert_eq!(rt;
-        printed::<Name>(&rt, "A::__cedar::B")?.as_str(),
-        "The name `A::__cedar::B` contains `__cedar`, which is reserved"
+fn refuses_what_is_no_identifier(rt: HostRuntime) -> Result<(), Fail> {
+    assert!(rt; all_refused::<Id>(&rt, NO_NAMES, "not a normalized Id")?);
+    assert!(rt; all_refused::<Id>(&rt, KEYWORDS, "not a normalized Id")?);
+    assert!(rt; all_refused::<Id>(&rt, "foo::bar", "not a normalized Id")?);
+    assert!(rt; all_refused::<UnreservedId>(&rt, NO_NAMES, "not a normalized Unreserved Id")?);
+    assert!(rt; all_refused::<UnreservedId>(&rt, KEYWORDS, "not a normalized Unreserved Id")?);
+    assert!(rt; all_refused::<UnreservedId>(&rt, "A::__cedar", "not a normalized Unreserved Id")?);
+    assert!(rt; all_refused::<AnyId>(&rt, NO_NAMES, "not a normalized AnyId")?);
+    assert!(rt;
+        all_refused::<UnreservedId>(
+            &rt,
+            "__cedar",
+            "The name `__cedar` contains `__cedar`, which is reserved"
+        )?
     );
-    for word in [
-        "permit", "forbid", "when", "unless", "principal", "action", "resource", "context",
-    ] {
-        let s = format!(in rt.alloc(); "A::{word}")?;
-        assert_eq!(rt; printed::<Name>(&rt, s.as_str())?.as_str(), s.as_str());
+    Ok(())
+}
+
+#[test]
+fn tells_normalized_identifiers(rt: HostRuntime) {
+    for s in IDENTIFIERS.split('|') {
+        assert!(rt; is_normalized_ident(s), "{s}");
     }
-    for word in KEYWORDS {
-        let s = format!(in rt.alloc(); "A::{word}")?;
-        assert_eq!(rt; printed::<Name>(&rt, s.as_str())?.as_str(), "not a normalized Name");
+    for s in "has|__cedar|1a|foo::bar|foo\n|".split('|') {
+        assert!(rt; !is_normalized_ident(s), "{s}");
     }
+}
+
+#[test]
+fn reads_names(rt: HostRuntime) -> Result<(), Fail> {
+    let names = "foo|foo::bar::baz|___cedar::foo|permit::foo|A::_cedar";
+    assert!(rt; all_read::<InternalName>(&rt, names)?);
+    assert!(rt; all_read::<Name>(&rt, names)?);
+    assert!(rt; all_read::<InternalName>(&rt, "A::__cedar::B|__cedar|A::__cedar")?);
+    assert!(rt;
+        all_read::<Name>(
+            &rt,
+            "A::permit|A::forbid|A::when|A::unless|A::principal|A::action|A::resource|A::context"
+        )?
+    );
+    Ok(())
+}
+
+#[test]
+fn refuses_what_is_no_name(rt: HostRuntime) -> Result<(), Fail> {
+    let no_names =
+        "A::true|A::false|A::if|A::then|A::else|A::in|A::is|A::like|A::has|if::__cedar|if";
+    assert!(rt; all_refused::<InternalName>(&rt, NO_NAMES, "not a normalized internal name")?);
+    assert!(rt; all_refused::<InternalName>(&rt, no_names, "not a normalized internal name")?);
+    assert!(rt; all_refused::<Name>(&rt, NO_NAMES, "not a normalized Name")?);
+    assert!(rt; all_refused::<Name>(&rt, no_names, "not a normalized Name")?);
+    assert!(rt;
+        all_refused::<Name>(
+            &rt,
+            "A::__cedar::B",
+            "The name `A::__cedar::B` contains `__cedar`, which is reserved"
+        )?
+    );
     Ok(())
 }
 
 #[test]
 fn reads_one_identifier_as_a_name(rt: HostRuntime) -> Result<(), Fail> {
-    for s in ["a::b", "a::__cedar", "if", "a b"] {
-        match InternalName::parse_unqualified_name(rt.alloc(), s) {
-            Err(e) => assert_eq!(rt; e.to_string(rt.alloc())?.as_str(), "not a normalized Id"),
-            Ok(_) => assert!(rt; false, "{s} is no identifier"),
-        }
-        match Name::parse_unqualified_name(rt.alloc(), s) {
-            Err(e) => assert_eq!(rt; e.to_string(rt.alloc())?.as_str(), "not a normalized Id"),
-            Ok(_) => assert!(rt; false, "{s} is no identifier"),
-        }
+    let alloc = rt.alloc();
+    for s in "a::b|a::__cedar|if|a b".split('|') {
+        let internal = text_of(&rt, InternalName::parse_unqualified_name(alloc, s))?;
+        assert!(rt; internal.as_str() == "not a normalized Id", "{s}");
+        let plain = text_of(&rt, Name::parse_unqualified_name(alloc, s))?;
+        assert!(rt; plain.as_str() == "not a normalized Id", "{s}");
     }
-    let reserved = InternalName::parse_unqualified_name(rt.alloc(), "__cedar")?;
-    assert!(rt; reserved.is_reserved());
-    assert!(rt; reserved == InternalName::cedar(rt.alloc())?);
-    match Name::parse_unqualified_name(rt.alloc(), "__cedar") {
-        Err(ParseErrors::Reserved(e)) => assert!(rt; *e.name() == reserved),
-        _ => assert!(rt; false, "__cedar is reserved"),
-    }
-    let plain = Name::parse_unqualified_name(rt.alloc(), "foo")?;
+    let reserved = InternalName::parse_unqualified_name(alloc, "__cedar")?;
+    assert!(rt; reserved == InternalName::cedar(alloc)?);
+    let refused = text_of(&rt, Name::parse_unqualified_name(alloc, "__cedar"))?;
+    assert_eq!(rt;
+        refused.as_str(),
+        "The name `__cedar` contains `__cedar`, which is reserved"
+    );
+    let plain = Name::parse_unqualified_name(alloc, "foo")?;
     assert!(rt; plain.loc().is_none());
-    assert_eq!(rt; plain.to_string(rt.alloc())?.as_str(), "foo");
     Ok(())
 }
 
 #[test]
-fn keeps_places(rt: HostRuntime) -> Result<(), Fail> {
+fn keeps_the_place_of_a_text(rt: HostRuntime) -> Result<(), Fail> {
     let whole = loc(&rt, 0, 8, "foo::bar")?;
-    let read = internal(&rt, "foo::bar")?;
-    assert!(rt; read.loc() == Some(&whole));
+    assert!(rt; whole.start == 0 && whole.stop == 8 && whole.src.as_str() == "foo::bar");
+    assert!(rt; internal(&rt, "foo::bar")?.loc() == Some(&whole));
     assert!(rt; name(&rt, "foo::bar")?.loc() == Some(&whole));
-    assert!(rt; InternalName::from(id(&rt, "foo")?).loc().is_none());
-    let place = loc(&rt, 3, 5, "x = A")?;
-    assert!(rt; place.start == 3 && place.stop == 5 && place.src.as_str() == "x = A");
-    let namespace = internal(&rt, "A::B")?;
-    let placed = InternalName::type_in_namespace(
-        rt.alloc(),
-        id(&rt, "C")?,
-        namespace,
-        Some(place.clone(rt.alloc())?),
-    )?;
-    assert_eq!(rt; placed.to_string(rt.alloc())?.as_str(), "A::B::C");
-    assert!(rt; placed.loc() == Some(&place));
-    assert!(rt; placed.clone(rt.alloc())?.loc() == Some(&place));
-    assert!(rt; whole < place && loc(&rt, 3, 4, "z")? < place && loc(&rt, 3, 5, "a")? < place);
     Ok(())
+}
+
+#[test]
+fn keeps_the_place_given(rt: HostRuntime) -> Result<(), Fail> {
+    let alloc = rt.alloc();
+    let place = loc(&rt, 3, 5, "x = A")?;
+    let given = Some(place.clone(alloc)?);
+    let made = InternalName::type_in_namespace(
+        alloc,
+        id(&rt, "C")?,
+        internal(&rt, "A::B")?,
+        given,
+    )?;
+    assert_eq!(rt; made.to_string(alloc)?.as_str(), "A::B::C");
+    assert!(rt; made.clone(alloc)?.loc() == Some(&place));
+    Ok(())
+}
+
+#[test]
+fn orders_places(rt: HostRuntime) -> Result<(), Fail> {
+    let place = loc(&rt, 3, 5, "b")?;
+    assert!(rt; loc(&rt, 2, 9, "z")? < place);
+    assert!(rt; loc(&rt, 3, 4, "z")? < place);
+    assert!(rt; loc(&rt, 3, 5, "a")? < place);
+    assert!(rt; loc(&rt, 3, 5, "b")? == place);
+    Ok(())
+}
+
+fn qualified(rt: &HostRuntime, s: &str, namespace: &str) -> Result<InternalName, Fail> {
+    let namespace = internal(rt, namespace)?;
+    Ok(internal(rt, s)?.qualify_with(rt.alloc(), Some(&namespace))?)
+}
+
+fn qualified_by_name(rt: &HostRuntime, s: &str, namespace: &str) -> Result<InternalName, Fail> {
+    let namespace = name(rt, namespace)?;
+    Ok(internal(rt, s)?.qualify_with_name(rt.alloc(), Some(&namespace))?)
+}
+
+fn plain_qualified(rt: &HostRuntime, s: &str, namespace: &str) -> Result<InternalName, Fail> {
+    let namespace = internal(rt, namespace)?;
+    Ok(name(rt, s)?.qualify_with(rt.alloc(), Some(&namespace))?)
+}
+
+fn plain_qualified_by_name(rt: &HostRuntime, s: &str, namespace: &str) -> Result<Name, Fail> {
+    let namespace = name(rt, namespace)?;
+    Ok(name(rt, s)?.qualify_with_name(rt.alloc(), Some(&namespace))?)
 }
 
 #[test]
@@ -177,128 +233,174 @@ fn qualifies(rt: HostRuntime) -> Result<(), Fail> {
         ("D", "A::B::C", "A::B::C::D"),
         ("B::C::D", "A", "B::C::D"),
     ] {
-        let read = internal(&rt, s)?;
-        let within = internal(&rt, namespace)?;
-        let plain = name(&rt, namespace)?;
-        let made = read.qualify_with(rt.alloc(), Some(&within))?;
-        assert_eq!(rt; made.to_string(rt.alloc())?.as_str(), want);
-        assert!(rt; made.loc() == read.loc());
-        assert!(rt; read.qualify_with_name(rt.alloc(), Some(&plain))? == made);
-        let read_plain = name(&rt, s)?;
-        assert!(rt; read_plain.qualify_with(rt.alloc(), Some(&within))? == made);
-        let made_plain = read_plain.qualify_with_name(rt.alloc(), Some(&plain))?;
-        assert_eq!(rt; made_plain.to_string(rt.alloc())?.as_str(), want);
+        let want = internal(&rt, want)?;
+        assert!(rt; qualified(&rt, s, namespace)? == want);
+        assert!(rt; qualified_by_name(&rt, s, namespace)? == want);
+        assert!(rt; plain_qualified(&rt, s, namespace)? == want);
+        assert!(rt; InternalName::from(plain_qualified_by_name(&rt, s, namespace)?) == want);
     }
-    let alone = internal(&rt, "A")?;
-    assert!(rt; alone.qualify_with(rt.alloc(), None)? == alone);
+    Ok(())
+}
+
+#[test]
+fn qualifies_by_no_namespace(rt: HostRuntime) -> Result<(), Fail> {
+    let alone = name(&rt, "A")?;
+    assert!(rt; alone.qualify_with(rt.alloc(), None)? == internal(&rt, "A")?);
     assert!(rt; alone.qualify_with_name(rt.alloc(), None)? == alone);
+    Ok(())
+}
+
+fn namespace(rt: &HostRuntime, s: &str) -> Result<String, Fail> {
+    Ok(internal(rt, s)?.namespace(rt.alloc())?)
+}
+
+#[test]
+fn shows_namespaces(rt: HostRuntime) -> Result<(), Fail> {
+    for (s, want, reserved) in [
+        ("A::__cedar::B", "A::__cedar", true),
+        ("__cedar", "", true),
+        ("__cedar::A::B", "__cedar::A", true),
+        ("A::__cedar", "A", true),
+        ("__cedarr", "", false),
+        ("A::___cedar::B", "A::___cedar", false),
+    ] {
+        assert_eq!(rt; namespace(&rt, s)?.as_str(), want);
+        assert_eq!(rt; internal(&rt, s)?.is_reserved(), reserved, "{s}");
+    }
     Ok(())
 }
 
 #[test]
 fn shows_parts_of_names(rt: HostRuntime) -> Result<(), Fail> {
-    for (s, namespace, basename, reserved) in [
-        ("A::__cedar::B", "A::__cedar", "B", true),
-        ("__cedar", "", "__cedar", true),
-        ("__cedar::A::B", "__cedar::A", "B", true),
-        ("A::__cedar", "A", "__cedar", true),
-        ("__cedarr", "", "__cedarr", false),
-        ("A::___cedar::B", "A::___cedar", "B", false),
-    ] {
-        let read = internal(&rt, s)?;
-        assert_eq!(rt; read.namespace(rt.alloc())?.as_str(), namespace);
-        assert_eq!(rt; read.basename().as_str(), basename);
-        assert_eq!(rt; read.is_reserved(), reserved, "{s}");
-        assert_eq!(rt; read.basename().is_reserved(), basename == "__cedar");
-        assert_eq!(rt; read.is_unqualified(), read.namespace_components().next().is_none());
-    }
     let plain = name(&rt, "A::B")?;
     assert!(rt; !plain.is_unqualified());
     assert_eq!(rt; plain.basename_as_ref().as_str(), "B");
     assert_eq!(rt; plain.basename(rt.alloc())?.as_str(), "B");
-    assert_eq!(rt; plain.clone(rt.alloc())?.to_string(rt.alloc())?.as_str(), "A::B");
+    assert_eq!(rt;
+        plain.clone(rt.alloc())?.to_string(rt.alloc())?.as_str(),
+        "A::B"
+    );
+    let read = internal(&rt, "A::B")?;
+    let mut parts = read.namespace_components();
+    assert!(rt; parts.next() == Some(&id(&rt, "A")?) && parts.next().is_none());
     Ok(())
 }
 
 #[test]
-fn converts(rt: HostRuntime) -> Result<(), Fail> {
+fn names_its_kinds(rt: HostRuntime) {
+    assert_eq!(rt; Id::describe_self(), "Id");
+    assert_eq!(rt; UnreservedId::describe_self(), "Unreserved Id");
+    assert_eq!(rt; AnyId::describe_self(), "AnyId");
+    assert_eq!(rt; InternalName::describe_self(), "internal name");
+    assert_eq!(rt; Name::describe_self(), "Name");
+}
+
+#[test]
+fn converts_identifiers(rt: HostRuntime) -> Result<(), Fail> {
     let alloc = rt.alloc();
-    match UnreservedId::try_from(id(&rt, "__cedar")?) {
-        Err(e) => {
-            assert_eq!(rt; e.name().to_string(alloc)?.as_str(), "__cedar");
-            assert!(rt; e.clone(alloc)? == e);
-            assert_eq!(rt; e.to_string(alloc)?.as_str(), "The name `__cedar` contains `__cedar`, which is reserved");
-        }
-        Ok(_) => assert!(rt; false),
-    }
     let unreserved = UnreservedId::try_from(id(&rt, "foo")?)?;
     let borrowed: &Id = unreserved.as_ref();
-    assert!(rt; *borrowed == id(&rt, "foo")?);
-    let plain = Name::from(unreserved.clone(alloc)?);
+    assert!(rt; *borrowed == id(&rt, "foo")?.clone(alloc)?);
+    assert_eq!(rt; unreserved.clone(alloc)?.into_smolstr().as_str(), "foo");
+    assert_eq!(rt; unreserved.as_str(), "foo");
+    assert_eq!(rt; Id::from(unreserved).into_smolstr().as_str(), "foo");
+    let any = AnyId::from_normalized_str(alloc, "if")?;
+    assert!(rt; any.clone(alloc)? == any);
+    assert_eq!(rt; any.as_str(), "if");
+    assert_eq!(rt; any.into_smolstr().as_str(), "if");
+    Ok(())
+}
+
+#[test]
+fn converts_names(rt: HostRuntime) -> Result<(), Fail> {
+    let unreserved = UnreservedId::try_from(id(&rt, "foo")?)?;
+    let plain = Name::from(unreserved.clone(rt.alloc())?);
     let borrowed: &InternalName = plain.as_ref();
     assert!(rt; *borrowed == internal(&rt, "foo")?);
-    assert!(rt; plain == Name::unqualified_name(unreserved.clone(alloc)?));
+    assert!(rt; plain == Name::unqualified_name(unreserved.clone(rt.alloc())?));
     assert!(rt; UnreservedId::try_from(plain)? == unreserved);
-    assert_eq!(rt; unreserved.clone(alloc)?.into_smolstr().as_str(), "foo");
-    assert_eq!(rt; Id::from(unreserved).into_smolstr().as_str(), "foo");
+    assert!(rt;
+        InternalName::from(Name::try_from(internal(&rt, "A::B")?)?) == internal(&rt, "A::B")?
+    );
+    assert!(rt; InternalName::from(id(&rt, "A")?) == internal(&rt, "A")?);
+    assert!(rt; Id::try_from(internal(&rt, "A")?)? == id(&rt, "A")?);
+    Ok(())
+}
+
+#[test]
+fn refuses_conversions(rt: HostRuntime) -> Result<(), Fail> {
+    let alloc = rt.alloc();
     assert!(rt; Id::try_from(internal(&rt, "A::B")?).is_err());
     assert!(rt; UnreservedId::try_from(name(&rt, "A::B")?).is_err());
-    assert!(rt; Id::try_from(internal(&rt, "A")?)? == id(&rt, "A")?.clone(alloc)?);
     assert!(rt; Name::try_from(internal(&rt, "A::__cedar")?).is_err());
-    let plain = Name::try_from(internal(&rt, "A::B")?)?;
-    assert!(rt; InternalName::from(plain) == internal(&rt, "A::B")?);
-    let any = AnyId::from_normalized_str(alloc, "if")?;
-    assert_eq!(rt; any.as_str(), "if");
-    assert!(rt; any.clone(alloc)? == any);
-    assert_eq!(rt; any.into_smolstr().as_str(), "if");
+    let refused = UnreservedId::try_from(id(&rt, "__cedar")?)
+        .err()
+        .ok_or("reserved")?;
+    assert!(rt; refused.clone(alloc)? == refused);
+    assert_eq!(rt; refused.name().to_string(alloc)?.as_str(), "__cedar");
     assert_eq!(rt; ParseErrors::Memory.to_string(alloc)?.as_str(), "no memory");
     Ok(())
 }
 
 #[test]
-fn compares_without_places(rt: HostRuntime) -> Result<(), Fail> {
-    let alloc = rt.alloc();
+fn orders_names(rt: HostRuntime) -> Result<(), Fail> {
     assert!(rt; internal(&rt, "B::A")? < internal(&rt, "A::B")?);
     assert!(rt; internal(&rt, "B")? < internal(&rt, "A::B")?);
     assert!(rt; internal(&rt, "A::B")? < internal(&rt, "A::A::B")?);
     assert!(rt; name(&rt, "B::A")? < name(&rt, "A::B")?);
-    assert!(rt; id(&rt, "Z")? < id(&rt, "_a")? && id(&rt, "_a")? < id(&rt, "a")?);
-    let read = internal(&rt, "A::B")?;
-    let made = InternalName::type_in_namespace(alloc, id(&rt, "B")?, internal(&rt, "A")?, None)?;
-    assert!(rt; read == made && read.loc() != made.loc());
-    let mut hashed = HashMap::new(alloc);
-    hashed.insert(read.clone(alloc)?, 1u8)?;
-    hashed.insert(made.clone(alloc)?, 2u8)?;
-    assert_eq!(rt; hashed.len(), 1);
-    assert!(rt; hashed.get(&read) == Some(&2));
-    let mut ordered = BTreeMap::new(alloc);
-    ordered.insert(Name::try_from(read)?, 1u8)?;
-    ordered.insert(Name::try_from(made)?, 2u8)?;
-    assert_eq!(rt; ordered.len(), 1);
-    assert!(rt; ordered.get(&name(&rt, "A::B")?) == Some(&2));
+    assert!(rt; id(&rt, "Z")? < id(&rt, "_a")?);
+    assert!(rt; id(&rt, "_a")? < id(&rt, "a")?);
+    Ok(())
+}
+
+// The name `A::B` with no place.
+fn unplaced(rt: &HostRuntime) -> Result<InternalName, Fail> {
+    let namespace = internal(rt, "A")?;
+    Ok(InternalName::type_in_namespace(rt.alloc(), id(rt, "B")?, namespace, None)?)
+}
+
+#[test]
+fn hashes_without_places(rt: HostRuntime) -> Result<(), Fail> {
+    let mut numbers = HashMap::new(rt.alloc());
+    numbers.insert(internal(&rt, "A::B")?, 1u8)?;
+    numbers.insert(unplaced(&rt)?, 2u8)?;
+    assert_eq!(rt; numbers.len(), 1);
+    assert!(rt; numbers.get(&internal(&rt, "A::B")?) == Some(&2));
     Ok(())
 }
 
 #[test]
-fn has_slots(rt: HostRuntime) -> Result<(), Fail> {
-    let alloc = rt.alloc();
-    for (slot, of, text, is_principal) in [
-        (SlotId::principal(), PrincipalOrResource::Principal, "?principal", true),
-        (SlotId::resource(), PrincipalOrResource::Resource, "?resource", false),
-    ] {
-        assert_eq!(rt; slot.to_string(alloc)?.as_str(), text);
-        assert!(rt; SlotId::from(of) == slot);
-        assert_eq!(rt; slot.is_principal(), is_principal);
-        assert_eq!(rt; slot.is_resource(), !is_principal);
-    }
-    assert!(rt; SlotId::principal() < SlotId::resource());
+fn orders_without_places(rt: HostRuntime) -> Result<(), Fail> {
+    let mut numbers = BTreeMap::new(rt.alloc());
+    numbers.insert(name(&rt, "A::B")?, 1u8)?;
+    numbers.insert(Name::try_from(unplaced(&rt)?)?, 2u8)?;
+    assert_eq!(rt; numbers.len(), 1);
+    assert!(rt; numbers.get(&name(&rt, "A::B")?) == Some(&2));
+    Ok(())
+}
+
+#[test]
+fn has_two_slots(rt: HostRuntime) -> Result<(), Fail> {
+    let (principal, resource) = (SlotId::principal(), SlotId::resource());
+    assert_eq!(rt; principal.to_string(rt.alloc())?.as_str(), "?principal");
+    assert_eq!(rt; resource.to_string(rt.alloc())?.as_str(), "?resource");
+    assert!(rt; SlotId::from(PrincipalOrResource::Principal) == principal);
+    assert!(rt; SlotId::from(PrincipalOrResource::Resource) == resource);
+    assert!(rt; principal.is_principal() && !principal.is_resource());
+    assert!(rt; resource.is_resource() && !resource.is_principal());
+    assert!(rt; principal < resource);
+    Ok(())
+}
+
+#[test]
+fn compares_slots_without_places(rt: HostRuntime) -> Result<(), Fail> {
+    let id = SlotId::resource();
     let placed = Slot {
-        id: SlotId::resource(),
+        id,
         loc: Some(loc(&rt, 0, 1, "?")?),
     };
-    let copy = placed.clone(alloc)?;
-    assert!(rt; copy.loc == placed.loc && copy == placed);
-    assert!(rt; placed == Slot { id: SlotId::resource(), loc: None });
+    assert!(rt; placed.clone(rt.alloc())?.loc == placed.loc);
+    assert!(rt; placed == Slot { id, loc: None });
     Ok(())
 }
 
@@ -320,5 +422,144 @@ fn compares_lists_of_one_or_more(rt: HostRuntime) -> Result<(), Fail> {
     hashed.insert(list, 1u8)?;
     assert!(rt; hashed.get(&copy) == Some(&1));
     assert!(rt; hashed.get(&short).is_none());
+    Ok(())
+}
+
+// The names by `|`, none for no text.
+fn names(rt: &HostRuntime, texts: &str) -> Result<BTreeSet<InternalName>, Fail> {
+    let mut made = BTreeSet::new(rt.alloc());
+    for s in texts.split('|') {
+        if !s.is_empty() {
+            made.insert(internal(rt, s)?)?;
+        }
+    }
+    Ok(made)
+}
+
+// The raw name where it stands in the namespace, none for no text.
+fn reference(
+    rt: &HostRuntime,
+    raw: &str,
+    ns: &str,
+    kind: ReferenceType,
+) -> Result<ConditionalName, Fail> {
+    let raw = RawName::from_normalized_str(rt.alloc(), raw)?;
+    if ns.is_empty() {
+        return Ok(raw.conditionally_qualify_with(rt.alloc(), None, kind)?);
+    }
+    let ns = internal(rt, ns)?;
+    Ok(raw.conditionally_qualify_with(rt.alloc(), Some(&ns), kind)?)
+}
+
+// The name that the reference stands for, printed, or the error's text.
+fn resolved(rt: &HostRuntime, name: ConditionalName, all_defs: &AllDefs) -> Result<String, Fail> {
+    match name.resolve(all_defs) {
+        Ok(name) => Ok(name.to_string(rt.alloc())?),
+        Err(e) => Ok(e.to_string(rt.alloc())?),
+    }
+}
+
+#[test]
+fn resolves_the_first_declared_possibility(rt: HostRuntime) -> Result<(), Fail> {
+    use ReferenceType::{Common, CommonOrEntity, Entity};
+    let rows = [
+        ("Foo", "NS", CommonOrEntity, "Foo", "NS::Foo", "NS::Foo"),
+        ("Foo", "NS", Entity, "Foo", "NS::Foo", "NS::Foo"),
+        ("Foo", "NS", Common, "Foo", "NS::Foo", "Foo"),
+        ("Foo", "NS", CommonOrEntity, "", "", "`Foo` is not declared"),
+        ("Foo", "NS", Common, "NS::Foo|Foo", "", "NS::Foo"),
+        (
+            "A::Foo",
+            "NS",
+            CommonOrEntity,
+            "",
+            "NS::A::Foo",
+            "`A::Foo` is not declared",
+        ),
+        ("Foo", "", Entity, "Foo", "", "`Foo` is not declared"),
+        (
+            "__cedar::String",
+            "NS",
+            Common,
+            "__cedar::String",
+            "",
+            "__cedar::String",
+        ),
+        ("Foo", "", CommonOrEntity, "", "Foo", "Foo"),
+    ];
+    for (raw, ns, kind, common, entity, want) in rows {
+        let all_defs = AllDefs::new(names(&rt, common)?, names(&rt, entity)?);
+        let name = reference(&rt, raw, ns, kind)?;
+        assert_eq!(rt; resolved(&rt, name, &all_defs)?.as_str(), want);
+    }
+    Ok(())
+}
+
+#[test]
+fn refuses_with_the_reference(rt: HostRuntime) -> Result<(), Fail> {
+    let all_defs = AllDefs::new(names(&rt, "B")?, names(&rt, "NS::A::Foo")?);
+    assert!(rt; all_defs.is_defined_as_common(&internal(&rt, "B")?));
+    assert!(rt; all_defs.is_defined_as_entity(&internal(&rt, "NS::A::Foo")?));
+    let name = reference(&rt, "A::Foo", "NS", ReferenceType::CommonOrEntity)?;
+    let copy = name.clone(rt.alloc())?;
+    let refused = name.resolve(&all_defs).err().ok_or("not declared")?;
+    assert!(rt; refused.undefined_types == copy);
+    Ok(())
+}
+
+#[test]
+fn compares_references(rt: HostRuntime) -> Result<(), Fail> {
+    let here = reference(&rt, "Foo", "NS", ReferenceType::Common)?;
+    assert!(rt; here == reference(&rt, "Foo", "NS", ReferenceType::Common)?);
+    assert!(rt; here != reference(&rt, "Foo", "MS", ReferenceType::Common)?);
+    assert!(rt; here != reference(&rt, "Foo", "NS", ReferenceType::Entity)?);
+    let whole = loc(&rt, 0, 3, "Foo")?;
+    assert!(rt; here.loc() == Some(&whole) && here.raw().loc() == Some(&whole));
+    Ok(())
+}
+
+#[test]
+fn stands_for_one_name(rt: HostRuntime) -> Result<(), Fail> {
+    let kind = ReferenceType::Entity;
+    let alone = ConditionalName::unconditional(rt.alloc(), internal(&rt, "A::Foo")?, kind)?;
+    assert!(rt; alone == reference(&rt, "A::Foo", "NS", kind)?);
+    let all_defs = AllDefs::new(names(&rt, "")?, names(&rt, "A::Foo")?);
+    assert_eq!(rt; resolved(&rt, alone, &all_defs)?.as_str(), "A::Foo");
+    Ok(())
+}
+
+#[test]
+fn makes_raw_names(rt: HostRuntime) -> Result<(), Fail> {
+    let alloc = rt.alloc();
+    let raw = RawName::new(id(&rt, "foo")?, Some(loc(&rt, 0, 3, "foo")?));
+    assert!(rt; raw.is_unqualified());
+    assert!(rt; raw.clone(alloc)?.loc() == raw.loc());
+    let unreserved = UnreservedId::from_normalized_str(alloc, "foo")?;
+    assert!(rt; raw == RawName::new_from_unreserved(unreserved, None));
+    assert!(rt; raw == RawName::parse_unqualified_name(alloc, "foo")?);
+    assert!(rt; raw == RawName::from_name(internal(&rt, "foo")?));
+    assert!(rt; raw < RawName::from_normalized_str(alloc, "A::foo")?);
+    Ok(())
+}
+
+#[test]
+fn qualifies_raw_names(rt: HostRuntime) -> Result<(), Fail> {
+    let alloc = rt.alloc();
+    let raw = RawName::parse_unqualified_name(alloc, "foo")?;
+    let within = raw.qualify_with(alloc, Some(&internal(&rt, "A")?))?;
+    assert!(rt; raw.qualify_with_name(alloc, Some(&name(&rt, "A")?))? == within);
+    assert_eq!(rt;
+        RawName::from_name(within).to_string(alloc)?.as_str(),
+        "A::foo"
+    );
+    Ok(())
+}
+
+#[test]
+fn refuses_raw_names(rt: HostRuntime) -> Result<(), Fail> {
+    let refused = text_of(&rt, RawName::from_normalized_str(rt.alloc(), "a::if"))?;
+    assert_eq!(rt; refused.as_str(), "not a normalized internal name");
+    let refused = text_of(&rt, RawName::parse_unqualified_name(rt.alloc(), "a::b"))?;
+    assert_eq!(rt; refused.as_str(), "not a normalized Id");
     Ok(())
 }

@@ -1,8 +1,7 @@
 -- Why the writer's text is the UTF-8 of the escape.
-use Rattle.std.proofs.Common.{◌≡◌, ◌≢◌, ℕ, ◌<◌, ◌≤◌, ◌/◌, ◌%◌, ◌||◌, List, [], ◌∷◌, ◌++◌, map, Bool, true, false, ◌&&◌, refl, sym, ◌∙◌, ap, arith, nat_lt}
-use Rattle.std.specs.Bool.{◌==◌}
+use Rattle.std.proofs.Common.{◌≡◌, ◌≢◌, ℕ, ◌<◌, ◌≤◌, ◌/◌, ◌%◌, List, [], ◌∷◌, ◌++◌, Bool, true, false, ◌&&◌, refl, sym, ◌∙◌, ap, arith, nat_lt}
 use Rattle.std.specs.Char.{is_ascii, is_ascii_control}
-use Rattle.std.specs.Fmt.{digits, digit_glyph}
+use Rattle.std.specs.Fmt.{digit_glyph}
 use Rattle.std.specs.List.{list_all, flat_map}
 use Rattle.std.specs.Prelude.{codes}
 use Rattle.std.specs.Str.{encode_utf8_all}
@@ -12,7 +11,7 @@ use Rattle.std.proofs.lemmas.Fmt.{hex_one_digit, hex_two_digits}
 use Rattle.std.proofs.lemmas.Grind.{flat_map-append}
 use Rattle.std.proofs.lemmas.Str.{encode_ascii, encodes-append}
 use mathlib.Core.List.{append-nil}
-use Rattle.cedar_terms.specs.Escape.{escape_char, escape, hexadecimal}
+use Rattle.cedar_terms.specs.Escape.{escape_char, hexadecimal}
 
 pub and-left : (a b : Bool) → (a && b) ≡ true → a ≡ true
 and-left true b h = refl
@@ -74,12 +73,9 @@ encode_control c h h0 h9 h10 h13 =
     ∙ encode_all_ascii (codes "\\u{" ++ (hexadecimal c ++ codes "}"))
     (all_ascii-append (codes "\\u{") (hexadecimal c ++ codes "}") refl (all_ascii-append (hexadecimal c) (codes "}") (hexadecimal_ascii c (control_is_small c h)) refl))
 
-pub escape-push : (xs : List ℕ) (c : ℕ) → encode_utf8_all (escape xs) ++ encode_utf8_all (escape_char c) ≡ encode_utf8_all (escape (xs ++ (c ∷ [])))
-escape-push xs c =
-    sym (encodes-append (escape xs) (escape_char c))
-    ∙ ap (λ x. encode_utf8_all (escape xs ++ x)) (sym (append-nil (escape_char c)))
-    ∙ ap encode_utf8_all (sym (flat_map-append escape_char xs (c ∷ [])))
-
-pub map-same : {A : Type 0} (xs : List A) → map (λ x. x) xs ≡ xs
-map-same [] = refl
-map-same (x ∷ xs) = ap (λ y. x ∷ y) (map-same xs)
+-- one item more
+pub encode_flat_map-push : {X : Type 0} (f : X → List ℕ) (xs : List X) (x : X) → encode_utf8_all (flat_map f xs) ++ encode_utf8_all (f x) ≡ encode_utf8_all (flat_map f (xs ++ (x ∷ [])))
+encode_flat_map-push f xs x =
+    sym (encodes-append (flat_map f xs) (f x))
+    ∙ ap (λ y. encode_utf8_all (flat_map f xs ++ y)) (sym (append-nil (f x)))
+    ∙ ap encode_utf8_all (sym (flat_map-append f xs (x ∷ [])))

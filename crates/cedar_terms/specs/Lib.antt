@@ -1,2 +1,12 @@
 pub mod Escape
 pub mod Ops
+pub mod Patterns
+pub mod PatternOrder
+pub mod Entities
+pub mod EntityOrder
+pub mod Literals
+pub mod LiteralOrder
+pub mod Types
+pub mod TypeOrder
+pub mod Unknowns
+pub mod SchemaTypes

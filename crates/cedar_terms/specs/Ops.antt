@@ -1,5 +1,7 @@
--- The texts and the places in their orders of operators and variables (the crate's `ops.rs` and `expr.rs`).
+-- The texts and the places in their orders of operators and variables (Cedar's files `ops.rs` and `expr.rs`).
 use Rattle.std.specs.Prelude.{ℕ, List, codes}
+use Rattle.cedar_names.specs.declared.slot.PrincipalOrResource.{PrincipalOrResource}
+use Rattle.cedar_names.specs.declared.slot.PrincipalOrResource.TheVariants as Scope
 use Rattle.cedar_terms.specs.declared.ops.UnaryOp.{UnaryOp}
 use Rattle.cedar_terms.specs.declared.ops.UnaryOp.TheVariants as Unary
 use Rattle.cedar_terms.specs.declared.ops.BinaryOp.{BinaryOp}
@@ -57,3 +59,8 @@ var_number Variable.Principal = 0
 var_number Variable.Action = 1
 var_number Variable.Resource = 2
 var_number Variable.Context = 3
+
+-- the variable of the principal or the resource
+abbrev pub var_of : PrincipalOrResource → Var
+var_of Scope.Principal = Variable.Principal
+var_of Scope.Resource = Variable.Resource

@@ -1,4 +1,4 @@
-//! Escapes of characters and texts (the crate's `Display` of literals, entities and patterns).
+//! Escapes of characters and texts (Cedar's file `literal.rs` and others).
 ghost use Rattle.std.specs.Prelude.{Some};
 ghost use Rattle.std.specs.Fmt.{WritesOnOk};
 ghost use Rattle.std.specs.Str.{encode_utf8_all};

@@ -1,4 +1,4 @@
-//! The integers of Cedar (the crate's `integer.rs`).
+//! The integers of Cedar (Cedar's file `integer.rs`).
 
 /// An integer value: 64 bits with a sign.
 pub type Integer = i64;

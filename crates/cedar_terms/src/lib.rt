@@ -1,13 +1,29 @@
 //! The terms of Cedar: literals, types, operators, variables, unknowns and patterns as plain values.
 #![tactic(auto)]
 
+mod entity;
 mod escape;
 mod integer;
+mod known;
 pub mod laws;
+mod literal;
 mod ops;
+mod pattern;
+mod schema_type;
+mod types;
+mod unknown;
 mod var;
 
+pub use entity::{EntityType, EntityUID};
 pub use escape::Escaped;
 pub use integer::{InputInteger, Integer};
+pub use literal::Literal;
 pub use ops::{BinaryOp, UnaryOp};
+pub use pattern::{Pattern, PatternElem};
+pub use schema_type::SchemaType;
+pub use types::{StaticallyTyped, Type};
+pub use unknown::Unknown;
 pub use var::Var;
+
+#[cfg(test)]
+mod tests;

@@ -1,4 +1,4 @@
-//! Built-in operators (the crate's `ops.rs`).
+//! Built-in operators (Cedar's file `ops.rs`).
 ghost use Rattle.std.specs.Prelude.{Some};
 ghost use Rattle.cedar_terms.specs.Ops.{unary_op_text, binary_op_text};
 

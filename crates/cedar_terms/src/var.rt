@@ -1,7 +1,10 @@
-//! The variables of a request (the crate's `expr.rs`).
-ghost use Rattle.std.specs.Prelude.{Some};
-ghost use Rattle.cedar_terms.specs.Ops.{var_text};
+//! The variables of a request (Cedar's file `expr.rs`).
+ghost use Rattle.std.specs.Prelude.{◌≡◌, IfOk, Some};
+ghost use Rattle.cedar_terms.specs.Ops.{var_of, var_text};
 
+use crate::known::{known_id, known_unreserved_id};
+use cedar_names::{Id, PrincipalOrResource, UnreservedId};
+use std::alloc::{AllocError, Global};
 use std::fmt;
 
 /// The variables of a request. They order as they stand here.
@@ -17,15 +20,49 @@ pub enum Var {
     Context,
 }
 
+impl Var {
+    /// The variable's text as an identifier.
+    pub fn to_id(self, alloc: Global) -> Result<Id, AllocError>
+        ensures { IfOk result (λ id. id ≡ var_text self) }
+    {
+        known_id(alloc, self.text())
+    }
+
+    /// The variable's text as an identifier that is not reserved.
+    pub fn to_unreserved_id(self, alloc: Global) -> Result<UnreservedId, AllocError>
+        ensures { IfOk result (λ id. id ≡ var_text self) }
+    {
+        known_unreserved_id(alloc, self.text())
+    }
+
+    // Its text.
+    fn text(self) -> &'static str
+        ensures { result.now ≡ var_text self }
+    {
+        match self {
+            Var::Principal => "principal",
+            Var::Action => "action",
+            Var::Resource => "resource",
+            Var::Context => "context",
+        }
+    }
+}
+
+impl From<PrincipalOrResource> for Var {
+    ghost from_gives = { λ v var. var ≡ var_of v };
+
+    fn from(v: PrincipalOrResource) -> Var {
+        match v {
+            PrincipalOrResource::Principal => Var::Principal,
+            PrincipalOrResource::Resource => Var::Resource,
+        }
+    }
+}
+
 impl fmt::Display for Var {
     ghost output = { λ var. Some (var_text var) };
 
     fn fmt<W: fmt::Write>(&self, f: &mut fmt::Formatter<W>) -> fmt::Result {
-        match self {
-            Var::Principal => write!(f, "principal"),
-            Var::Action => write!(f, "action"),
-            Var::Resource => write!(f, "resource"),
-            Var::Context => write!(f, "context"),
-        }
+        write!(f, "{}", self.text())
     }
 }

@@ -1,26 +1,26 @@
 use Rattle.std.proofs.Common.{◌≡◌, [], ◌∷◌, ◌++◌, ap, ◌∙◌, sym, subst, append_assoc}
 use Rattle.std.specs.List.Sorted.{IsStrictlySortedBy}
 use Rattle.std.specs.Map.{keys_of}
-use Rattle.cedar_exprs.specs.Bare.{Record}
-use Rattle.cedar_exprs.specs.Trees.{substituted, fields_substituted}
+use Rattle.cedar_builders.specs.Bare.{Record}
+use Rattle.cedar_builders.specs.Trees.{substituted, fields_substituted}
 use Rattle.cedar_exprs.specs.View.{fields}
-use Rattle.cedar_exprs.specs.Environment.{env_of}
+use Rattle.cedar_exprs.specs.Restricted.{env_of}
 use Rattle.cedar_exprs.proofs.Records.{Entry, text_cmp, bare_at_record}
 use Rattle.cedar_exprs.proofs.Rebuilt.{all_made, next_field}
 use Rattle.cedar_exprs.proofs.substitution.+rebuilt.Goals as goal
 
 pub rebuilt_all-returns : goal.rebuilt_all-returns
-rebuilt_all-returns t c = all_made _ _ _ _ _ c.loop-member.invariant c.loop-member-test.false c.deref-member-items.ensures.value
+rebuilt_all-returns g t c = all_made _ _ _ _ _ c.loop-member.invariant c.loop-member-test.false c.deref-member-items.ensures.value
 
 pub rebuilt-returns-in_ok-record_with-in-Record : goal.rebuilt-returns-in_ok-record_with-in-Record
-rebuilt-returns-in_ok-record_with-in-Record t c =
-    let env = env_of c.args.values.now in
+rebuilt-returns-in_ok-record_with-in-Record g t c =
+    let env = env_of g.V.SubstituteValue.bare_type_of g.V.SubstituteValue.bare_tree_of c.args.values.now in
     c.in_ok-record_with-in-Record.ensures
     ∙ ap (λ m. Record (fields_substituted env (fields m.entries))) c.deref-in-Record.ensures
     ∙ sym (ap (substituted env) (bare_at_record c.args.e.now c.in-Record.pairs (sym c.expr_kind.ensures ∙ c.in-Record.is)))
 
 pub rebuilt_values-loop-key-preserved : goal.rebuilt_values-loop-key-preserved
-rebuilt_values-loop-key-preserved t c =
+rebuilt_values-loop-key-preserved g t c =
     let done = c.loop-key.invariant.0 in
     let e : Entry Unit = (c.in-Some.key.now, c.in-Some.value.now) in
     let left = c.next.new.self in
@@ -29,5 +29,5 @@ rebuilt_values-loop-key-preserved t c =
       done ++ e ∷ [],
       all ∙ sym (append_assoc done (e ∷ []) left),
       ap fields c.in_ok-insert.ensures.entries
-          ∙ next_field (env_of c.args.values.now) c.loop-key.done.entries done e left c.in_ok-name.name c.in_ok-rebuilt.field-0 c.loop-key.invariant.2 sorted c.in_ok-name.ensures.cases c.in_ok-rebuilt.ensures,
+          ∙ next_field (env_of g.V.SubstituteValue.bare_type_of g.V.SubstituteValue.bare_tree_of c.args.values.now) c.loop-key.done.entries done e left c.in_ok-name.name c.in_ok-rebuilt.field-0 c.loop-key.invariant.2 sorted c.in_ok-name.ensures.cases c.in_ok-rebuilt.ensures,
     )

@@ -3,16 +3,17 @@ use Rattle.std.proofs.Output.{has_written_append, has_written_of_eq}
 use Rattle.std.proofs.lemmas.Iterator.{YieldsList-from_chars}
 use Rattle.std.proofs.lemmas.Iterator.Consumers.{YieldsList-end}
 use Rattle.std.specs.Str.{encode_utf8_all}
-use Rattle.cedar_terms.specs.Escape.{escape}
-use Rattle.cedar_terms.proofs.EscapeLemmas.{escape-push, map-same}
+use Rattle.cedar_terms.specs.Escape.{escape, escape_char}
+use Rattle.std.proofs.lemmas.List.{map-id}
+use Rattle.cedar_terms.proofs.EscapeLemmas.{encode_flat_map-push}
 use Rattle.cedar_terms.proofs.escape.write_escaped.Goals as goal
 
 pub loop-c-preserved : goal.loop-c-preserved
 loop-c-preserved g c = λ p.
-    has_written_of_eq _ _ _ _ _ (escape-push c.loop-c.yielded c.in-Some.c)
+    has_written_of_eq _ _ _ _ _ (encode_flat_map-push escape_char c.loop-c.yielded c.in-Some.c)
     (has_written_append _ _ _ _ _ _ (c.loop-c.invariant p) (search rules))
 
 pub returns : goal.returns
 returns g c = λ p _.
     let t = YieldsList-end (YieldsList-from_chars c.args.text.now c.utf8.text (cc)) c.loop-c.yielded _ c.loop-c.yielded_by _ _ c.in-None.is c.next.ensures.steps in
-    has_written_of_eq _ _ _ _ _ (ap (λ x. encode_utf8_all (escape x)) (sym (map-same c.loop-c.yielded) ∙ t.0)) (c.loop-c.invariant p)
+    has_written_of_eq _ _ _ _ _ (ap (λ x. encode_utf8_all (escape x)) (sym (map-id c.loop-c.yielded) ∙ t.0)) (c.loop-c.invariant p)

@@ -1,6 +1,4 @@
-use Rattle.std.proofs.Common.{◌≡◌, ◌≢◌, arith, Some, Option, ℕ, List, ap, ◌∙◌, sym, rules, true}
-use Rattle.std.proofs.lemmas.Bool.Decides.{nat_tests}
-use Rattle.std.proofs.lemmas.Grind.{common_steps}
+use Rattle.std.proofs.Common.{◌≡◌, ◌≢◌, Some, Option, ℕ, List, ap, ◌∙◌, sym, rules, true}
 use Rattle.std.specs.Char.{is_ascii_control}
 use Rattle.std.specs.Fmt.{◌++?◌, digits_output}
 use Rattle.std.specs.Prelude.{codes}

@@ -1,0 +1,104 @@
+-- The laws of substitution, from the one induction.
+use Rattle.std.proofs.Common.{◌≡◌, refl, sym, ◌∙◌, ap, true, IsTrue, [], ◌∷◌, Option, Some, None}
+use Rattle.std.proofs.Math.Bool.{and-eq-true_iff}
+use Rattle.cedar_names.specs.Names.{BareName}
+use Rattle.cedar_terms.specs.Types.{BareType, LongType}
+use Rattle.cedar_terms.specs.Literals.{BoolLit}
+use Rattle.cedar_builders.specs.Bare.{Text, Bare, Lit, Unknown, ExtensionFunctionApp, Set, Record, Bares, no_trees, tree, trees_of, Fields, no_fields, field, fields_of}
+use Rattle.cedar_builders.specs.Ops.{Ops}
+use Rattle.cedar_builders.specs.Fold.{fold_with, fold_all, fold_fields}
+use Rattle.cedar_builders.specs.Environment.{Env, empty, own, bound, fold}
+use Rattle.cedar_builders.specs.Trees.{tree_ops, sure}
+use Rattle.cedar_builders.specs.Restricted.{is_restricted, are_restricted, fields_are_restricted, IsRestricted, BindsRestricted}
+use Rattle.cedar_builders.specs.Lawful.{Lawful}
+use Rattle.cedar_builders.specs.Laws.{BuiltAfter, RebuiltTwice, SubstitutedTwice, BindsNone, BindsNoneOf, BindsNoneIn, ThenIsBoth, ThenIsNotAlwaysBoth, either, both, within, then}
+use Rattle.cedar_builders.proofs.Moved.{moved, sure_one, sure_two, sure_then}
+
+-- the builder of trees is lawful
+trees_are_lawful : Lawful tree_ops
+trees_are_lawful = record { and_of_literals = λ a b. refl; or_of_literals = λ a b. refl; ext_has_of_one = λ m k. refl }
+
+module _ {M F : Type 0} (B : Ops M F) (laws : Lawful B) where
+  built_bound : (o : Option (BareType × Bare)) (n : Text) (t : Option BareType) → fold_with B (own B) (sure (bound tree_ops o n t)) ≡ bound B o n t
+  built_bound None n t = refl
+  built_bound (Some r) n t = moved B laws (own B) (own tree_ops) r.1
+
+  pub built_after : BuiltAfter B
+  built_after env e =
+      moved B laws (own B) (λ n t. bound tree_ops (env n) n t) e ∙ ap (λ u. fold_with B u e) (λ i n t. built_bound (env n) n t i)
+
+  twice_bound : (env2 : Env) (o : Option (BareType × Bare)) (n : Text) (t : Option BareType) → fold B env2 (sure (bound tree_ops o n t)) ≡ bound B (either (within env2 o) (env2 n)) n t
+  twice_bound env2 None n t = refl
+  twice_bound env2 (Some r) n t =
+      moved B laws (λ m s. bound B (env2 m) m s) (own tree_ops) r.1 ∙ sym (built_after env2 r.1)
+
+  pub substituted_twice : SubstitutedTwice B
+  substituted_twice env1 env2 e =
+      moved B laws (λ n t. bound B (env2 n) n t) (λ n t. bound tree_ops (env1 n) n t) e ∙ ap (λ u. fold_with B u e) (λ i n t. twice_bound env2 (env1 n) n t i)
+
+pub rebuilt_twice : RebuiltTwice
+rebuilt_twice e = built_after tree_ops trees_are_lawful empty e
+
+-- ---- a restricted tree none of whose unknowns is bound stays as it is
+
+module _ (env : Env) where
+  mutual
+    kept : (e : Bare) → IsTrue (is_restricted e) → BindsNone env e → sure (fold tree_ops env e) ≡ e
+    kept (Lit l) h k = refl
+    kept (Unknown n t) h k = simp k
+    kept (ExtensionFunctionApp n es) h k = simp (sure_then, kept_all es h k)
+    kept (Set es) h k = simp (sure_one, kept_all es h k)
+    kept (Record fs) h k = simp (sure_one, kept_fields fs h k)
+    kept e h k = cc
+
+    kept_all : (es : Bares) → IsTrue (are_restricted es) → BindsNoneOf env es → trees_of (sure (fold_all tree_ops (λ n t. bound tree_ops (env n) n t) es)) ≡ es
+    kept_all no_trees h k = refl
+    kept_all (tree e es) h k =
+        let r = (and-eq-true_iff (is_restricted e) (are_restricted es)).0 h in
+        simp (sure_two, kept e r.0 k.0, kept_all es r.1 k.1)
+
+    kept_fields : (fs : Fields) → IsTrue (fields_are_restricted fs) → BindsNoneIn env fs → fields_of (sure (fold_fields tree_ops (λ n t. bound tree_ops (env n) n t) fs)) ≡ fs
+    kept_fields no_fields h k = refl
+    kept_fields (field j e fs) h k =
+        let r = (and-eq-true_iff (is_restricted e) (fields_are_restricted fs)).0 h in
+        simp (sure_two, kept e r.0 k.0, kept_fields fs r.1 k.1)
+
+kept_apart : (env2 : Env) (o r : Option (BareType × Bare)) → ((p : BareType × Bare) → o ≡ Some p → IsRestricted p.1) → ((p : BareType × Bare) → o ≡ Some p → BindsNone env2 p.1) → either (within env2 o) r ≡ either o r
+kept_apart env2 None r h k = refl
+kept_apart env2 (Some p) r h k = ap (λ e. Some (p.0, e)) (kept env2 p.1 (h p refl) (k p refl))
+
+pub then_is_both : ThenIsBoth
+then_is_both env1 env2 h k = λ i n. kept_apart env2 (env1 n) (env2 n) (h n) (k n) i
+
+-- ---- the first environment binds the empty name to a call of an unknown, and the second binds that unknown to a literal
+
+some_name : BareName
+some_name = record { path = []; basename = [] }
+
+abbrev inner : Bare
+inner = Unknown (0 ∷ []) None
+
+abbrev truth : Bare
+truth = Lit (BoolLit true)
+
+abbrev first : Env
+first [] = Some (LongType, ExtensionFunctionApp some_name (tree inner no_trees))
+first (c ∷ cs) = None
+
+abbrev second : Env
+second [] = None
+second (c ∷ cs) = Some (LongType, truth)
+
+first_is_restricted : BindsRestricted first
+first_is_restricted [] r h = rw (← (let e : (LongType, ExtensionFunctionApp some_name (tree inner no_trees)) ≡ r = cc in e)) refl
+first_is_restricted (c ∷ cs) r h = cc
+
+second_is_restricted : BindsRestricted second
+second_is_restricted [] r h = cc
+second_is_restricted (c ∷ cs) r h = rw (← (let e : (LongType, truth) ≡ r = cc in e)) refl
+
+differ : fold tree_ops (then first second) (Unknown [] None) ≡ fold tree_ops (both first second) (Unknown [] None) → ⊥
+differ e = cc
+
+pub then_is_not_always_both : ThenIsNotAlwaysBoth
+then_is_not_always_both = (first, second, Unknown [] None, first_is_restricted, second_is_restricted, differ)

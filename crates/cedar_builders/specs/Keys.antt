@@ -1,0 +1,35 @@
+-- The pairs that a record is made of.
+use Rattle.std.specs.Prelude.{Bool, true, not, ◌&&◌, IsTrue, List, [], ◌∷◌, map, nat_eq}
+use Rattle.std.specs.Global.{Global}
+use Rattle.std.specs.Ordering.{nat_cmp}
+use Rattle.std.specs.List.{list_any}
+use Rattle.std.specs.List.Sorted.{IsStrictlySortedBy}
+use Rattle.std.specs.Rc.{rc_str_bytes}
+use Rattle.std.specs.Cmp.Lexicographic.{slice_cmp, pointwise}
+use Rattle.std.specs.declared.rc.RcStr.{RcStr}
+use Rattle.cedar_builders.specs.Bare.{Text}
+
+-- the keys of some pairs, as texts
+abbrev pub keys_of : {A : Type 0} → List (RcStr Global × A) → List Text
+keys_of = map (λ p. rc_str_bytes p.0)
+
+-- the keys as texts, each with what its value means
+abbrev pub meant_pairs : {A M : Type 0} → (A → M) → List (RcStr Global × A) → List (Text × M)
+meant_pairs f = map (λ p. (rc_str_bytes p.0, f p.1))
+
+-- each key is below those behind it, by bytes
+abbrev pub IsRising : List Text → Type 0
+IsRising = IsStrictlySortedBy (slice_cmp nat_cmp)
+
+-- whether a key is one of these
+abbrev pub is_among : Text → List Text → Bool
+is_among k ks = list_any (λ l. pointwise nat_eq k l) ks
+
+-- whether no key stands twice
+abbrev pub are_distinct : List Text → Bool
+are_distinct [] = true
+are_distinct (k ∷ ks) = not (is_among k ks) && are_distinct ks
+
+-- some key stands twice
+abbrev pub HasRepeat : List Text → Type 0
+HasRepeat ks = IsTrue (not (are_distinct ks))

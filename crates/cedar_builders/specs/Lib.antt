@@ -1,0 +1,12 @@
+pub mod Bare
+pub mod Ops
+pub mod Fold
+pub mod Environment
+pub mod Trees
+pub mod Restricted
+pub mod Lawful
+pub mod Laws
+pub mod Keys
+pub mod Errors
+pub mod Gives
+pub mod Negated

@@ -1,0 +1,116 @@
+-- The builder of trees (the struct `ExprBuilder` of Cedar's `expr.rs`): its meanings are bare trees, and it never fails.
+use Rattle.std.specs.Prelude.{Bool, ◌&&◌, ◌||◌, List, [], ◌∷◌, Option, Some, None, Result, Ok, Err}
+use Rattle.cedar_terms.specs.Literals.{BareLiteral, BoolLit, LongLit, StringLit, EntityLit}
+use Rattle.cedar_terms.specs.Types.{BareType}
+use Rattle.cedar_builders.specs.Bare.{Text, Bare, Lit, Var, Slot, Unknown, If, And, Or, UnaryApp, BinaryApp, ExtensionFunctionApp, GetAttr, HasAttr, ExtHasAttr, Like, Set, Record, Is, Bares, no_trees, tree, trees_of, Fields, no_fields, field, fields_of}
+use Rattle.cedar_builders.specs.Ops.{Ops}
+use Rattle.cedar_builders.specs.Environment.{Env, empty, fold}
+
+-- the Boolean that a literal is
+abbrev pub literal_bool : BareLiteral → Option Bool
+literal_bool (BoolLit b) = Some b
+literal_bool (LongLit n) = None
+literal_bool (StringLit s) = None
+literal_bool (EntityLit u) = None
+
+-- the Boolean that a tree is the literal of
+abbrev pub bool_of : Bare → Option Bool
+bool_of (Lit l) = literal_bool l
+bool_of (Var v) = None
+bool_of (Slot s) = None
+bool_of (Unknown n t) = None
+bool_of (If a b c) = None
+bool_of (And a b) = None
+bool_of (Or a b) = None
+bool_of (UnaryApp o a) = None
+bool_of (BinaryApp o a b) = None
+bool_of (ExtensionFunctionApp n es) = None
+bool_of (GetAttr a k) = None
+bool_of (HasAttr a k) = None
+bool_of (ExtHasAttr a k ks) = None
+bool_of (Like a p) = None
+bool_of (Set es) = None
+bool_of (Record fs) = None
+bool_of (Is a n) = None
+
+-- the literal of f where both sides are Boolean literals, else the node
+abbrev pub folded : (Bool → Bool → Bool) → Option Bool → Option Bool → Bare → Bare
+folded f (Some a) (Some b) node = Lit (BoolLit (f a b))
+folded f (Some a) None node = node
+folded f None b node = node
+
+-- a conjunction, which is a literal where both sides are Boolean literals
+abbrev pub and_made : Bare → Bare → Bare
+and_made a b = folded ◌&&◌ (bool_of a) (bool_of b) (And a b)
+
+-- a disjunction, which is a literal where both sides are Boolean literals
+abbrev pub or_made : Bare → Bare → Bare
+or_made a b = folded ◌||◌ (bool_of a) (bool_of b) (Or a b)
+
+-- a test for a path of attributes, which is the plain test where the path has one
+abbrev pub ext_has_made : Bare → Text → List Text → Bare
+ext_has_made a k [] = HasAttr a k
+ext_has_made a k (l ∷ ls) = ExtHasAttr a k (l ∷ ls)
+
+-- each kind makes its node, but for these three
+abbrev pub tree_ops : Ops Bare ⊥
+tree_ops = record {
+  lit_of = Lit;
+  var_of = Var;
+  slot_of = Slot;
+  unknown_of = Unknown;
+  if_of = If;
+  and_of = and_made;
+  or_of = or_made;
+  unary_of = UnaryApp;
+  binary_of = BinaryApp;
+  call_of = λ n es. Ok (ExtensionFunctionApp n (trees_of es));
+  get_of = GetAttr;
+  has_of = HasAttr;
+  ext_has_of = ext_has_made;
+  like_of = Like;
+  set_of = λ es. Set (trees_of es);
+  record_of = λ ps. Record (fields_of ps);
+  is_of = Is;
+}
+
+-- what never fails
+abbrev pub sure : {A : Type 0} → Result A ⊥ → A
+sure (Ok a) = a
+sure (Err e) = absurd e
+
+-- the tree that a name is bound to, built with nothing bound, else the unknown itself
+abbrev pub bound_tree : Option (BareType × Bare) → Bare → Bare
+bound_tree None u = u
+bound_tree (Some r) u = sure (fold tree_ops empty r.1)
+
+abbrev mutual
+  -- the tree with each bound unknown made its tree: the fold at the builder of trees, which never fails
+  pub substituted : Env → Bare → Bare
+  substituted env (Lit l) = Lit l
+  substituted env (Var v) = Var v
+  substituted env (Slot s) = Slot s
+  substituted env (Unknown n t) = bound_tree (env n) (Unknown n t)
+  substituted env (If a b c) = If (substituted env a) (substituted env b) (substituted env c)
+  substituted env (And a b) = and_made (substituted env a) (substituted env b)
+  substituted env (Or a b) = or_made (substituted env a) (substituted env b)
+  substituted env (UnaryApp o a) = UnaryApp o (substituted env a)
+  substituted env (BinaryApp o a b) = BinaryApp o (substituted env a) (substituted env b)
+  substituted env (ExtensionFunctionApp n es) = ExtensionFunctionApp n (all_substituted env es)
+  substituted env (GetAttr a k) = GetAttr (substituted env a) k
+  substituted env (HasAttr a k) = HasAttr (substituted env a) k
+  substituted env (ExtHasAttr a k ks) = ext_has_made (substituted env a) k ks
+  substituted env (Like a p) = Like (substituted env a) p
+  substituted env (Set es) = Set (all_substituted env es)
+  substituted env (Record fs) = Record (fields_substituted env fs)
+  substituted env (Is a n) = Is (substituted env a) n
+
+  -- the same of a list of trees
+  pub all_substituted : Env → Bares → Bares
+  all_substituted env no_trees = no_trees
+  all_substituted env (tree e es) = tree (substituted env e) (all_substituted env es)
+
+  -- the same of the values of a record
+  pub fields_substituted : Env → Fields → Fields
+  fields_substituted env no_fields = no_fields
+  fields_substituted env (field k e fs) = field k (substituted env e) (fields_substituted env fs)

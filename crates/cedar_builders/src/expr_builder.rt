@@ -1,0 +1,495 @@
+//! Builders of expressions (Cedar's `expr_builder.rs`).
+ghost use Rattle.std.specs.Prelude.{◌≡◌, None, Option, IfOk, IfErr, map};
+ghost use Rattle.std.specs.Option.{option_copied};
+ghost use Rattle.std.specs.Rc.{rc_str_bytes};
+ghost use Rattle.cedar_names.specs.Place.{Place};
+ghost use Rattle.cedar_names.specs.PlainNames.{bare_of_name};
+ghost use Rattle.cedar_terms.specs.Entities.{bare_entity_type};
+ghost use Rattle.cedar_terms.specs.Literals.{bare_literal};
+ghost use Rattle.cedar_terms.specs.declared.ops.UnaryOp.{UnaryOp};
+ghost use Rattle.cedar_terms.specs.declared.ops.BinaryOp.{BinaryOp};
+ghost use Rattle.cedar_terms.specs.Unknowns.{bare_unknown};
+ghost use Rattle.cedar_builders.specs.Ops.{Ops};
+ghost use Rattle.cedar_builders.specs.Lawful.{Lawful};
+ghost use Rattle.cedar_builders.specs.Keys.{keys_of, meant_pairs, IsRising, HasRepeat};
+ghost use Rattle.cedar_builders.specs.Errors.{OnDuplicateKey};
+ghost use Rattle.cedar_builders.specs.Gives.{Gives};
+ghost use Rattle.cedar_builders.specs.Negated.{MakesNegated};
+ghost use Rattle.cedar_builders.specs.declared.expr_builder.BuildFault.TheVariants.{Memory};
+ghost use Rattle.cedar_builders.specs.declared.expression_construction_errors.ExpressionConstructionError.TheVariants as error;
+
+use crate::expression_construction_errors::ExpressionConstructionError;
+use cedar_names::{Loc, Name, NonEmpty, SlotId};
+use cedar_terms::{BinaryOp, EntityType, Literal, Pattern, UnaryOp, Unknown, Var};
+use std::alloc::{AllocError, AllocFailed, Global};
+use std::convert::Infallible;
+use std::rc::RcStr;
+
+/// Why an expression was not built: the builder's own error, or want of memory.
+#[derive(Debug, Drop)]
+pub enum BuildFault<E> {
+    /// The builder's own error.
+    Build(E),
+    /// Memory was refused.
+    Memory,
+}
+
+impl<E> From<AllocError> for BuildFault<E> {
+    ghost from_gives = { λ _ fault. fault ≡ Memory };
+
+    fn from(_: AllocError) -> BuildFault<E> {
+        BuildFault::Memory
+    }
+}
+
+impl<E, T: Drop> From<AllocFailed<T>> for BuildFault<E> {
+    ghost from_gives = { λ _ fault. fault ≡ Memory };
+
+    fn from(_: AllocFailed<T>) -> BuildFault<E> {
+        BuildFault::Memory
+    }
+}
+
+/// What makes expressions: a call for each kind of expression, and one for each operator.
+///
+/// A builder says what the expressions that it makes mean, and what its errors mean, in types of its own choice. Each call
+/// that makes a node then means one operation on the node's own fields and the meanings of its children. Only a call of an
+/// extension function may be refused for a reason of the builder's own.
+pub trait ExprBuilder: Sized + Drop {
+    /// What the builder makes.
+    type Expr: Drop;
+
+    /// The data that a node carries.
+    type Data;
+
+    /// Why the builder may refuse a call of an extension function.
+    type BuildError: Drop;
+
+    // The type of the meanings of expressions.
+    ghost Meaning: { Type 0 };
+
+    // The type of the meanings of errors.
+    ghost Fault: { Type 0 };
+
+    // What each kind of node means.
+    ghost ops: { Ops Meaning Fault };
+
+    // What an expression means.
+    ghost meaning_of: { Self.Expr → Meaning };
+
+    // What an error means.
+    ghost fault_of: { Self.BuildError → Fault };
+
+    // The builder was made by `new`, whatever place was set since.
+    ghost is_new: { Self → Type 0 };
+
+    // The place that is given to what is made, and what is kept of a place that is set.
+    ghost place_of: { Self → Option Place };
+
+    ghost kept_place: { Option Place → Option Place };
+
+    // What `unary_app` and `binary_app` make, as far as the builder says more than the meaning.
+    ghost makes_unary: { Self → UnaryOp → Self.Expr → Self.Expr → Type 0 };
+
+    ghost makes_binary: { Self → BinaryOp → Self.Expr → Self.Expr → Self.Expr → Type 0 };
+
+    /// A builder with no place and the data that a node has by default.
+    fn new() -> Self
+        ensures new { is_new result }
+        ensures place { place_of result ≡ kept_place None };
+
+    /// A builder with no place, whose nodes carry this data. What a builder does with data is its own affair.
+    fn with_data(data: Self::Data) -> Self
+        ensures { place_of result ≡ kept_place None };
+
+    /// The place that is given to what is made. A builder may keep none, whatever was set: meanings do not depend on places.
+    fn loc(&self) -> Option<&Loc>
+        ensures { option_copied result ≡ place_of self.now };
+
+    /// The data that is given to what is made, of which nothing is promised either.
+    fn data(&self) -> &Self::Data;
+
+    /// The builder with this place, or with none. What it makes means the same.
+    fn with_maybe_source_loc(self, source_loc: Option<Loc>) -> Self
+        ensures new { is_new self → is_new result }
+        ensures place { place_of result ≡ kept_place source_loc };
+
+    /// A literal.
+    fn val(self, alloc: Global, literal: Literal) -> Result<Self::Expr, AllocError>
+        ensures { is_new self → IfOk result (λ e. meaning_of e ≡ ops.lit_of (bare_literal literal)) };
+
+    /// A variable of the request.
+    fn var(self, alloc: Global, var: Var) -> Result<Self::Expr, AllocError>
+        ensures { is_new self → IfOk result (λ e. meaning_of e ≡ ops.var_of var) };
+
+    /// A slot of a template.
+    fn slot(self, alloc: Global, slot: SlotId) -> Result<Self::Expr, AllocError>
+        ensures { is_new self → IfOk result (λ e. meaning_of e ≡ ops.slot_of slot) };
+
+    /// A value that is not known yet.
+    fn unknown(self, alloc: Global, unknown: Unknown) -> Result<Self::Expr, AllocError>
+        ensures { is_new self → IfOk result (λ e. meaning_of e ≡ ops.unknown_of (bare_unknown unknown).name (bare_unknown unknown).annotation) };
+
+    /// The second expression where the first holds, else the third.
+    fn ite(
+        self,
+        alloc: Global,
+        test_expr: Self::Expr,
+        then_expr: Self::Expr,
+        else_expr: Self::Expr,
+    ) -> Result<Self::Expr, AllocError>
+        ensures { is_new self → IfOk result (λ e. meaning_of e ≡ ops.if_of (meaning_of test_expr) (meaning_of then_expr) (meaning_of else_expr)) };
+
+    /// The conjunction of two expressions.
+    fn and(
+        self,
+        alloc: Global,
+        left: Self::Expr,
+        right: Self::Expr,
+    ) -> Result<Self::Expr, AllocError>
+        ensures { is_new self → IfOk result (λ e. meaning_of e ≡ ops.and_of (meaning_of left) (meaning_of right)) };
+
+    /// The disjunction of two expressions.
+    fn or(
+        self,
+        alloc: Global,
+        left: Self::Expr,
+        right: Self::Expr,
+    ) -> Result<Self::Expr, AllocError>
+        ensures { is_new self → IfOk result (λ e. meaning_of e ≡ ops.or_of (meaning_of left) (meaning_of right)) };
+
+    /// An operator on one argument.
+    fn unary_app(
+        self,
+        alloc: Global,
+        op: UnaryOp,
+        arg: Self::Expr,
+    ) -> Result<Self::Expr, AllocError>
+        ensures means { is_new self → IfOk result (λ e. meaning_of e ≡ ops.unary_of op (meaning_of arg)) }
+        ensures makes { IfOk result (makes_unary self op arg) };
+
+    /// An operator on two arguments.
+    fn binary_app(
+        self,
+        alloc: Global,
+        op: BinaryOp,
+        arg1: Self::Expr,
+        arg2: Self::Expr,
+    ) -> Result<Self::Expr, AllocError>
+        ensures means { is_new self → IfOk result (λ e. meaning_of e ≡ ops.binary_of op (meaning_of arg1) (meaning_of arg2)) }
+        ensures makes { IfOk result (makes_binary self op arg1 arg2) };
+
+    /// A call of an extension function. The builder's own errors come from here alone.
+    fn call_extension_fn(
+        self,
+        alloc: Global,
+        fn_name: Name,
+        args: Vec<Self::Expr>,
+    ) -> Result<Self::Expr, BuildFault<Self::BuildError>>
+        ensures { is_new self → Gives meaning_of fault_of (ops.call_of (bare_of_name fn_name) (map meaning_of args.items)) result };
+
+    /// `expr.attr`: the attribute of an entity or a record.
+    fn get_attr(
+        self,
+        alloc: Global,
+        expr: Self::Expr,
+        attr: RcStr,
+    ) -> Result<Self::Expr, AllocError>
+        ensures { is_new self → IfOk result (λ e. meaning_of e ≡ ops.get_of (meaning_of expr) (rc_str_bytes attr)) };
+
+    /// `expr has attr`: whether an entity or a record has the attribute.
+    fn has_attr(
+        self,
+        alloc: Global,
+        expr: Self::Expr,
+        attr: RcStr,
+    ) -> Result<Self::Expr, AllocError>
+        ensures { is_new self → IfOk result (λ e. meaning_of e ≡ ops.has_of (meaning_of expr) (rc_str_bytes attr)) };
+
+    /// `expr has a.b.c`: whether each attribute is there in turn.
+    fn extended_has_attr(
+        self,
+        alloc: Global,
+        expr: Self::Expr,
+        attrs: NonEmpty<RcStr>,
+    ) -> Result<Self::Expr, AllocError>
+        ensures { is_new self → IfOk result (λ e. meaning_of e ≡ ops.ext_has_of (meaning_of expr) (rc_str_bytes attrs.head) (map rc_str_bytes attrs.tail.items)) };
+
+    /// `expr like pattern`: whether the pattern matches the text.
+    fn like(
+        self,
+        alloc: Global,
+        expr: Self::Expr,
+        pattern: Pattern,
+    ) -> Result<Self::Expr, AllocError>
+        ensures { is_new self → IfOk result (λ e. meaning_of e ≡ ops.like_of (meaning_of expr) pattern) };
+
+    /// `expr is entity_type`: whether the entity is of the type.
+    fn is_entity_type(
+        self,
+        alloc: Global,
+        expr: Self::Expr,
+        entity_type: EntityType,
+    ) -> Result<Self::Expr, AllocError>
+        ensures { is_new self → IfOk result (λ e. meaning_of e ≡ ops.is_of (meaning_of expr) (bare_entity_type entity_type)) };
+
+    /// A set by its members, in this order.
+    fn set(self, alloc: Global, members: Vec<Self::Expr>) -> Result<Self::Expr, AllocError>
+        ensures { is_new self → IfOk result (λ e. meaning_of e ≡ ops.set_of (map meaning_of members.items)) };
+
+    /// A record by its keys and values. Pairs whose keys rise strictly, by bytes, are always accepted; a builder may refuse
+    /// others with `DuplicateKey`, where a key stands twice.
+    fn record(
+        self,
+        alloc: Global,
+        pairs: Vec<(RcStr, Self::Expr)>,
+    ) -> Result<Self::Expr, ExpressionConstructionError>
+        ensures means { is_new self → IsRising (keys_of pairs.items) → IfOk result (λ e. meaning_of e ≡ ops.record_of (meant_pairs meaning_of pairs.items)) }
+        ensures accepts { IsRising (keys_of pairs.items) → IfErr result (λ e. e ≡ error.Memory) }
+        ensures refuses { IfErr result (OnDuplicateKey (λ _. HasRepeat (keys_of pairs.items))) };
+
+    /// `!arg`.
+    fn not(self, alloc: Global, arg: Self::Expr) -> Result<Self::Expr, AllocError>
+        ensures means { is_new self → IfOk result (λ e. meaning_of e ≡ ops.unary_of UnaryOp.Not (meaning_of arg)) }
+        ensures makes { IfOk result (makes_unary self UnaryOp.Not arg) }
+    {
+        self.unary_app(alloc, UnaryOp::Not, arg)
+    }
+
+    /// `-arg`.
+    fn neg(self, alloc: Global, arg: Self::Expr) -> Result<Self::Expr, AllocError>
+        ensures means { is_new self → IfOk result (λ e. meaning_of e ≡ ops.unary_of UnaryOp.Neg (meaning_of arg)) }
+        ensures makes { IfOk result (makes_unary self UnaryOp.Neg arg) }
+    {
+        self.unary_app(alloc, UnaryOp::Neg, arg)
+    }
+
+    /// `arg.isEmpty()`: whether the set has no member.
+    fn is_empty(self, alloc: Global, arg: Self::Expr) -> Result<Self::Expr, AllocError>
+        ensures means { is_new self → IfOk result (λ e. meaning_of e ≡ ops.unary_of UnaryOp.IsEmpty (meaning_of arg)) }
+        ensures makes { IfOk result (makes_unary self UnaryOp.IsEmpty arg) }
+    {
+        self.unary_app(alloc, UnaryOp::IsEmpty, arg)
+    }
+
+    /// `arg1 == arg2`.
+    fn is_eq(
+        self,
+        alloc: Global,
+        arg1: Self::Expr,
+        arg2: Self::Expr,
+    ) -> Result<Self::Expr, AllocError>
+        ensures means { is_new self → IfOk result (λ e. meaning_of e ≡ ops.binary_of BinaryOp.Eq (meaning_of arg1) (meaning_of arg2)) }
+        ensures makes { IfOk result (makes_binary self BinaryOp.Eq arg1 arg2) }
+    {
+        self.binary_app(alloc, BinaryOp::Eq, arg1, arg2)
+    }
+
+    /// `arg1 < arg2`.
+    fn less(
+        self,
+        alloc: Global,
+        arg1: Self::Expr,
+        arg2: Self::Expr,
+    ) -> Result<Self::Expr, AllocError>
+        ensures means { is_new self → IfOk result (λ e. meaning_of e ≡ ops.binary_of BinaryOp.Less (meaning_of arg1) (meaning_of arg2)) }
+        ensures makes { IfOk result (makes_binary self BinaryOp.Less arg1 arg2) }
+    {
+        self.binary_app(alloc, BinaryOp::Less, arg1, arg2)
+    }
+
+    /// `arg1 <= arg2`.
+    fn lesseq(
+        self,
+        alloc: Global,
+        arg1: Self::Expr,
+        arg2: Self::Expr,
+    ) -> Result<Self::Expr, AllocError>
+        ensures means { is_new self → IfOk result (λ e. meaning_of e ≡ ops.binary_of BinaryOp.LessEq (meaning_of arg1) (meaning_of arg2)) }
+        ensures makes { IfOk result (makes_binary self BinaryOp.LessEq arg1 arg2) }
+    {
+        self.binary_app(alloc, BinaryOp::LessEq, arg1, arg2)
+    }
+
+    /// `arg1 + arg2`.
+    fn add(
+        self,
+        alloc: Global,
+        arg1: Self::Expr,
+        arg2: Self::Expr,
+    ) -> Result<Self::Expr, AllocError>
+        ensures means { is_new self → IfOk result (λ e. meaning_of e ≡ ops.binary_of BinaryOp.Add (meaning_of arg1) (meaning_of arg2)) }
+        ensures makes { IfOk result (makes_binary self BinaryOp.Add arg1 arg2) }
+    {
+        self.binary_app(alloc, BinaryOp::Add, arg1, arg2)
+    }
+
+    /// `arg1 - arg2`.
+    fn sub(
+        self,
+        alloc: Global,
+        arg1: Self::Expr,
+        arg2: Self::Expr,
+    ) -> Result<Self::Expr, AllocError>
+        ensures means { is_new self → IfOk result (λ e. meaning_of e ≡ ops.binary_of BinaryOp.Sub (meaning_of arg1) (meaning_of arg2)) }
+        ensures makes { IfOk result (makes_binary self BinaryOp.Sub arg1 arg2) }
+    {
+        self.binary_app(alloc, BinaryOp::Sub, arg1, arg2)
+    }
+
+    /// `arg1 * arg2`.
+    fn mul(
+        self,
+        alloc: Global,
+        arg1: Self::Expr,
+        arg2: Self::Expr,
+    ) -> Result<Self::Expr, AllocError>
+        ensures means { is_new self → IfOk result (λ e. meaning_of e ≡ ops.binary_of BinaryOp.Mul (meaning_of arg1) (meaning_of arg2)) }
+        ensures makes { IfOk result (makes_binary self BinaryOp.Mul arg1 arg2) }
+    {
+        self.binary_app(alloc, BinaryOp::Mul, arg1, arg2)
+    }
+
+    /// `arg1 in arg2`: membership in the hierarchy.
+    fn is_in(
+        self,
+        alloc: Global,
+        arg1: Self::Expr,
+        arg2: Self::Expr,
+    ) -> Result<Self::Expr, AllocError>
+        ensures means { is_new self → IfOk result (λ e. meaning_of e ≡ ops.binary_of BinaryOp.In (meaning_of arg1) (meaning_of arg2)) }
+        ensures makes { IfOk result (makes_binary self BinaryOp.In arg1 arg2) }
+    {
+        self.binary_app(alloc, BinaryOp::In, arg1, arg2)
+    }
+
+    /// `arg1.contains(arg2)`: whether the set has the member.
+    fn contains(
+        self,
+        alloc: Global,
+        arg1: Self::Expr,
+        arg2: Self::Expr,
+    ) -> Result<Self::Expr, AllocError>
+        ensures means { is_new self → IfOk result (λ e. meaning_of e ≡ ops.binary_of BinaryOp.Contains (meaning_of arg1) (meaning_of arg2)) }
+        ensures makes { IfOk result (makes_binary self BinaryOp.Contains arg1 arg2) }
+    {
+        self.binary_app(alloc, BinaryOp::Contains, arg1, arg2)
+    }
+
+    /// `arg1.containsAll(arg2)`: whether the first set contains the second.
+    fn contains_all(
+        self,
+        alloc: Global,
+        arg1: Self::Expr,
+        arg2: Self::Expr,
+    ) -> Result<Self::Expr, AllocError>
+        ensures means { is_new self → IfOk result (λ e. meaning_of e ≡ ops.binary_of BinaryOp.ContainsAll (meaning_of arg1) (meaning_of arg2)) }
+        ensures makes { IfOk result (makes_binary self BinaryOp.ContainsAll arg1 arg2) }
+    {
+        self.binary_app(alloc, BinaryOp::ContainsAll, arg1, arg2)
+    }
+
+    /// `arg1.containsAny(arg2)`: whether the sets share a member.
+    fn contains_any(
+        self,
+        alloc: Global,
+        arg1: Self::Expr,
+        arg2: Self::Expr,
+    ) -> Result<Self::Expr, AllocError>
+        ensures means { is_new self → IfOk result (λ e. meaning_of e ≡ ops.binary_of BinaryOp.ContainsAny (meaning_of arg1) (meaning_of arg2)) }
+        ensures makes { IfOk result (makes_binary self BinaryOp.ContainsAny arg1 arg2) }
+    {
+        self.binary_app(alloc, BinaryOp::ContainsAny, arg1, arg2)
+    }
+
+    /// `arg1.getTag(arg2)`: the tag of an entity.
+    fn get_tag(
+        self,
+        alloc: Global,
+        arg1: Self::Expr,
+        arg2: Self::Expr,
+    ) -> Result<Self::Expr, AllocError>
+        ensures means { is_new self → IfOk result (λ e. meaning_of e ≡ ops.binary_of BinaryOp.GetTag (meaning_of arg1) (meaning_of arg2)) }
+        ensures makes { IfOk result (makes_binary self BinaryOp.GetTag arg1 arg2) }
+    {
+        self.binary_app(alloc, BinaryOp::GetTag, arg1, arg2)
+    }
+
+    /// `arg1.hasTag(arg2)`: whether an entity has the tag.
+    fn has_tag(
+        self,
+        alloc: Global,
+        arg1: Self::Expr,
+        arg2: Self::Expr,
+    ) -> Result<Self::Expr, AllocError>
+        ensures means { is_new self → IfOk result (λ e. meaning_of e ≡ ops.binary_of BinaryOp.HasTag (meaning_of arg1) (meaning_of arg2)) }
+        ensures makes { IfOk result (makes_binary self BinaryOp.HasTag arg1 arg2) }
+    {
+        self.binary_app(alloc, BinaryOp::HasTag, arg1, arg2)
+    }
+
+    /// `!(arg1 == arg2)`: two nodes, of which the inner one has the builder's place and the data of a new builder.
+    fn noteq(
+        self,
+        alloc: Global,
+        arg1: Self::Expr,
+        arg2: Self::Expr,
+    ) -> Result<Self::Expr, AllocError>
+        ensures means { is_new self → IfOk result (λ e. meaning_of e ≡ ops.unary_of UnaryOp.Not (ops.binary_of BinaryOp.Eq (meaning_of arg1) (meaning_of arg2))) }
+        ensures makes { IfOk result (MakesNegated is_new place_of kept_place makes_unary makes_binary self BinaryOp.Eq arg1 arg2) }
+    {
+        let inner = Self::new().with_maybe_source_loc(copied(alloc, self.loc())?);
+        let inner = inner.is_eq(alloc, arg1, arg2)?;
+        self.not(alloc, inner)
+    }
+
+    /// `!(arg1 <= arg2)`: two nodes, of which the inner one has the builder's place and the data of a new builder.
+    fn greater(
+        self,
+        alloc: Global,
+        arg1: Self::Expr,
+        arg2: Self::Expr,
+    ) -> Result<Self::Expr, AllocError>
+        ensures means { is_new self → IfOk result (λ e. meaning_of e ≡ ops.unary_of UnaryOp.Not (ops.binary_of BinaryOp.LessEq (meaning_of arg1) (meaning_of arg2))) }
+        ensures makes { IfOk result (MakesNegated is_new place_of kept_place makes_unary makes_binary self BinaryOp.LessEq arg1 arg2) }
+    {
+        let inner = Self::new().with_maybe_source_loc(copied(alloc, self.loc())?);
+        let inner = inner.lesseq(alloc, arg1, arg2)?;
+        self.not(alloc, inner)
+    }
+
+    /// `!(arg1 < arg2)`: two nodes, of which the inner one has the builder's place and the data of a new builder.
+    fn greatereq(
+        self,
+        alloc: Global,
+        arg1: Self::Expr,
+        arg2: Self::Expr,
+    ) -> Result<Self::Expr, AllocError>
+        ensures means { is_new self → IfOk result (λ e. meaning_of e ≡ ops.unary_of UnaryOp.Not (ops.binary_of BinaryOp.Less (meaning_of arg1) (meaning_of arg2))) }
+        ensures makes { IfOk result (MakesNegated is_new place_of kept_place makes_unary makes_binary self BinaryOp.Less arg1 arg2) }
+    {
+        let inner = Self::new().with_maybe_source_loc(copied(alloc, self.loc())?);
+        let inner = inner.less(alloc, arg1, arg2)?;
+        self.not(alloc, inner)
+    }
+}
+
+// A copy of the place, if there is one.
+fn copied(alloc: Global, loc: Option<&Loc>) -> Result<Option<Loc>, AllocError>
+    ensures { IfOk result (λ l. l ≡ option_copied loc.entry) }
+{
+    match loc {
+        None => Ok(None),
+        Some(loc) => Ok(Some(loc.clone(alloc)?)),
+    }
+}
+
+/// A builder whose calls are never refused for a reason of its own.
+pub trait ExprBuilderInfallibleBuild: ExprBuilder<BuildError = Infallible> {}
+
+/// A builder that keeps the simplifications of Cedar's own builder: `and` and `or` of two Boolean literals mean the literal of
+/// the result, and `extended_has_attr` of one attribute means what `has_attr` does.
+pub trait LawfulExprBuilder: ExprBuilder {
+    // The laws of `and`, `or` and `extended_has_attr`.
+    ghost lawful: { Lawful Self.ops };
+}

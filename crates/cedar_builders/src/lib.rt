@@ -1,0 +1,12 @@
+//! Builders of expressions, by what they mean: abstract operations, one for each kind of expression.
+#![tactic(auto)]
+
+pub mod expr_builder;
+pub mod expression_construction_errors;
+pub mod laws;
+
+pub use expr_builder::{BuildFault, ExprBuilder, ExprBuilderInfallibleBuild, LawfulExprBuilder};
+pub use expression_construction_errors::{DuplicateKeyError, ExpressionConstructionError};
+
+#[cfg(test)]
+mod tests;

@@ -1,0 +1,8 @@
+-- The words of the script.
+use Rattle.std.specs.Prelude.{◌≡◌, ◌==◌, ℕ, List, false, slice_index, FitsSigned}
+use Rattle.std.specs.Int.{w64}
+use Rattle.std.specs.Str.Parse.{IsNumeral, without_leading_sign, signed_digits_value}
+
+-- a text is an optional minus and one or more digits, which write an integer of 64 bits
+abbrev pub WritesLong : List ℕ → Type 0
+WritesLong text = ((slice_index text 0 == 43) ≡ false) × IsNumeral 10 (without_leading_sign text) × FitsSigned w64 (signed_digits_value 10 text)

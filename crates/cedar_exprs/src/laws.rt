@@ -1,0 +1,27 @@
+//! The laws of expressions, and those of substitution over their bare trees.
+//!
+//! Each function here does nothing: its contract is the law.
+ghost use Rattle.std.specs.Prelude.{◌≡◌, ◌↔◌, IsTrue};
+ghost use Rattle.cedar_exprs.specs.Data.{SameData, held};
+ghost use Rattle.cedar_exprs.specs.View.{bare};
+ghost use Rattle.cedar_exprs.specs.declared.expr.Expr.{Expr};
+
+#[cfg(test)]
+mod tests;
+
+use crate::expr::Expr;
+pub use cedar_builders::laws::{
+    built_after, rebuilt_twice, restricted_rebuilt, substituted_by_fold, substituted_twice,
+    then_is_both, then_is_not_always_both,
+};
+use std::hash::Hash;
+
+/// Two expressions are equal exactly where their bare trees are, and the data at each position. Places do not count.
+pub fn equal_expressions<T: Eq>()
+    ensures { (a b : Expr _) → IsTrue (⟦<Expr<T> as PartialEq>⟧.eq a b) ↔ ((bare a ≡ bare b) × SameData T.eq (held a) (held b)) }
+{}
+
+/// Equal expressions hash alike.
+pub fn alike_expressions<T: Hash>()
+    ensures { (a b : Expr _) → IsTrue (⟦<Expr<T> as PartialEq>⟧.eq a b) → ⟦<Expr<T> as Hash>⟧.hash_input a ≡ ⟦<Expr<T> as Hash>⟧.hash_input b }
+{}

@@ -1,0 +1,137 @@
+//! Expressions of literals, unknowns, sets, records and calls, and the values that unknowns are bound to.
+ghost use Rattle.std.specs.Prelude.{◌≡◌, IfOk, MatchResult, IsOk, ◌↔◌};
+ghost use Rattle.cedar_terms.specs.Literals.{bare_literal};
+ghost use Rattle.cedar_terms.specs.Types.{BareType, bare_type, literal_type};
+ghost use Rattle.cedar_builders.specs.Bare.{Bare, Lit};
+ghost use Rattle.cedar_builders.specs.Restricted.{IsRestricted};
+ghost use Rattle.cedar_exprs.specs.View.{bare};
+
+#[cfg(test)]
+mod tests;
+
+use crate::expr::{Expr, clone_loc};
+use crate::first_fault::first_fault;
+use cedar_names::Loc;
+use cedar_terms::{Literal, StaticallyTyped, Type};
+use std::alloc::{AllocError, Global};
+use thiserror::Error;
+
+/// An expression in which each node is a literal, an unknown, a set, a record or a call (`RestrictedExpr` of
+/// `restricted_expr.rs`). These are the expressions that a value may have.
+#[derive(Debug, Drop)]
+pub struct RestrictedExpr {
+    expr: Expr<()>,
+    ghost restricted: { IsRestricted (bare expr) },
+}
+
+impl RestrictedExpr {
+    ghost use Rattle.cedar_exprs.specs.Restricted.{expr_of, restricted_tree};
+
+    /// The expression.
+    pub fn as_expr(&self) -> &Expr<()>
+        ensures same { result.now ≡ expr_of self.now }
+        ensures restricted { IsRestricted (bare result.now) }
+    {
+        &self.expr
+    }
+
+    // The expression of one that is given up.
+    pub(crate) fn into_expr(self) -> Expr<()>
+        ensures same { result ≡ expr_of self }
+        ensures restricted { IsRestricted (bare result) }
+    {
+        self.expr
+    }
+
+    // The literal.
+    pub(crate) fn of_literal(literal: Literal) -> RestrictedExpr
+        ensures { restricted_tree result ≡ Lit (bare_literal literal) }
+    {
+        RestrictedExpr {
+            expr: Expr::val(literal),
+        }
+    }
+}
+
+impl From<RestrictedExpr> for Expr<()> {
+    ghost use Rattle.cedar_exprs.specs.Restricted.{expr_of};
+
+    ghost from_gives = { λ r e. e ≡ expr_of r };
+
+    fn from(restricted: RestrictedExpr) -> Expr<()> {
+        restricted.into_expr()
+    }
+}
+
+/// A value that may take an unknown's place.
+pub trait SubstituteValue {
+    ghost use Rattle.cedar_exprs.specs.Restricted.{restricted_tree};
+
+    // The type of the value.
+    ghost bare_type_of: { Self → BareType };
+
+    // The bare tree of the value.
+    ghost bare_tree_of: { Self → Bare };
+
+    /// The type of the value.
+    fn value_type(&self, alloc: Global) -> Result<Type, AllocError>
+        ensures { IfOk result (λ ty. bare_type ty ≡ bare_type_of self.now) };
+
+    /// The expression of the value, with the value's places.
+    fn value_expr(&self, alloc: Global) -> Result<RestrictedExpr, AllocError>
+        ensures { IfOk result (λ r. restricted_tree r ≡ bare_tree_of self.now) };
+}
+
+impl SubstituteValue for Literal {
+    ghost bare_type_of = { λ literal. literal_type (bare_literal literal) };
+
+    ghost bare_tree_of = { λ literal. Lit (bare_literal literal) };
+
+    fn value_type(&self, alloc: Global) -> Result<Type, AllocError> {
+        self.type_of(alloc)
+    }
+
+    fn value_expr(&self, alloc: Global) -> Result<RestrictedExpr, AllocError> {
+        Ok(RestrictedExpr::of_literal(self.clone(alloc)?))
+    }
+}
+
+/// Why an expression is not restricted.
+#[derive(Debug, Drop, Error)]
+pub enum RestrictedExprError {
+    /// A node is no literal, unknown, set, record or call. The place, if known, is that of the first such node, where each
+    /// node comes before its children and the values of a record come in the order of their keys.
+    #[error("not a restricted expression")]
+    NotRestricted { loc: Option<Loc> },
+    /// There is such a node, and no memory to copy its place.
+    #[error("no memory")]
+    Memory,
+}
+
+impl From<AllocError> for RestrictedExprError {
+    ghost use Rattle.cedar_exprs.specs.declared.restricted.RestrictedExprError.TheVariants.{Memory};
+
+    ghost from_gives = { λ _ e. e ≡ Memory };
+
+    fn from(_: AllocError) -> RestrictedExprError {
+        RestrictedExprError::Memory
+    }
+}
+
+impl RestrictedExpr {
+    ghost use Rattle.cedar_exprs.specs.Restricted.{expr_of};
+    ghost use Rattle.cedar_exprs.specs.Outside.{first_outside, IsRefusalOf};
+
+    /// The same expression, known to be restricted. Memory is taken only to copy the place of a refusal.
+    pub fn new(alloc: Global, expr: Expr<()>) -> Result<RestrictedExpr, RestrictedExprError>
+        ensures outcome { MatchResult result (λ r. expr_of r ≡ expr) (IsRefusalOf (first_outside expr)) }
+        ensures succeeds { IsOk result ↔ IsRestricted (bare expr) }
+    {
+        match first_fault(&expr) {
+            Some(fault) => Err(RestrictedExprError::NotRestricted {
+                loc: clone_loc(alloc, fault.source_loc())?,
+            }),
+            None => Ok(RestrictedExpr { expr }),
+        }
+    }
+}

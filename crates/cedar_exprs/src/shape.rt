@@ -1,0 +1,122 @@
+// The hash of what an expression is, whatever its places and data.
+ghost use Rattle.cedar_builders.specs.Keys.{IsRising};
+ghost use Rattle.cedar_exprs.specs.RisingKeys.{KeysRise, AllKeysRise, FieldsKeysRise, field_keys};
+ghost use Rattle.cedar_exprs.specs.View.{bare, bares, fields};
+
+use crate::expr::{Expr, ExprKind};
+use std::collections::BTreeMap;
+use std::hash::{Hash, Hasher};
+use std::rc::RcStr;
+
+// Feeds the number of the kind as one byte, then the fields in their order.
+#[cycle(shape)]
+pub(crate) fn hash_shape<T, H: Hasher>(e: &Expr<T>, state: &mut H)
+    ensures { KeysRise (bare e.now) }
+{
+    state.write_u8(kind_number(e.expr_kind()));
+    match e.expr_kind() {
+        ExprKind::Lit(literal) => literal.hash(state),
+        ExprKind::Var(var) => var.hash(state),
+        ExprKind::Slot(slot) => slot.hash(state),
+        ExprKind::Unknown(unknown) => unknown.hash(state),
+        ExprKind::If {
+            test_expr,
+            then_expr,
+            else_expr,
+        } => {
+            hash_shape(test_expr, state);
+            hash_shape(then_expr, state);
+            hash_shape(else_expr, state);
+        }
+        ExprKind::And { left, right } => {
+            hash_shape(left, state);
+            hash_shape(right, state);
+        }
+        ExprKind::Or { left, right } => {
+            hash_shape(left, state);
+            hash_shape(right, state);
+        }
+        ExprKind::UnaryApp { op, arg } => {
+            op.hash(state);
+            hash_shape(arg, state);
+        }
+        ExprKind::BinaryApp { op, arg1, arg2 } => {
+            op.hash(state);
+            hash_shape(arg1, state);
+            hash_shape(arg2, state);
+        }
+        ExprKind::ExtensionFunctionApp { fn_name, args } => {
+            fn_name.hash(state);
+            hash_members(args, state);
+        }
+        ExprKind::GetAttr { expr, attr } => {
+            hash_shape(expr, state);
+            attr.hash(state);
+        }
+        ExprKind::HasAttr { expr, attr } => {
+            hash_shape(expr, state);
+            attr.hash(state);
+        }
+        ExprKind::ExtHasAttr { expr, attrs } => {
+            hash_shape(expr, state);
+            attrs.hash(state);
+        }
+        ExprKind::Like { expr, pattern } => {
+            hash_shape(expr, state);
+            pattern.hash(state);
+        }
+        ExprKind::Set(members) => hash_members(members, state),
+        ExprKind::Record(pairs) => hash_pairs(pairs, state),
+        ExprKind::Is { expr, entity_type } => {
+            hash_shape(expr, state);
+            entity_type.hash(state);
+        }
+    }
+}
+
+// Feeds their number, then each.
+#[cycle(shape)]
+fn hash_members<T, H: Hasher>(members: &[Expr<T>], state: &mut H)
+    ensures { AllKeysRise (bares members.now) }
+{
+    state.write_usize(members.len());
+    for member in members {
+        hash_shape(member, state);
+    }
+}
+
+// Feeds their number, then each key with its value.
+#[cycle(shape)]
+fn hash_pairs<T, H: Hasher>(pairs: &BTreeMap<RcStr, Expr<T>>, state: &mut H)
+    ensures keys { IsRising (field_keys (fields pairs.now.entries)) }
+    ensures values { FieldsKeysRise (fields pairs.now.entries) }
+{
+    state.write_usize(pairs.len());
+    for (key, value) in pairs.iter() {
+        key.hash(state);
+        hash_shape(value, state);
+    }
+}
+
+// The kind's place in the order of kinds.
+fn kind_number<T>(kind: &ExprKind<T>) -> u8 {
+    match kind {
+        ExprKind::Lit(_) => 0,
+        ExprKind::Var(_) => 1,
+        ExprKind::Slot(_) => 2,
+        ExprKind::Unknown(_) => 3,
+        ExprKind::If { .. } => 4,
+        ExprKind::And { .. } => 5,
+        ExprKind::Or { .. } => 6,
+        ExprKind::UnaryApp { .. } => 7,
+        ExprKind::BinaryApp { .. } => 8,
+        ExprKind::ExtensionFunctionApp { .. } => 9,
+        ExprKind::GetAttr { .. } => 10,
+        ExprKind::HasAttr { .. } => 11,
+        ExprKind::ExtHasAttr { .. } => 12,
+        ExprKind::Like { .. } => 13,
+        ExprKind::Set(_) => 14,
+        ExprKind::Record(_) => 15,
+        ExprKind::Is { .. } => 16,
+    }
+}

@@ -1,0 +1,50 @@
+-- What raw and conditional names say (Cedar's file `raw_name.rs`).
+use Rattle.std.specs.Prelude.{◌≡◌, ℕ, List, [], ◌∷◌, Option, Some, None, map}
+use Rattle.cedar_names.specs.declared.name.InternalName.{InternalName}
+use Rattle.cedar_names.specs.declared.raw_name.RawName.{RawName}
+use Rattle.cedar_names.specs.declared.raw_name.ConditionalName.{ConditionalName}
+use Rattle.cedar_names.specs.declared.raw_name.ReferenceType.{ReferenceType}
+use Rattle.cedar_names.specs.Place.{Place}
+use Rattle.cedar_names.specs.Names.{BareName, within, unqualified}
+use Rattle.cedar_names.specs.Bare.{bare, place_of}
+
+-- the raw name as it is written
+abbrev pub written : RawName → InternalName
+written r = r.0
+
+-- a raw name without its place
+abbrev pub bare_of_raw : RawName → BareName
+bare_of_raw r = bare (written r)
+
+-- its place, if it has one
+abbrev pub place_of_raw : RawName → Option Place
+place_of_raw r = place_of (written r)
+
+-- the possibilities of a path and a basename in a namespace: within it and as written, or as written where the path is not empty
+abbrev pub possible_within : List (List ℕ) → List ℕ → BareName → List BareName
+possible_within [] b ns = within ns b ∷ unqualified b ∷ []
+possible_within (p ∷ ps) b ns = record { path = p ∷ ps; basename = b } ∷ []
+
+-- the names that a raw name may stand for, the first before the others: as written alone where no namespace is given
+-- (`conditionally_qualify_with` in `raw_name.rs`)
+abbrev pub possible_names : BareName → Option BareName → List BareName
+possible_names n None = n ∷ []
+possible_names n (Some ns) = possible_within n.path n.basename ns
+
+-- the raw name that was written
+abbrev pub raw_of : ConditionalName → RawName
+raw_of c = c.raw
+
+-- the names that it may stand for, in order
+abbrev pub possibilities_of : ConditionalName → List InternalName
+possibilities_of c = c.possibilities.items
+
+-- what the reference may be
+abbrev pub kind_of : ConditionalName → ReferenceType
+kind_of c = c.reference_type
+
+-- two references have the same raw name, possibilities in order and kind (`ConditionalName` in `raw_name.rs`)
+pub record IsSameReference (c d : ConditionalName) : Type 0 where
+  pub raw : bare_of_raw (raw_of c) ≡ bare_of_raw (raw_of d)
+  pub possibilities : map bare (possibilities_of c) ≡ map bare (possibilities_of d)
+  pub kind : kind_of c ≡ kind_of d

@@ -1,0 +1,286 @@
+// Names that are not yet qualified, and what they may stand for.
+ghost use Rattle.std.specs.Prelude.{◌≡◌, ◌↔◌, [], ◌∷◌, All, IsTrue, IfOk, IfErr, MatchResult, None, Some, codes, false, map, position};
+ghost use Rattle.std.specs.Option.{option_copied};
+ghost use Rattle.cedar_names.specs.Grammar.{is_id};
+ghost use Rattle.cedar_names.specs.Names.{unqualified, qualified, name_text, IsNameOf, IsNameText};
+ghost use Rattle.cedar_names.specs.Bare.{bare, place_of, bare_now, IsWholeOf};
+ghost use Rattle.cedar_names.specs.PlainNames.{bare_name_now};
+ghost use Rattle.cedar_names.specs.Readers.{OnReadError, IsNeverReserved};
+ghost use Rattle.cedar_names.specs.RawNames.{written, bare_of_raw, place_of_raw, possible_names, raw_of, possibilities_of, kind_of};
+ghost use Rattle.cedar_names.specs.Resolution.{is_declared, resolved};
+
+use crate::all_defs::AllDefs;
+use crate::err::ParseErrors;
+use crate::from_normalized_str::FromNormalizedStr;
+use crate::id::{Id, UnreservedId};
+use crate::loc::Loc;
+use crate::name::InternalName;
+use crate::plain_name::Name;
+use std::alloc::{AllocError, Global};
+use std::fmt;
+use thiserror::Error;
+
+/// A name as it is written in a schema, which may still get the namespace where it stands (Cedar's
+/// file `raw_name.rs`).
+///
+/// It compares as an `InternalName` does.
+#[derive(Debug, PartialEq, Eq, PartialOrd, Ord, Hash, Drop)]
+pub struct RawName(InternalName);
+
+impl RawName {
+    /// The raw name of one identifier.
+    pub fn new(id: Id, loc: Option<Loc>) -> RawName
+        ensures name { bare_of_raw result ≡ unqualified id }
+        ensures loc { place_of_raw result ≡ loc }
+    {
+        RawName(InternalName::unqualified_name(id, loc))
+    }
+
+    /// The raw name of one identifier that is not reserved.
+    pub fn new_from_unreserved(id: UnreservedId, loc: Option<Loc>) -> RawName
+        ensures name { bare_of_raw result ≡ unqualified id }
+        ensures loc { place_of_raw result ≡ loc }
+    {
+        RawName::new(Id::from(id), loc)
+    }
+
+    /// The name, taken as it is written.
+    pub fn from_name(name: InternalName) -> RawName
+        ensures { written result ≡ name }
+    {
+        RawName(name)
+    }
+
+    /// The raw name of one identifier with this text, with no place.
+    ///
+    /// Any other text is refused as no `Id`.
+    pub fn parse_unqualified_name(alloc: Global, s: &str) -> Result<RawName, ParseErrors>
+        ensures name { IfOk result (λ r. (bare_of_raw r ≡ unqualified s.now) × IsTrue (is_id s.now)) }
+        ensures loc { IfOk result (λ r. place_of_raw r ≡ None) }
+        ensures refused { IfErr result (λ e. OnReadError e (codes "Id") (is_id s.now ≡ false) (IsNeverReserved s.now)) }
+    {
+        let name = InternalName::parse_unqualified_name(alloc, s)?;
+        Ok(RawName(name))
+    }
+
+    /// The raw name with this text. Any other text is refused as no internal name.
+    pub fn from_normalized_str(alloc: Global, s: &str) -> Result<RawName, ParseErrors>
+        ensures name { IfOk result (λ r. IsNameOf s.now (bare_of_raw r)) }
+        ensures loc { IfOk result (λ r. IsWholeOf s.now (place_of_raw r)) }
+        ensures refused { IfErr result (λ e. OnReadError e (codes "internal name") (IsNameText s.now → ⊥) (IsNeverReserved s.now)) }
+    {
+        let name = InternalName::from_normalized_str(alloc, s)?;
+        Ok(RawName(name))
+    }
+
+    /// Whether it is written without a namespace.
+    pub fn is_unqualified(&self) -> bool
+        ensures { IsTrue result ↔ ((bare_of_raw self.now).path ≡ []) }
+    {
+        self.0.is_unqualified()
+    }
+
+    /// Its place, if it has one.
+    pub fn loc(&self) -> Option<&Loc>
+        ensures { option_copied result ≡ place_of_raw self.now }
+    {
+        self.0.loc()
+    }
+
+    /// The name within the namespace, where it is written without one and one is given; else the
+    /// name as it is written.
+    pub fn qualify_with(
+        &self,
+        alloc: Global,
+        ns: Option<&InternalName>,
+    ) -> Result<InternalName, AllocError>
+        ensures name { IfOk result (λ n. bare n ≡ qualified (bare_of_raw self.now) (bare_now ns.entry)) }
+        ensures loc { IfOk result (λ n. place_of n ≡ place_of_raw self.now) }
+    {
+        self.0.qualify_with(alloc, ns)
+    }
+
+    /// As `qualify_with`, with a namespace that is not reserved.
+    pub fn qualify_with_name(
+        &self,
+        alloc: Global,
+        ns: Option<&Name>,
+    ) -> Result<InternalName, AllocError>
+        ensures name { IfOk result (λ n. bare n ≡ qualified (bare_of_raw self.now) (bare_name_now ns.entry)) }
+        ensures loc { IfOk result (λ n. place_of n ≡ place_of_raw self.now) }
+    {
+        self.0.qualify_with_name(alloc, ns)
+    }
+
+    /// The names that it may stand for where it is written in the namespace `ns`: first the name
+    /// within `ns`, then the name as it is written, or this alone where it is written with a
+    /// namespace or none is given.
+    pub fn conditionally_qualify_with(
+        self,
+        alloc: Global,
+        ns: Option<&InternalName>,
+        reference_type: ReferenceType,
+    ) -> Result<ConditionalName, AllocError>
+        ensures possibilities { IfOk result (λ c. map bare (possibilities_of c) ≡ possible_names (bare_of_raw self) (bare_now ns.entry)) }
+        ensures places { IfOk result (λ c. All (λ n. place_of n ≡ place_of_raw self) (possibilities_of c)) }
+        ensures raw { IfOk result (λ c. raw_of c ≡ self) }
+        ensures kind { IfOk result (λ c. kind_of c ≡ reference_type) }
+    {
+        let mut possibilities = Vec::new(alloc);
+        if self.is_unqualified() && ns.is_some() {
+            possibilities.push(self.qualify_with(alloc, ns)?)?;
+        }
+        possibilities.push(self.0.clone(alloc)?)?;
+        Ok(ConditionalName {
+            possibilities,
+            reference_type,
+            raw: self,
+        })
+    }
+
+    /// A copy.
+    pub fn clone(&self, alloc: Global) -> Result<RawName, AllocError>
+        ensures name { IfOk result (λ r. bare_of_raw r ≡ bare_of_raw self.now) }
+        ensures loc { IfOk result (λ r. place_of_raw r ≡ place_of_raw self.now) }
+    {
+        let name = self.0.clone(alloc)?;
+        Ok(RawName(name))
+    }
+}
+
+impl fmt::Display for RawName {
+    ghost output = { λ r. Some (name_text (bare_of_raw r)) };
+
+    fn fmt<W: fmt::Write>(&self, f: &mut fmt::Formatter<W>) -> fmt::Result {
+        self.0.fmt(f)
+    }
+}
+
+/// What a reference may be: a common type, an entity type, or either (Cedar's file `raw_name.rs`).
+#[derive(Clone, Copy, Debug, PartialEq, Eq, Hash)]
+pub enum ReferenceType {
+    Common,
+    Entity,
+    CommonOrEntity,
+}
+
+/// A reference to a type that may stand for several names, the first that is declared (Cedar's
+/// file `raw_name.rs`, after RFC 24).
+///
+/// Two are equal where their raw names, their possibilities in order and their kinds are.
+#[derive(Debug, PartialEq, Eq, Hash, Drop)]
+pub struct ConditionalName {
+    // In falling priority, and never none.
+    possibilities: Vec<InternalName>,
+    reference_type: ReferenceType,
+    raw: RawName,
+}
+
+impl ConditionalName {
+    /// A reference that stands for this name alone.
+    pub fn unconditional(
+        alloc: Global,
+        name: InternalName,
+        reference_type: ReferenceType,
+    ) -> Result<ConditionalName, AllocError>
+        ensures possibilities { IfOk result (λ c. map bare (possibilities_of c) ≡ bare name ∷ []) }
+        ensures places { IfOk result (λ c. All (λ n. place_of n ≡ place_of name) (possibilities_of c)) }
+        ensures raw { IfOk result (λ c. written (raw_of c) ≡ name) }
+        ensures kind { IfOk result (λ c. kind_of c ≡ reference_type) }
+    {
+        let mut possibilities = Vec::new(alloc);
+        possibilities.push(name.clone(alloc)?)?;
+        Ok(ConditionalName {
+            possibilities,
+            reference_type,
+            raw: RawName(name),
+        })
+    }
+
+    /// The raw name that was written.
+    pub fn raw(&self) -> &RawName
+        ensures { result.now ≡ raw_of self.now }
+    {
+        &self.raw
+    }
+
+    /// The place of the raw name, if it has one.
+    pub fn loc(&self) -> Option<&Loc>
+        ensures { option_copied result ≡ place_of_raw (raw_of self.now) }
+    {
+        self.raw.loc()
+    }
+
+    /// The first possibility that is declared as what the reference may be.
+    ///
+    /// An earlier possibility wins over a later one, also as an entity type over a common type.
+    /// Where none is declared, the error holds the reference.
+    pub fn resolve(mut self, all_defs: &AllDefs) -> Result<InternalName, TypeNotDefinedError>
+        ensures ok { IfOk result (λ n. resolved all_defs.now (kind_of self) (possibilities_of self) ≡ Some n) }
+        ensures refused { IfErr result (λ e. (resolved all_defs.now (kind_of self) (possibilities_of self) ≡ None) × (e.undefined_types ≡ self)) }
+    {
+        match self.first_declared(all_defs) {
+            None => Err(TypeNotDefinedError {
+                undefined_types: self,
+            }),
+            Some(index) => Ok(self.possibilities.swap_remove(index)),
+        }
+    }
+
+    /// A copy.
+    pub fn clone(&self, alloc: Global) -> Result<ConditionalName, AllocError>
+        ensures possibilities { IfOk result (λ c. map bare (possibilities_of c) ≡ map bare (possibilities_of self.now)) }
+        ensures places { IfOk result (λ c. map place_of (possibilities_of c) ≡ map place_of (possibilities_of self.now)) }
+        ensures raw { IfOk result (λ c. bare_of_raw (raw_of c) ≡ bare_of_raw (raw_of self.now)) }
+        ensures raw_place { IfOk result (λ c. place_of_raw (raw_of c) ≡ place_of_raw (raw_of self.now)) }
+        ensures kind { IfOk result (λ c. kind_of c ≡ kind_of self.now) }
+    {
+        let possibilities = clone_names(alloc, &self.possibilities)?;
+        let raw = self.raw.clone(alloc)?;
+        Ok(ConditionalName {
+            possibilities,
+            reference_type: self.reference_type,
+            raw,
+        })
+    }
+
+    fn first_declared(&self, all_defs: &AllDefs) -> Option<usize>
+        ensures { result ≡ position (λ n. is_declared all_defs.now (kind_of self.now) (bare n)) (possibilities_of self.now) }
+    {
+        let kind = self.reference_type;
+        self.possibilities
+            .iter()
+            .position(|name| is_declared_as(all_defs, kind, name))
+    }
+}
+
+// Whether the name is declared as what the reference may be.
+fn is_declared_as(all_defs: &AllDefs, kind: ReferenceType, name: &InternalName) -> bool
+    ensures { result ≡ is_declared all_defs.now kind (bare name.now) }
+{
+    match kind {
+        ReferenceType::Common => all_defs.is_defined_as_common(name),
+        ReferenceType::Entity => all_defs.is_defined_as_entity(name),
+        ReferenceType::CommonOrEntity => all_defs.is_defined_as_common(name)
+            || all_defs.is_defined_as_entity(name),
+    }
+}
+
+fn clone_names(alloc: Global, names: &[InternalName]) -> Result<Vec<InternalName>, AllocError>
+    ensures names { IfOk result (λ copy. map bare copy.items ≡ map bare names.now) }
+    ensures places { IfOk result (λ copy. map place_of copy.items ≡ map place_of names.now) }
+{
+    let mut copy = Vec::new(alloc);
+    for name in names {
+        copy.push(name.clone(alloc)?)?;
+    }
+    Ok(copy)
+}
+
+/// A reference to a type of which no possibility is declared (Cedar's file
+/// `validator/schema_errors.rs`).
+#[derive(Debug, Drop, Error)]
+#[error("`{}` is not declared", .undefined_types.raw())]
+pub struct TypeNotDefinedError {
+    pub undefined_types: ConditionalName,
+}

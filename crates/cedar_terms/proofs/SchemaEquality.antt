@@ -1,0 +1,88 @@
+-- A comparison of schema types that goes level by level decides whether their bare types are the same.
+use Rattle.std.proofs.Common.{◌≡◌, Bool, true, false, ◌&&◌, nat_eq, List, [], ◌∷◌, map, refl, ap, sym, subst, ◌∙◌, true≢false}
+use Rattle.std.specs.Bool.{Decides}
+use Rattle.std.specs.Global.{Global}
+use Rattle.std.specs.Rc.{rc_str_bytes}
+use Rattle.std.specs.Cmp.Lexicographic.{pointwise, bytes_decides}
+use Rattle.std.specs.declared.rc.RcStr.{RcStr}
+use Rattle.cedar_names.specs.NameOrder.{name_eq, name_eq_decides}
+use Rattle.cedar_names.specs.PlainNames.{bare_of_name}
+use Rattle.cedar_terms.specs.Entities.{bare_entity_type}
+use Rattle.cedar_terms.specs.SchemaTypes.{BareSchemaType, SchemaSet, SchemaRecord, SchemaEntity, SchemaExtension, attributes_of, bare_schema_step, bare_schema_type}
+use Rattle.cedar_terms.specs.declared.schema_type.SchemaType.{SchemaType, SchemaType-F, out-SchemaType, roll-SchemaType, out-roll-SchemaType, fold-roll-SchemaType, fold_out-SchemaType, map-SchemaType, ind-SchemaType}
+
+both : {A B : Type 0} (x y : Bool) → Decides x A → Decides y B → Decides (x && y) (A × B)
+both true true p q = (λ e. (p.0 refl, q.0 refl), λ e. refl)
+both true false p q = (λ e. absurd (true≢false (sym e)), λ e. q.1 e.1)
+both false y p q = (λ e. absurd (true≢false (sym e)), λ e. p.1 e.0)
+
+exactly : {A B : Type 0} (x : Bool) → Decides x A → (A → B) → (B → A) → Decides x B
+exactly x p f g = (λ e. f (p.0 e), λ b. p.1 (g b))
+
+never : {A : Type 0} → (A → ⊥) → Decides false A
+never f = (λ e. absurd (true≢false (sym e)), λ a. absurd (f a))
+
+always : {A : Type 0} → A → Decides true A
+always a = (λ _. a, λ _. refl)
+
+-- what the comparison answers at one level, where V compares the types inside
+abbrev pub layer_eq : {X : Type 0} → (X → X → Bool) → SchemaType-F X → SchemaType-F X → Bool
+layer_eq V SchemaType-F.Bool SchemaType-F.Bool = true
+layer_eq V SchemaType-F.Long SchemaType-F.Long = true
+layer_eq V SchemaType-F.String SchemaType-F.String = true
+layer_eq V (SchemaType-F.Set s) (SchemaType-F.Set t) = V s.value t.value
+layer_eq V SchemaType-F.EmptySet SchemaType-F.EmptySet = true
+layer_eq V (SchemaType-F.Record m) (SchemaType-F.Record n) = pointwise (λ x y. pointwise nat_eq (rc_str_bytes x.0) (rc_str_bytes y.0) && V x.1 y.1) m.entries n.entries
+layer_eq V (SchemaType-F.Entity s) (SchemaType-F.Entity t) = name_eq (bare_entity_type s) (bare_entity_type t)
+layer_eq V (SchemaType-F.Extension m) (SchemaType-F.Extension n) = name_eq (bare_of_name m) (bare_of_name n)
+layer_eq V s t = false
+
+module _ (V : SchemaType → SchemaType → Bool) where
+  abbrev Claim : SchemaType → Type 0
+  Claim s = (t : SchemaType) → Decides (V s t) (bare_schema_type s ≡ bare_schema_type t)
+
+  abbrev Member : Type 0
+  Member = (s : SchemaType) × Claim s
+
+  abbrev Pair : Type 0
+  Pair = RcStr Global × SchemaType
+
+  pairs : (as_ : List (RcStr Global × Member)) (bs : List Pair) →
+      Decides (pointwise (λ (x y : Pair). pointwise nat_eq (rc_str_bytes x.0) (rc_str_bytes y.0) && V x.1 y.1) (map (λ e. (e.0, e.1.0)) as_) bs)
+      (attributes_of (map (λ (e : Pair). (e.0, bare_schema_type e.1)) (map (λ e. (e.0, e.1.0)) as_)) ≡ attributes_of (map (λ (e : Pair). (e.0, bare_schema_type e.1)) bs))
+  pairs [] [] = always refl
+  pairs [] (b ∷ bs) = never (λ h. cc)
+  pairs (a ∷ as_) [] = never (λ h. cc)
+  pairs (a ∷ as_) (b ∷ bs) =
+      exactly _ (both _ _ (both _ _ (bytes_decides (rc_str_bytes a.0) (rc_str_bytes b.0)) (a.1.1 b.1)) (pairs as_ bs))
+      (λ h. cc (h.0.0, h.0.1, h.1))
+      (λ h. ((cc (h), cc (h)), cc (h)))
+
+  abbrev Layer : SchemaType-F SchemaType → SchemaType-F SchemaType → Type 0
+  Layer a b =
+      Decides (layer_eq V a b)
+      (bare_schema_step (map-SchemaType _ _ bare_schema_type a) ≡ bare_schema_step (map-SchemaType _ _ bare_schema_type b))
+
+  -- one level, where each type inside comes with its claim
+  layer : (a : SchemaType-F Member) (b : SchemaType-F SchemaType) → Layer (map-SchemaType _ _ (λ e. e.0) a) b
+  layer SchemaType-F.Bool SchemaType-F.Bool = always refl
+  layer SchemaType-F.Long SchemaType-F.Long = always refl
+  layer SchemaType-F.String SchemaType-F.String = always refl
+  layer (SchemaType-F.Set s) (SchemaType-F.Set t) = exactly _ (s.value.1 t.value) (λ h. ap SchemaSet h) (λ h. cc (h))
+  layer SchemaType-F.EmptySet SchemaType-F.EmptySet = always refl
+  layer (SchemaType-F.Record m) (SchemaType-F.Record n) = exactly _ (pairs m.entries n.entries) (λ h. ap SchemaRecord h) (λ h. cc (h))
+  layer (SchemaType-F.Entity s) (SchemaType-F.Entity t) = exactly _ (name_eq_decides (bare_entity_type s) (bare_entity_type t)) (λ h. ap SchemaEntity h) (λ h. cc (h))
+  layer (SchemaType-F.Extension m) (SchemaType-F.Extension n) = exactly _ (name_eq_decides (bare_of_name m) (bare_of_name n)) (λ h. ap SchemaExtension h) (λ h. cc (h))
+  layer a b = never (λ h. cc (h))
+
+  at_types : {x y : Bool} {a b c d : BareSchemaType} → x ≡ y → a ≡ c → b ≡ d → Decides y (c ≡ d) → Decides x (a ≡ b)
+  at_types e f g l = subst (λ x. x) (λ i. Decides (sym e i) (sym f i ≡ sym g i)) l
+
+  pub decides_same : ((s t : SchemaType) → V s t ≡ layer_eq V (out-SchemaType s) (out-SchemaType t)) → (s t : SchemaType) → Decides (V s t) (bare_schema_type s ≡ bare_schema_type t)
+  decides_same layered = ind-SchemaType Claim
+      (λ x y is t.
+      at_types
+      (layered (roll-SchemaType x) t ∙ ap (λ l. layer_eq V l (out-SchemaType t)) (out-roll-SchemaType x))
+      (fold-roll-SchemaType BareSchemaType bare_schema_step x)
+      (fold_out-SchemaType BareSchemaType bare_schema_step t)
+      (subst (λ l. Layer l (out-SchemaType t)) is (layer y (out-SchemaType t))))
