@@ -9,13 +9,18 @@ ghost use Rattle.cedar_terms.specs.Entities.{bare_entity_type};
 ghost use Rattle.cedar_terms.specs.Unknowns.{bare_unknown};
 ghost use Rattle.cedar_builders.specs.Bare.{ExtensionFunctionApp, Set, Record};
 ghost use Rattle.cedar_builders.specs.Environment.{fold};
+ghost use Rattle.cedar_builders.specs.Gives.{Gives};
 ghost use Rattle.cedar_builders.specs.Trees.{tree_ops, bound_tree, substituted, all_substituted, fields_substituted};
 ghost use Rattle.cedar_exprs.specs.View.{bare, bares, fields, further, unknown_tree};
 ghost use Rattle.cedar_exprs.specs.Restricted.{env_of};
 
+#[cfg(test)]
+mod tests;
+
 use crate::expr::{Expr, ExprKind};
 use crate::restricted::SubstituteValue;
-use cedar_builders::laws::{restricted_rebuilt, substituted_by_fold};
+use cedar_builders::laws::{built_after, restricted_rebuilt, substituted_by_fold};
+use cedar_builders::{BuildFault, LawfulExprBuilder};
 use cedar_names::{Name, NonEmpty};
 use cedar_terms::{BinaryOp, EntityType, Pattern, UnaryOp, Unknown};
 use std::alloc::{AllocError, Global};
@@ -37,6 +42,20 @@ impl Expr<()> {
     {
         substituted_by_fold();
         rebuilt(alloc, self, values)
+    }
+
+    /// What a builder makes of the substituted expression: what it makes of the expression itself where each unknown that
+    /// `values` binds is built from its value's expression, its first error included.
+    pub fn substitute_into_expr<B: LawfulExprBuilder, V: SubstituteValue>(
+        &self,
+        alloc: Global,
+        values: &HashMap<RcStr, V>,
+    ) -> Result<B::Expr, BuildFault<B::BuildError>>
+        ensures { Gives B.meaning_of B.fault_of (fold B.ops (env_of V.bare_type_of V.bare_tree_of values.now) (bare self.now)) result }
+    {
+        built_after::<B>();
+        let substituted = self.substitute(alloc, values)?;
+        substituted.try_into_expr::<B>(alloc)
     }
 }
 

@@ -8,6 +8,7 @@ use cedar_names::{Loc, Name, NonEmpty, SlotId};
 use cedar_terms::{BinaryOp, EntityType, Literal, Pattern, PatternElem, UnaryOp, Unknown, Var};
 use refuse_calls::RefuseCalls;
 use std::alloc::{AllocError, Global};
+use std::collections::HashMap;
 use std::convert::AsStr;
 use std::rc::RcStr;
 use std::test::Fail;
@@ -197,5 +198,22 @@ fn the_first_refusal_answers(rt: HostRuntime) -> Result<(), Fail> {
     }
     let built = var(&rt, 1)?.try_into_expr::<RefuseCalls>(alloc);
     assert!(rt; built.is_ok());
+    Ok(())
+}
+
+// What is refused first is the same after substitution as before.
+#[test]
+fn substitution_keeps_the_first_refusal(rt: HostRuntime) -> Result<(), Fail> {
+    let alloc = rt.alloc();
+    let mut values = HashMap::new(alloc);
+    drop(values.insert(text(&rt, "x")?, Literal::Bool(true))?);
+    let x = at(&rt, 1)?.unknown(alloc, Unknown::new_untyped(text(&rt, "x")?))?;
+    let e = at(&rt, 1)?.ite(alloc, x, call(&rt, "f", &["g"])?, call(&rt, "h", &[])?)?;
+    match e.substitute_into_expr::<RefuseCalls, Literal>(alloc, &values) {
+        Err(BuildFault::Build(refused)) => {
+            assert_eq!(rt; refused.name.basename_as_ref().as_str(), "g");
+        }
+        _ => assert!(rt; false, "g is refused"),
+    }
     Ok(())
 }

@@ -1,5 +1,5 @@
 // A builder that refuses each call of an extension function with its name.
-ghost use Rattle.std.specs.Prelude.{◌≡◌, IfOk, IfErr, Err, ⊤};
+ghost use Rattle.std.specs.Prelude.{◌≡◌, IfOk, IfErr, Err, ⊤, refl};
 ghost use Rattle.cedar_names.specs.Names.{BareName};
 ghost use Rattle.cedar_names.specs.PlainNames.{bare_of_name};
 ghost use Rattle.cedar_builders.specs.Gives.{Gives};
@@ -7,7 +7,7 @@ ghost use Rattle.cedar_builders.specs.Errors.{OnDuplicateKey};
 ghost use Rattle.cedar_builders.specs.Keys.{keys_of, IsRising, HasRepeat};
 ghost use Rattle.cedar_builders.specs.declared.expression_construction_errors.ExpressionConstructionError.TheVariants as error;
 
-use cedar_builders::{BuildFault, ExprBuilder, ExpressionConstructionError};
+use cedar_builders::{BuildFault, ExprBuilder, ExpressionConstructionError, LawfulExprBuilder};
 use cedar_names::{Loc, Name, NonEmpty, SlotId};
 use cedar_terms::{BinaryOp, EntityType, Literal, Pattern, UnaryOp, Unknown, Var};
 use std::alloc::{AllocError, Global};
@@ -175,4 +175,8 @@ impl ExprBuilder for RefuseCalls {
         drop(pairs);
         Ok(())
     }
+}
+
+impl LawfulExprBuilder for RefuseCalls {
+    ghost lawful = { record { and_of_literals = λ a b. refl; or_of_literals = λ a b. refl; ext_has_of_one = λ m k. refl } };
 }
