@@ -1,3 +1,4 @@
 pub mod Moved
 pub mod Substitutions
 pub mod TreeOps
+pub mod Clashes

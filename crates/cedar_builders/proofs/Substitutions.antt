@@ -7,11 +7,11 @@ use Rattle.cedar_terms.specs.Literals.{BoolLit}
 use Rattle.cedar_builders.specs.Bare.{Text, Bare, Lit, Unknown, ExtensionFunctionApp, Set, Record, Bares, no_trees, tree, trees_of, Fields, no_fields, field, fields_of}
 use Rattle.cedar_builders.specs.Ops.{Ops}
 use Rattle.cedar_builders.specs.Fold.{fold_with, fold_all, fold_fields}
-use Rattle.cedar_builders.specs.Environment.{Env, empty, own, bound, fold}
+use Rattle.cedar_builders.specs.Environment.{Env, either, empty, own, bound, fold}
 use Rattle.cedar_builders.specs.Trees.{tree_ops, sure}
 use Rattle.cedar_builders.specs.Restricted.{is_restricted, are_restricted, fields_are_restricted, IsRestricted, BindsRestricted}
 use Rattle.cedar_builders.specs.Lawful.{Lawful}
-use Rattle.cedar_builders.specs.Laws.{BuiltAfter, RebuiltTwice, SubstitutedTwice, BindsNone, BindsNoneOf, BindsNoneIn, ThenIsBoth, ThenIsNotAlwaysBoth, either, both, within, then}
+use Rattle.cedar_builders.specs.Laws.{BuiltAfter, RebuiltTwice, SubstitutedTwice, BindsNone, BindsNoneOf, BindsNoneIn, ThenIsBoth, ThenIsNotAlwaysBoth, both, within, then}
 use Rattle.cedar_builders.proofs.Moved.{moved, sure_one, sure_two, sure_then}
 
 -- the builder of trees is lawful

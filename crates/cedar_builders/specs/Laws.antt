@@ -3,7 +3,7 @@ use Rattle.std.specs.Prelude.{◌≡◌, ⊤, Option, Some, None, Ok}
 use Rattle.cedar_terms.specs.Types.{BareType}
 use Rattle.cedar_builders.specs.Bare.{Text, Bare, Lit, Var, Slot, Unknown, If, And, Or, UnaryApp, BinaryApp, ExtensionFunctionApp, GetAttr, HasAttr, ExtHasAttr, Like, Set, Record, Is, Bares, no_trees, tree, Fields, no_fields, field}
 use Rattle.cedar_builders.specs.Ops.{Ops}
-use Rattle.cedar_builders.specs.Environment.{Env, empty, fold}
+use Rattle.cedar_builders.specs.Environment.{Env, either, empty, fold}
 use Rattle.cedar_builders.specs.Trees.{tree_ops, sure, substituted}
 use Rattle.cedar_builders.specs.Restricted.{IsRestricted, BindsRestricted}
 
@@ -14,11 +14,6 @@ BuiltAfter B = (env : Env) (e : Bare) → fold B empty (sure (fold tree_ops env 
 -- to rebuild twice is to rebuild once
 abbrev pub RebuiltTwice : Type 0
 RebuiltTwice = (e : Bare) → fold tree_ops empty (sure (fold tree_ops empty e)) ≡ fold tree_ops empty e
-
--- what either binds; the first one's binding stands where both do
-abbrev pub either : {A : Type 0} → Option A → Option A → Option A
-either (Some a) b = Some a
-either None b = b
 
 -- what either environment binds; the first one's binding stands where both do
 abbrev pub both : Env → Env → Env

@@ -6,6 +6,7 @@ pub mod Trees
 pub mod Restricted
 pub mod Lawful
 pub mod Laws
+pub mod Clash
 pub mod Keys
 pub mod Errors
 pub mod Gives

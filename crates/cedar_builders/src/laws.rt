@@ -2,6 +2,7 @@
 //!
 //! Each function here does nothing: its contract is the law, over the definitions alone.
 ghost use Rattle.cedar_builders.specs.Laws.{BuiltAfter, RebuiltTwice, SubstitutedTwice, ThenIsBoth, ThenIsNotAlwaysBoth, SubstitutedByFold, RestrictedRebuilt};
+ghost use Rattle.cedar_builders.specs.Clash.{ClashByChildren};
 
 use crate::expr_builder::LawfulExprBuilder;
 
@@ -41,4 +42,9 @@ pub fn substituted_by_fold()
 /// A restricted tree is rebuilt as it is: it has none of the nodes that the builder of trees simplifies.
 pub fn restricted_rebuilt()
     ensures { RestrictedRebuilt }
+{}
+
+/// The clash at the first position in preorder is the first one found child by child.
+pub fn clash_by_children()
+    ensures { ClashByChildren }
 {}

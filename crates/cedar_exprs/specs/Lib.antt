@@ -6,3 +6,4 @@ pub mod RisingKeys
 pub mod Walks
 pub mod Outside
 pub mod Restricted
+pub mod Typed

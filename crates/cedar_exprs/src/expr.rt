@@ -94,13 +94,73 @@ pub enum ExprKind<T = ()> {
 ///
 /// Equality and hash see the kind and the data, and no place.
 #[cycle(expr)]
-#[derive(Debug, Drop)]
+#[derive(Debug)]
 #[derive_where(PartialEq, Eq, Hash; T)]
 pub struct Expr<T = ()> {
     expr_kind: ExprKind<T>,
     #[derive_where(skip(EqHashOrd))]
     source_loc: Option<Loc>,
     data: T,
+}
+
+// The last child is dropped by the loop, so that a chain of last children takes no stack.
+impl<T: Drop> Drop for Expr<T> {
+    #[cycle(dropped)]
+    fn drop(mut self) {
+        'down: loop {
+            let Expr {
+                expr_kind,
+                source_loc,
+                data,
+            } = self;
+            drop(source_loc);
+            drop(data);
+            let last = match expr_kind {
+                ExprKind::If {
+                    test_expr,
+                    then_expr,
+                    else_expr,
+                } => {
+                    drop(test_expr);
+                    drop(then_expr);
+                    else_expr
+                }
+                ExprKind::And { left, right } | ExprKind::Or { left, right } => {
+                    drop(left);
+                    right
+                }
+                ExprKind::UnaryApp { op: _, arg } => arg,
+                ExprKind::BinaryApp { op: _, arg1, arg2 } => {
+                    drop(arg1);
+                    arg2
+                }
+                ExprKind::GetAttr { expr, attr } | ExprKind::HasAttr { expr, attr } => {
+                    drop(attr);
+                    expr
+                }
+                ExprKind::ExtHasAttr { expr, attrs } => {
+                    drop(attrs);
+                    expr
+                }
+                ExprKind::Like { expr, pattern } => {
+                    drop(pattern);
+                    expr
+                }
+                ExprKind::Is { expr, entity_type } => {
+                    drop(entity_type);
+                    expr
+                }
+                leaf_or_many => {
+                    drop(leaf_or_many);
+                    return;
+                }
+            };
+            match Rc::into_inner(last) {
+                Some(expr) => self = expr,
+                None => return,
+            }
+        }
+    }
 }
 
 impl<T> Expr<T> {
@@ -138,7 +198,7 @@ impl<T> Expr<T> {
         T: Drop,
         ensures { result ≡ kind_of self }
     {
-        self.expr_kind
+        self.into_parts().0
     }
 
     // The Boolean that the expression is a literal of.
@@ -179,7 +239,7 @@ impl<T> Expr<T> {
         T: Drop,
         ensures { result ≡ data_of self }
     {
-        self.data
+        self.into_parts().2
     }
 
     /// The kind, the place and the data of the outermost node.
@@ -188,7 +248,12 @@ impl<T> Expr<T> {
         ensures loc { result.1 ≡ loc_of self }
         ensures of_node { result.2 ≡ data_of self }
     {
-        (self.expr_kind, self.source_loc, self.data)
+        let Expr {
+            expr_kind,
+            source_loc,
+            data,
+        } = self;
+        (expr_kind, source_loc, data)
     }
 
     /// The place of the outermost node, if it is known.
@@ -204,7 +269,8 @@ impl<T> Expr<T> {
         ensures loc { loc_of result ≡ source_loc }
         ensures of_node { data_of result ≡ data_of self }
     {
-        Expr::new(self.expr_kind, source_loc, self.data)
+        let (expr_kind, _, data) = self.into_parts();
+        Expr::new(expr_kind, source_loc, data)
     }
 
     /// Replaces the data of the outermost node.

@@ -11,8 +11,8 @@ mod tests;
 
 use crate::expr::Expr;
 pub use cedar_builders::laws::{
-    built_after, rebuilt_twice, restricted_rebuilt, substituted_by_fold, substituted_twice,
-    then_is_both, then_is_not_always_both,
+    built_after, clash_by_children, rebuilt_twice, restricted_rebuilt, substituted_by_fold,
+    substituted_twice, then_is_both, then_is_not_always_both,
 };
 use std::hash::Hash;
 

@@ -8,10 +8,16 @@ pub mod expr;
 mod first_fault;
 mod keys;
 pub mod laws;
+#[cfg(test)]
+mod raw;
 pub mod restricted;
+#[cfg(test)]
+mod samples;
 mod shape;
 mod substitution;
+pub mod typed;
 
 pub use builder::ExprBuilder;
 pub use expr::{Expr, ExprKind};
 pub use restricted::{RestrictedExpr, RestrictedExprError, SubstituteValue};
+pub use typed::SubstitutionError;

@@ -100,7 +100,7 @@ fn rebuilt<V: SubstituteValue>(
         ExprKind::ExtHasAttr { expr, attrs } => extended_has_with(alloc, expr, attrs, values),
         ExprKind::Like { expr, pattern } => like_with(alloc, expr, pattern, values),
         ExprKind::Set(members) => set_with(alloc, members, values),
-        ExprKind::Record(pairs) => Ok(record_with(alloc, pairs, values)?),
+        ExprKind::Record(pairs) => record_with(alloc, pairs, values),
         ExprKind::Is { expr, entity_type } => is_with(alloc, expr, entity_type, values),
     }
 }

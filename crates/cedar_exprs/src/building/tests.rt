@@ -3,29 +3,17 @@ mod refuse_calls;
 
 use crate::builder::ExprBuilder;
 use crate::expr::{Expr, ExprKind};
+use crate::raw::Raw;
+use crate::samples::{at, name, start_of, text};
 use cedar_builders::{BuildFault, ExprBuilder as Builder};
-use cedar_names::{Loc, Name, NonEmpty, SlotId};
+use cedar_names::{Name, NonEmpty, SlotId};
 use cedar_terms::{BinaryOp, EntityType, Literal, Pattern, PatternElem, UnaryOp, Unknown, Var};
-use refuse_calls::RefuseCalls;
+use refuse_calls::{RefuseCalls, Refused};
 use std::alloc::{AllocError, Global};
 use std::collections::HashMap;
 use std::convert::AsStr;
-use std::rc::RcStr;
+use std::rc::{Rc, RcStr};
 use std::test::Fail;
-
-fn text(rt: &HostRuntime, s: &str) -> Result<RcStr, Fail> {
-    Ok(RcStr::from_str(rt.alloc(), s)?)
-}
-
-fn name(rt: &HostRuntime, s: &str) -> Result<Name, Fail> {
-    Ok(Name::parse_unqualified_name(rt.alloc(), s)?)
-}
-
-// A builder whose nodes have a place that starts here.
-fn at(rt: &HostRuntime, start: usize) -> Result<ExprBuilder<()>, Fail> {
-    let loc = Loc::new(start, 100, text(rt, "source")?);
-    Ok(ExprBuilder::with_data(()).with_maybe_source_loc(Some(loc)))
-}
 
 fn var(rt: &HostRuntime, start: usize) -> Result<Expr<()>, Fail> {
     Ok(at(rt, start)?.var(rt.alloc(), Var::Context)?)
@@ -35,13 +23,6 @@ fn var(rt: &HostRuntime, start: usize) -> Result<Expr<()>, Fail> {
 // parameter: at a concrete one the check of the call's bound does not come to its end.
 fn rebuilt<T: Default + Copy>(alloc: Global, e: &Expr<T>) -> Result<Expr<T>, AllocError> {
     e.into_expr::<ExprBuilder<T>>(alloc)
-}
-
-fn start_of<T>(e: &Expr<T>) -> Option<usize> {
-    match e.source_loc() {
-        None => None,
-        Some(loc) => Some(loc.start),
-    }
 }
 
 // A call of the function with these arguments, each a call without arguments.
@@ -78,38 +59,87 @@ fn record(
     Ok(at(rt, start)?.record(rt.alloc(), pairs)?)
 }
 
-// A tree of each kind is built again as it is, with its place.
+// The tree, whose place starts at 1, is built again as it is, with its place.
+fn is_kept(rt: &HostRuntime, e: Expr<()>) -> Result<bool, Fail> {
+    let built = rebuilt(rt.alloc(), &e)?;
+    Ok(built == e && start_of(&built) == Some(1))
+}
+
 #[test]
-fn keeps_places_and_kinds(rt: HostRuntime) -> Result<(), Fail> {
+fn keeps_leaves(rt: HostRuntime) -> Result<(), Fail> {
     let alloc = rt.alloc();
-    let mut attrs = Vec::new(alloc);
-    attrs.push(text(&rt, "b")?)?;
-    let attrs = NonEmpty::new(text(&rt, "a")?, attrs);
+    assert!(rt; is_kept(&rt, at(&rt, 1)?.val(alloc, Literal::Bool(true))?)?);
+    assert!(rt; is_kept(&rt, var(&rt, 1)?)?);
+    assert!(rt; is_kept(&rt, at(&rt, 1)?.slot(alloc, SlotId::Resource)?)?);
+    let u = Unknown::new_untyped(text(&rt, "u")?);
+    assert!(rt; is_kept(&rt, at(&rt, 1)?.unknown(alloc, u)?)?);
+    Ok(())
+}
+
+#[test]
+fn keeps_operators(rt: HostRuntime) -> Result<(), Fail> {
+    let alloc = rt.alloc();
+    let e = at(&rt, 1)?.ite(alloc, var(&rt, 2)?, var(&rt, 3)?, var(&rt, 4)?)?;
+    assert!(rt; is_kept(&rt, e)?);
+    assert!(rt; is_kept(&rt, at(&rt, 1)?.and(alloc, var(&rt, 2)?, var(&rt, 3)?)?)?);
+    assert!(rt; is_kept(&rt, at(&rt, 1)?.or(alloc, var(&rt, 2)?, var(&rt, 3)?)?)?);
+    assert!(rt;
+        is_kept(
+            &rt,
+            at(&rt, 1)?.unary_app(alloc, UnaryOp::Neg, var(&rt, 2)?)?,
+        )?
+    );
+    let e = at(&rt, 1)?.binary_app(alloc, BinaryOp::Less, var(&rt, 2)?, var(&rt, 3)?)?;
+    assert!(rt; is_kept(&rt, e)?);
+    Ok(())
+}
+
+#[test]
+fn keeps_attributes_and_patterns(rt: HostRuntime) -> Result<(), Fail> {
+    let alloc = rt.alloc();
+    assert!(rt;
+        is_kept(
+            &rt,
+            at(&rt, 1)?.get_attr(alloc, var(&rt, 2)?, text(&rt, "a")?)?,
+        )?
+    );
+    assert!(rt;
+        is_kept(
+            &rt,
+            at(&rt, 1)?.has_attr(alloc, var(&rt, 2)?, text(&rt, "a")?)?,
+        )?
+    );
+    let attrs = NonEmpty::new(text(&rt, "a")?, vec![in alloc; text(&rt, "b")?]?);
+    assert!(rt;
+        is_kept(
+            &rt,
+            at(&rt, 1)?.extended_has_attr(alloc, var(&rt, 2)?, attrs)?,
+        )?
+    );
     let pattern = Pattern::from_items(alloc, [PatternElem::Wildcard].iter().copied())?;
-    let mut cases = Vec::new(alloc);
-    cases.push(at(&rt, 1)?.val(alloc, Literal::Bool(true))?)?;
-    cases.push(var(&rt, 1)?)?;
-    cases.push(at(&rt, 1)?.slot(alloc, SlotId::Resource)?)?;
-    cases.push(at(&rt, 1)?.unknown(alloc, Unknown::new_untyped(text(&rt, "u")?))?)?;
-    cases.push(at(&rt, 1)?.ite(alloc, var(&rt, 2)?, var(&rt, 3)?, var(&rt, 4)?)?)?;
-    cases.push(at(&rt, 1)?.and(alloc, var(&rt, 2)?, var(&rt, 3)?)?)?;
-    cases.push(at(&rt, 1)?.or(alloc, var(&rt, 2)?, var(&rt, 3)?)?)?;
-    cases.push(at(&rt, 1)?.unary_app(alloc, UnaryOp::Neg, var(&rt, 2)?)?)?;
-    cases.push(at(&rt, 1)?.binary_app(alloc, BinaryOp::Less, var(&rt, 2)?, var(&rt, 3)?)?)?;
-    cases.push(at(&rt, 1)?.call_extension_fn(alloc, name(&rt, "f")?, calls(&rt, &["g"])?)?)?;
-    cases.push(at(&rt, 1)?.get_attr(alloc, var(&rt, 2)?, text(&rt, "a")?)?)?;
-    cases.push(at(&rt, 1)?.has_attr(alloc, var(&rt, 2)?, text(&rt, "a")?)?)?;
-    cases.push(at(&rt, 1)?.extended_has_attr(alloc, var(&rt, 2)?, attrs)?)?;
-    cases.push(at(&rt, 1)?.like(alloc, var(&rt, 2)?, pattern)?)?;
-    cases.push(at(&rt, 1)?.set(alloc, calls(&rt, &["f", "g"])?)?)?;
-    cases.push(record(&rt, 1, &["b", "a"], calls(&rt, &["g", "f"])?)?)?;
+    assert!(rt; is_kept(&rt, at(&rt, 1)?.like(alloc, var(&rt, 2)?, pattern)?)?);
     let entity_type = EntityType::from(name(&rt, "E")?);
-    cases.push(at(&rt, 1)?.is_entity_type(alloc, var(&rt, 2)?, entity_type)?)?;
-    for e in &cases {
-        let built = rebuilt(alloc, e)?;
-        assert!(rt; built == *e);
-        assert_eq!(rt; start_of(&built), Some(1));
-    }
+    assert!(rt;
+        is_kept(
+            &rt,
+            at(&rt, 1)?.is_entity_type(alloc, var(&rt, 2)?, entity_type)?,
+        )?
+    );
+    Ok(())
+}
+
+#[test]
+fn keeps_sets_calls_and_records(rt: HostRuntime) -> Result<(), Fail> {
+    let alloc = rt.alloc();
+    let fn_name = name(&rt, "f")?;
+    assert!(rt;
+        is_kept(
+            &rt,
+            at(&rt, 1)?.call_extension_fn(alloc, fn_name, calls(&rt, &["g"])?)?,
+        )?
+    );
+    assert!(rt; is_kept(&rt, at(&rt, 1)?.set(alloc, calls(&rt, &["f", "g"])?)?)?);
+    assert!(rt; is_kept(&rt, record(&rt, 1, &["b", "a"], calls(&rt, &["g", "f"])?)?)?);
     Ok(())
 }
 
@@ -155,47 +185,71 @@ fn data_is_made_anew(rt: HostRuntime) -> Result<(), Fail> {
     Ok(())
 }
 
+// The node of a conjunction of two Boolean literals, at 2 and 3.
+fn raw_conjunction(rt: &HostRuntime) -> Result<Expr<()>, Fail> {
+    let alloc = rt.alloc();
+    let left = Rc::new(alloc, at(rt, 2)?.val(alloc, Literal::Bool(true))?)?;
+    let right = Rc::new(alloc, at(rt, 3)?.val(alloc, Literal::Bool(false))?)?;
+    Ok(at(rt, 1)?.with_expr_kind(ExprKind::And { left, right }))
+}
+
 // A raw conjunction of two Boolean literals becomes the literal of the result.
 #[test]
 fn builds_again_with_simplification(rt: HostRuntime) -> Result<(), Fail> {
     let alloc = rt.alloc();
-    let yes = std::rc::Rc::new(alloc, at(&rt, 2)?.val(alloc, Literal::Bool(true))?)?;
-    let no = std::rc::Rc::new(alloc, at(&rt, 3)?.val(alloc, Literal::Bool(false))?)?;
-    let raw = at(&rt, 1)?.with_expr_kind(ExprKind::And {
-        left: yes,
-        right: no,
-    });
-    let built = rebuilt(alloc, &raw)?;
+    let built = rebuilt(alloc, &raw_conjunction(&rt)?)?;
     let literal = ExprBuilder::<()>::new().val(alloc, Literal::Bool(false))?;
     assert!(rt; built == literal);
     assert_eq!(rt; start_of(&built), Some(1));
     Ok(())
 }
 
-// The call that is refused first, by its name.
+// A builder that simplifies nothing makes that node again.
+#[test]
+fn a_raw_builder_keeps_the_node(rt: HostRuntime) -> Result<(), Fail> {
+    let raw = raw_conjunction(&rt)?;
+    match raw.try_into_expr::<Raw>(rt.alloc()) {
+        Ok(built) => assert!(rt; built == raw),
+        Err(_) => assert!(rt; false, "nothing is refused"),
+    }
+    Ok(())
+}
+
+// The name of the call that is refused.
+fn refused(answer: Result<(), BuildFault<Refused>>) -> Result<Name, Fail> {
+    match answer {
+        Err(BuildFault::Build(refused)) => Ok(refused.name),
+        Err(BuildFault::Memory) => Err(Fail::from("no memory")),
+        Ok(()) => Err(Fail::from("nothing is refused")),
+    }
+}
+
+// This call is refused first, before substitution and after.
+fn refuses_first(rt: &HostRuntime, e: Expr<()>, first: &str) -> Result<bool, Fail> {
+    let alloc = rt.alloc();
+    let built = refused(e.try_into_expr::<RefuseCalls>(alloc))?;
+    let values = HashMap::<RcStr, Literal>::new(alloc);
+    let after = refused(e.substitute_into_expr::<RefuseCalls, Literal>(alloc, &values))?;
+    Ok(built.basename_as_ref().as_str() == first && after.basename_as_ref().as_str() == first)
+}
+
 #[test]
 fn the_first_refusal_answers(rt: HostRuntime) -> Result<(), Fail> {
     let alloc = rt.alloc();
-    let mut cases = Vec::new(alloc);
-    cases.push((record(&rt, 1, &["b", "a"], calls(&rt, &["g", "f"])?)?, "f"))?;
-    cases.push((call(&rt, "h", &["f", "g"])?, "f"))?;
-    cases.push((call(&rt, "h", &[])?, "h"))?;
-    let left = call(&rt, "g", &[])?;
-    let right = call(&rt, "f", &[])?;
-    cases.push((at(&rt, 1)?.and(alloc, left, right)?, "g"))?;
+    assert!(rt;
+        refuses_first(
+            &rt,
+            record(&rt, 1, &["b", "a"], calls(&rt, &["g", "f"])?)?,
+            "f",
+        )?
+    );
+    assert!(rt; refuses_first(&rt, call(&rt, "h", &["f", "g"])?, "f")?);
+    assert!(rt; refuses_first(&rt, call(&rt, "h", &[])?, "h")?);
+    let e = at(&rt, 1)?.and(alloc, call(&rt, "g", &[])?, call(&rt, "f", &[])?)?;
+    assert!(rt; refuses_first(&rt, e, "g")?);
     let members = at(&rt, 1)?.set(alloc, calls(&rt, &["h", "f"])?)?;
-    let mut values = Vec::new(alloc);
-    values.push(call(&rt, "f", &[])?)?;
-    values.push(members)?;
-    cases.push((record(&rt, 1, &["b", "a"], values)?, "h"))?;
-    for (e, first) in &cases {
-        match e.try_into_expr::<RefuseCalls>(alloc) {
-            Err(BuildFault::Build(refused)) => {
-                assert_eq!(rt; refused.name.basename_as_ref().as_str(), *first);
-            }
-            _ => assert!(rt; false, "{first} is refused"),
-        }
-    }
+    let values = vec![in alloc; call(&rt, "f", &[])?, members]?;
+    assert!(rt; refuses_first(&rt, record(&rt, 1, &["b", "a"], values)?, "h")?);
     let built = var(&rt, 1)?.try_into_expr::<RefuseCalls>(alloc);
     assert!(rt; built.is_ok());
     Ok(())
@@ -209,11 +263,7 @@ fn substitution_keeps_the_first_refusal(rt: HostRuntime) -> Result<(), Fail> {
     drop(values.insert(text(&rt, "x")?, Literal::Bool(true))?);
     let x = at(&rt, 1)?.unknown(alloc, Unknown::new_untyped(text(&rt, "x")?))?;
     let e = at(&rt, 1)?.ite(alloc, x, call(&rt, "f", &["g"])?, call(&rt, "h", &[])?)?;
-    match e.substitute_into_expr::<RefuseCalls, Literal>(alloc, &values) {
-        Err(BuildFault::Build(refused)) => {
-            assert_eq!(rt; refused.name.basename_as_ref().as_str(), "g");
-        }
-        _ => assert!(rt; false, "g is refused"),
-    }
+    let first = refused(e.substitute_into_expr::<RefuseCalls, Literal>(alloc, &values))?;
+    assert_eq!(rt; first.basename_as_ref().as_str(), "g");
     Ok(())
 }

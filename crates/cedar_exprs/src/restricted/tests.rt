@@ -1,26 +1,11 @@
 // Which expressions are refused and at which place, and that the others come back as they are.
 use super::{RestrictedExpr, RestrictedExprError};
-use crate::builder::ExprBuilder;
 use crate::expr::Expr;
+use crate::samples::{at, name, text};
 use cedar_builders::ExprBuilder as _;
-use cedar_names::{Loc, Name, NonEmpty, SlotId};
+use cedar_names::{NonEmpty, SlotId};
 use cedar_terms::{BinaryOp, EntityType, Literal, Pattern, PatternElem, UnaryOp, Unknown, Var};
-use std::rc::RcStr;
 use std::test::Fail;
-
-fn text(rt: &HostRuntime, s: &str) -> Result<RcStr, Fail> {
-    Ok(RcStr::from_str(rt.alloc(), s)?)
-}
-
-fn name(rt: &HostRuntime, s: &str) -> Result<Name, Fail> {
-    Ok(Name::parse_unqualified_name(rt.alloc(), s)?)
-}
-
-// A builder whose nodes have a place that starts here.
-fn at(rt: &HostRuntime, start: usize) -> Result<ExprBuilder<()>, Fail> {
-    let loc = Loc::new(start, 100, text(rt, "source")?);
-    Ok(ExprBuilder::with_data(()).with_maybe_source_loc(Some(loc)))
-}
 
 fn literal(rt: &HostRuntime, start: usize) -> Result<Expr<()>, Fail> {
     Ok(at(rt, start)?.val(rt.alloc(), Literal::Long(7))?)

@@ -2,17 +2,14 @@
 
 use crate::builder::ExprBuilder;
 use crate::expr::{Expr, ExprKind};
+use crate::samples::{at, start_of, text};
 use cedar_builders::ExprBuilder as _;
-use cedar_names::Loc;
+use cedar_names::NonEmpty;
 use cedar_terms::{Literal, Unknown, Var};
 use std::collections::HashMap;
 use std::hash::{DefaultHasher, Hash, Hasher};
 use std::rc::{Rc, RcStr};
 use std::test::Fail;
-
-fn text(rt: &HostRuntime, s: &str) -> Result<RcStr, Fail> {
-    Ok(RcStr::from_str(rt.alloc(), s)?)
-}
 
 fn unknown(rt: &HostRuntime, name: &str) -> Result<Expr<()>, Fail> {
     Ok(Expr::unknown(Unknown::new_untyped(text(rt, name)?)))
@@ -23,19 +20,6 @@ fn bound(rt: &HostRuntime, name: &str, value: i64) -> Result<HashMap<RcStr, Lite
     let mut values = HashMap::new(rt.alloc());
     drop(values.insert(text(rt, name)?, Literal::Long(value))?);
     Ok(values)
-}
-
-// A builder whose nodes have a place that starts here.
-fn at(rt: &HostRuntime, start: usize) -> Result<ExprBuilder<()>, Fail> {
-    let loc = Loc::new(start, 100, text(rt, "source")?);
-    Ok(ExprBuilder::with_data(()).with_maybe_source_loc(Some(loc)))
-}
-
-fn start_of(e: &Expr<()>) -> Option<usize> {
-    match e.source_loc() {
-        None => None,
-        Some(loc) => Some(loc.start),
-    }
 }
 
 #[test]
@@ -54,16 +38,23 @@ fn bound_unknowns_become_values(rt: HostRuntime) -> Result<(), Fail> {
     Ok(())
 }
 
-// A raw conjunction of two Boolean literals is simplified, also where nothing is bound.
+// Nodes that were made as they stand are simplified, also where nothing is bound.
 #[test]
-fn conjunctions_simplify(rt: HostRuntime) -> Result<(), Fail> {
+fn raw_nodes_simplify(rt: HostRuntime) -> Result<(), Fail> {
     let alloc = rt.alloc();
-    let raw = ExprBuilder::with_data(()).with_expr_kind(ExprKind::And {
+    let builder = || ExprBuilder::with_data(());
+    let both = builder().with_expr_kind(ExprKind::And {
         left: Rc::new(alloc, Expr::val(Literal::Bool(true)))?,
         right: Rc::new(alloc, Expr::val(Literal::Bool(false)))?,
     });
-    let answer = raw.substitute(alloc, &bound(&rt, "x", 1)?)?;
-    assert!(rt; answer == Expr::val(Literal::Bool(false)));
+    let nothing = HashMap::<RcStr, Literal>::new(alloc);
+    assert!(rt; both.substitute(alloc, &nothing)? == Expr::val(Literal::Bool(false)));
+    let of_one = builder().with_expr_kind(ExprKind::ExtHasAttr {
+        expr: Rc::new(alloc, Expr::var(Var::Action))?,
+        attrs: NonEmpty::new(text(&rt, "a")?, Vec::new(alloc)),
+    });
+    let plain = Expr::has_attr(alloc, Expr::var(Var::Action), text(&rt, "a")?)?;
+    assert!(rt; of_one.substitute(alloc, &nothing)? == plain);
     Ok(())
 }
 

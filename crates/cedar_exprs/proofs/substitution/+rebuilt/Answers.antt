@@ -1,9 +1,9 @@
-use Rattle.std.proofs.Common.{◌≡◌, [], ◌∷◌, ◌++◌, ap, ◌∙◌, sym, subst, append_assoc}
+use Rattle.std.proofs.Common.{◌≡◌, IfOk, [], ◌∷◌, ◌++◌, ap, ◌∙◌, sym, subst, append_assoc}
 use Rattle.std.specs.List.Sorted.{IsStrictlySortedBy}
 use Rattle.std.specs.Map.{keys_of}
 use Rattle.cedar_builders.specs.Bare.{Record}
 use Rattle.cedar_builders.specs.Trees.{substituted, fields_substituted}
-use Rattle.cedar_exprs.specs.View.{fields}
+use Rattle.cedar_exprs.specs.View.{bare, fields}
 use Rattle.cedar_exprs.specs.Restricted.{env_of}
 use Rattle.cedar_exprs.proofs.Records.{Entry, text_cmp, bare_at_record}
 use Rattle.cedar_exprs.proofs.Rebuilt.{all_made, next_field}
@@ -12,12 +12,13 @@ use Rattle.cedar_exprs.proofs.substitution.+rebuilt.Goals as goal
 pub rebuilt_all-returns : goal.rebuilt_all-returns
 rebuilt_all-returns g t c = all_made _ _ _ _ _ c.loop-member.invariant c.loop-member-test.false c.deref-member-items.ensures.value
 
-pub rebuilt-returns-in_ok-record_with-in-Record : goal.rebuilt-returns-in_ok-record_with-in-Record
-rebuilt-returns-in_ok-record_with-in-Record g t c =
+pub rebuilt-returns-in-Record : goal.rebuilt-returns-in-Record
+rebuilt-returns-in-Record g t c =
     let env = env_of g.V.SubstituteValue.bare_type_of g.V.SubstituteValue.bare_tree_of c.args.values.now in
-    c.in_ok-record_with-in-Record.ensures
-    ∙ ap (λ m. Record (fields_substituted env (fields m.entries))) c.deref-in-Record.ensures
-    ∙ sym (ap (substituted env) (bare_at_record c.args.e.now c.in-Record.pairs (sym c.expr_kind.ensures ∙ c.in-Record.is)))
+    subst (λ tree. IfOk c.record_with.result (λ r. bare r ≡ tree))
+    (ap (λ m. Record (fields_substituted env (fields m.entries))) c.deref-in-Record.ensures
+    ∙ sym (ap (substituted env) (bare_at_record c.args.e.now c.in-Record.pairs (sym c.expr_kind.ensures ∙ c.in-Record.is))))
+    c.record_with.ensures
 
 pub rebuilt_values-loop-key-preserved : goal.rebuilt_values-loop-key-preserved
 rebuilt_values-loop-key-preserved g t c =

@@ -1,0 +1,119 @@
+-- Bound unknowns whose values have other types than their annotations say (typed substitution in Cedar's `expr.rs`).
+use Rattle.std.specs.Prelude.{◌≡◌, List, [], ◌∷◌, ◌++◌, if◌then◌else◌, Option, Some, None}
+use Rattle.cedar_terms.specs.Types.{BareType}
+use Rattle.cedar_terms.specs.TypeOrder.{type_eq}
+use Rattle.cedar_builders.specs.Bare.{Bare, Lit, Var, Slot, Unknown, If, And, Or, UnaryApp, BinaryApp, ExtensionFunctionApp, GetAttr, HasAttr, ExtHasAttr, Like, Set, Record, Is, Bares, no_trees, tree, Fields, no_fields, field}
+use Rattle.cedar_builders.specs.Environment.{Env, either}
+
+abbrev mutual
+  -- each position of a tree before those of its children, the first child first and the values of a record by key
+  pub preorder : Bare → List Bare
+  preorder (Lit l) = Lit l ∷ []
+  preorder (Var v) = Var v ∷ []
+  preorder (Slot s) = Slot s ∷ []
+  preorder (Unknown n t) = Unknown n t ∷ []
+  preorder (If a b c) = If a b c ∷ preorder a ++ preorder b ++ preorder c
+  preorder (And a b) = And a b ∷ preorder a ++ preorder b
+  preorder (Or a b) = Or a b ∷ preorder a ++ preorder b
+  preorder (UnaryApp o a) = UnaryApp o a ∷ preorder a
+  preorder (BinaryApp o a b) = BinaryApp o a b ∷ preorder a ++ preorder b
+  preorder (ExtensionFunctionApp n es) = ExtensionFunctionApp n es ∷ all_in_preorder es
+  preorder (GetAttr a k) = GetAttr a k ∷ preorder a
+  preorder (HasAttr a k) = HasAttr a k ∷ preorder a
+  preorder (ExtHasAttr a k ks) = ExtHasAttr a k ks ∷ preorder a
+  preorder (Like a p) = Like a p ∷ preorder a
+  preorder (Set es) = Set es ∷ all_in_preorder es
+  preorder (Record fs) = Record fs ∷ fields_in_preorder fs
+  preorder (Is a n) = Is a n ∷ preorder a
+
+  -- those of a list of trees
+  pub all_in_preorder : Bares → List Bare
+  all_in_preorder no_trees = []
+  all_in_preorder (tree e es) = preorder e ++ all_in_preorder es
+
+  -- those of the values of a record
+  pub fields_in_preorder : Fields → List Bare
+  fields_in_preorder no_fields = []
+  fields_in_preorder (field k e fs) = preorder e ++ fields_in_preorder fs
+
+-- the type that an unknown is annotated with, and the type of the value that it is bound to
+abbrev pub TwoTypes : Type 0
+TwoTypes = BareType × BareType
+
+-- both types, where they differ
+abbrev pub difference : BareType → BareType → Option TwoTypes
+difference t s = if type_eq t s then None else Some (t, s)
+
+-- what an annotation and the type of a binding, if there is one, differ in
+abbrev pub mismatch : BareType → Option (BareType × Bare) → Option TwoTypes
+mismatch t None = None
+mismatch t (Some r) = difference t r.0
+
+-- the same for an annotation, if there is one
+abbrev pub unknown_clash : Option BareType → Option (BareType × Bare) → Option TwoTypes
+unknown_clash None r = None
+unknown_clash (Some t) r = mismatch t r
+
+-- the clash at a position itself
+abbrev pub clash_at : Env → Bare → Option TwoTypes
+clash_at env (Lit l) = None
+clash_at env (Var v) = None
+clash_at env (Slot s) = None
+clash_at env (Unknown n t) = unknown_clash t (env n)
+clash_at env (If a b c) = None
+clash_at env (And a b) = None
+clash_at env (Or a b) = None
+clash_at env (UnaryApp o a) = None
+clash_at env (BinaryApp o a b) = None
+clash_at env (ExtensionFunctionApp n es) = None
+clash_at env (GetAttr a k) = None
+clash_at env (HasAttr a k) = None
+clash_at env (ExtHasAttr a k ks) = None
+clash_at env (Like a p) = None
+clash_at env (Set es) = None
+clash_at env (Record fs) = None
+clash_at env (Is a n) = None
+
+-- the first that a list gives
+abbrev pub first_of : {A B : Type 0} → (A → Option B) → List A → Option B
+first_of f [] = None
+first_of f (x ∷ xs) = either (f x) (first_of f xs)
+
+-- the clash at the first position in preorder that has one
+abbrev pub clash : Env → Bare → Option TwoTypes
+clash env e = first_of (clash_at env) (preorder e)
+
+abbrev mutual
+  -- the same, found child by child
+  pub first_clash : Env → Bare → Option TwoTypes
+  first_clash env (Lit l) = None
+  first_clash env (Var v) = None
+  first_clash env (Slot s) = None
+  first_clash env (Unknown n t) = unknown_clash t (env n)
+  first_clash env (If a b c) = either (first_clash env a) (either (first_clash env b) (first_clash env c))
+  first_clash env (And a b) = either (first_clash env a) (first_clash env b)
+  first_clash env (Or a b) = either (first_clash env a) (first_clash env b)
+  first_clash env (UnaryApp o a) = first_clash env a
+  first_clash env (BinaryApp o a b) = either (first_clash env a) (first_clash env b)
+  first_clash env (ExtensionFunctionApp n es) = first_clash_of_all env es
+  first_clash env (GetAttr a k) = first_clash env a
+  first_clash env (HasAttr a k) = first_clash env a
+  first_clash env (ExtHasAttr a k ks) = first_clash env a
+  first_clash env (Like a p) = first_clash env a
+  first_clash env (Set es) = first_clash_of_all env es
+  first_clash env (Record fs) = first_clash_of_fields env fs
+  first_clash env (Is a n) = first_clash env a
+
+  -- in a list of trees
+  pub first_clash_of_all : Env → Bares → Option TwoTypes
+  first_clash_of_all env no_trees = None
+  first_clash_of_all env (tree e es) = either (first_clash env e) (first_clash_of_all env es)
+
+  -- in the values of a record
+  pub first_clash_of_fields : Env → Fields → Option TwoTypes
+  first_clash_of_fields env no_fields = None
+  first_clash_of_fields env (field k e fs) = either (first_clash env e) (first_clash_of_fields env fs)
+
+-- the clash at the first position in preorder is the first one found child by child
+abbrev pub ClashByChildren : Type 0
+ClashByChildren = (env : Env) (e : Bare) → clash env e ≡ first_clash env e
