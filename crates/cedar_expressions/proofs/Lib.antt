@@ -1,2 +1,3 @@
 pub mod Tops
 pub mod Pairs
+pub mod Spelling

@@ -1,5 +1,5 @@
 -- What the commands of the script do to the number of expressions on the stack.
-use Rattle.std.specs.Prelude.{ℕ, List, reverse, Bool, true, false}
+use Rattle.std.specs.Prelude.{ℕ, List, reverse}
 use Rattle.std.specs.Global.{Global}
 use Rattle.std.specs.HashMap.{HashMap}
 use Rattle.std.specs.declared.rc.RcStr.{RcStr}
@@ -9,7 +9,7 @@ use Rattle.cedar_exprs.specs.declared.expr.Expr.{Expr}
 use Rattle.cedar_terms.specs.declared.literal.Literal.{Literal}
 use Rattle.std.specs.Vec.{vec_len}
 use Rattle.cedar_expressions.specs.declared.line.Command.{Command}
-use Rattle.cedar_expressions.specs.declared.line.Command.TheVariants.{Bool as Bool', Long, String, Var, Unknown, If, And, Or, RawAnd, RawOr, Unary, Binary, Set, Record, Bind, Substitute, Show}
+use Rattle.cedar_expressions.specs.declared.line.Command.TheVariants.{Bool as Bool', Long, String, Var, Slot, Unknown, If, And, Or, RawAnd, RawOr, Unary, Binary, Call, Get, Has, ExtHas, Like, Is, Set, Record, Bind, Substitute, Typed, Show}
 use Rattle.cedar_expressions.specs.declared.work.State.{State}
 
 -- the expressions on the stack, the top first
@@ -33,6 +33,7 @@ needed (Bool' b) = 0
 needed (Long n) = 0
 needed (String text) = 0
 needed (Var var) = 0
+needed (Slot slot) = 0
 needed (Unknown name annotation) = 0
 needed If = 3
 needed And = 2
@@ -41,10 +42,17 @@ needed RawAnd = 2
 needed RawOr = 2
 needed (Unary op) = 1
 needed (Binary op) = 2
+needed (Call name count) = count
+needed (Get attribute) = 1
+needed (Has attribute) = 1
+needed (ExtHas attributes) = 1
+needed (Like pattern) = 1
+needed (Is entity_type) = 1
 needed (Set count) = count
 needed (Record keys) = vec_len keys
 needed (Bind name) = 1
 needed Substitute = 1
+needed Typed = 1
 needed Show = 1
 
 -- how many expressions stand in place of those
@@ -53,6 +61,7 @@ left (Bool' b) = 1
 left (Long n) = 1
 left (String text) = 1
 left (Var var) = 1
+left (Slot slot) = 1
 left (Unknown name annotation) = 1
 left If = 1
 left And = 1
@@ -61,28 +70,15 @@ left RawAnd = 1
 left RawOr = 1
 left (Unary op) = 1
 left (Binary op) = 1
+left (Call name count) = 1
+left (Get attribute) = 1
+left (Has attribute) = 1
+left (ExtHas attributes) = 1
+left (Like pattern) = 1
+left (Is entity_type) = 1
 left (Set count) = 1
 left (Record keys) = 1
 left (Bind name) = 0
 left Substitute = 1
+left Typed = 1
 left Show = 1
-
--- whether a command shows something
-abbrev pub shows : Command → Bool
-shows (Bool' b) = false
-shows (Long n) = false
-shows (String text) = false
-shows (Var var) = false
-shows (Unknown name annotation) = false
-shows If = false
-shows And = false
-shows Or = false
-shows RawAnd = false
-shows RawOr = false
-shows (Unary op) = false
-shows (Binary op) = false
-shows (Set count) = false
-shows (Record keys) = false
-shows (Bind name) = false
-shows Substitute = false
-shows Show = true

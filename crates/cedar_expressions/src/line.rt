@@ -1,15 +1,23 @@
 //! The lines of the script, read as commands.
-ghost use Rattle.std.specs.Prelude.{◌≡◌, ◌≢◌, ◌^◌, ◌<◌, ◌==◌, ◌⊎◌, IfOk, OnErr, IfErr, slice_index};
+ghost use Rattle.std.specs.Prelude.{◌≡◌, ◌≢◌, ◌^◌, ◌<◌, ◌==◌, ◌⊎◌, ◌∷◌, IfOk, OnErr, IfErr, false, slice_index};
 ghost use Rattle.std.specs.Result.{OkIff};
 ghost use Rattle.std.specs.Str.Parse.{IsNumeral, digits_value, signed_digits_value};
+ghost use Rattle.cedar_names.specs.Names.{IsNameOf, has_reserved};
+ghost use Rattle.cedar_names.specs.PlainNames.{bare_of_name};
+ghost use Rattle.cedar_names.specs.Slots.{slot_text};
+ghost use Rattle.cedar_names.specs.declared.slot.SlotId.{SlotId};
 ghost use Rattle.cedar_terms.specs.Ops.{binary_op_text, var_text};
 ghost use Rattle.cedar_terms.specs.Types.{bare_type, type_text};
 ghost use Rattle.cedar_terms.specs.declared.ops.BinaryOp.{BinaryOp};
 ghost use Rattle.cedar_terms.specs.declared.var.Var.{Var};
-ghost use Rattle.cedar_expressions.specs.Words.{WritesLong};
+ghost use Rattle.cedar_expressions.specs.Commands.{texts_now};
+ghost use Rattle.cedar_expressions.specs.Reading.{Spells};
+ghost use Rattle.cedar_expressions.specs.Words.{IsNoName, WritesLong};
 
+use crate::pattern::read_pattern;
 use crate::refusal::Refusal;
-use cedar_terms::{BinaryOp, Type, UnaryOp, Var};
+use cedar_names::{FromNormalizedStr as _, Name, NonEmpty, ParseErrors, SlotId};
+use cedar_terms::{BinaryOp, EntityType, Pattern, Type, UnaryOp, Var};
 use std::alloc::Global;
 
 /// What a line asks for, with its words read.
@@ -23,6 +31,8 @@ pub enum Command<'a> {
     String(&'a str),
     /// Pushes a variable.
     Var(Var),
+    /// Pushes a slot.
+    Slot(SlotId),
     /// Pushes the unknown of this name, which values of the type may replace, or any where none is given.
     Unknown(&'a str, Option<Type>),
     /// Takes a test and two branches, and pushes their conditional.
@@ -39,6 +49,18 @@ pub enum Command<'a> {
     Unary(UnaryOp),
     /// Takes two expressions and pushes the operator applied to them.
     Binary(BinaryOp),
+    /// Takes this many expressions and pushes the call of the function on them, the lowest as the first argument.
+    Call(Name, usize),
+    /// Takes an expression and pushes its attribute.
+    Get(&'a str),
+    /// Takes an expression and pushes the test for its attribute.
+    Has(&'a str),
+    /// Takes an expression and pushes the test for each attribute in turn.
+    ExtHas(NonEmpty<&'a str>),
+    /// Takes an expression and pushes the test against the pattern.
+    Like(Pattern),
+    /// Takes an expression and pushes the test for the entity type.
+    Is(EntityType),
     /// Takes this many expressions and pushes the set of them, the lowest as the first member.
     Set(usize),
     /// Takes an expression for each key, the lowest for the first, and pushes the record of them.
@@ -47,6 +69,8 @@ pub enum Command<'a> {
     Bind(&'a str),
     /// Replaces the top by its substitution.
     Substitute,
+    /// The same, where each value has the type that is expected of it.
+    Typed,
     /// Shows the top, which stays.
     Show,
 }
@@ -54,13 +78,15 @@ pub enum Command<'a> {
 impl<'a> Command<'a> {
     /// Reads the text of a line that is not empty.
     ///
-    /// Words are separated by one space each, and none is empty; after `string` the rest of the line is taken as it is.
-    /// What is no command is a bad line.
+    /// Words are separated by one space each, and none is empty; after `string` and `like` the rest of the line is taken as
+    /// it is. What is no command is a bad line.
     pub fn parse(alloc: Global, text: &'a str) -> Result<Command<'a>, Refusal>
         ensures { IfErr result (λ e. (e ≡ Refusal.BadLine) ⊎ (e ≡ Refusal.Memory)) }
     {
-        if let Some(("string", rest)) = text.split_once(' ') {
-            return Ok(Command::String(rest));
+        match text.split_once(' ') {
+            Some(("string", rest)) => return Ok(Command::String(rest)),
+            Some(("like", rest)) => return Ok(Command::Like(read_pattern(alloc, rest)?)),
+            _ => {}
         }
         let words: Vec<&str> = text.split(' ').collect(alloc)?;
         if words.iter().any(|word| word.is_empty()) {
@@ -72,7 +98,8 @@ impl<'a> Command<'a> {
 
 // The command that words spell, none of which is empty.
 fn of_words<'a>(alloc: Global, words: &[&'a str]) -> Result<Command<'a>, Refusal>
-    ensures { IfErr result (λ e. (e ≡ Refusal.BadLine) ⊎ (e ≡ Refusal.Memory)) }
+    ensures spelled { IfOk result (λ command. Spells command (texts_now words.now)) }
+    ensures refused { IfErr result (λ e. (e ≡ Refusal.BadLine) ⊎ (e ≡ Refusal.Memory)) }
 {
     match words {
         ["bool", "true"] => Ok(Command::Bool(true)),
@@ -80,6 +107,7 @@ fn of_words<'a>(alloc: Global, words: &[&'a str]) -> Result<Command<'a>, Refusal
         ["long", number] => Ok(Command::Long(long(number)?)),
         ["string"] => Ok(Command::String("")),
         ["var", name] => Ok(Command::Var(variable(name)?)),
+        ["slot", name] => Ok(Command::Slot(slot(name)?)),
         ["unknown", name] => Ok(Command::Unknown(name, None)),
         ["unknown", name, ty] => Ok(Command::Unknown(name, Some(annotation(ty)?))),
         ["if"] => Ok(Command::If),
@@ -90,10 +118,20 @@ fn of_words<'a>(alloc: Global, words: &[&'a str]) -> Result<Command<'a>, Refusal
         ["!"] => Ok(Command::Unary(UnaryOp::Not)),
         ["neg"] => Ok(Command::Unary(UnaryOp::Neg)),
         ["isEmpty"] => Ok(Command::Unary(UnaryOp::IsEmpty)),
+        ["call", name, number] => Ok(Command::Call(read_name(alloc, name)?, count(number)?)),
+        ["get", attribute] => Ok(Command::Get(attribute)),
+        ["has", attribute] => Ok(Command::Has(attribute)),
+        ["exthas", first, later @ ..] => {
+            let later = later.to_vec(alloc)?;
+            Ok(Command::ExtHas(NonEmpty::new(*first, later)))
+        }
+        ["like"] => Ok(Command::Like(Pattern::from_vec(alloc, Vec::new(alloc))?)),
+        ["is", name] => Ok(Command::Is(EntityType::from(read_name(alloc, name)?))),
         ["set", number] => Ok(Command::Set(count(number)?)),
         ["record", keys @ ..] => Ok(Command::Record(keys.to_vec(alloc)?)),
         ["bind", name] => Ok(Command::Bind(name)),
         ["substitute"] => Ok(Command::Substitute),
+        ["typed"] => Ok(Command::Typed),
         ["show"] => Ok(Command::Show),
         [operator] => Ok(Command::Binary(binary_operator(operator)?)),
         _ => Err(Refusal::BadLine),
@@ -141,6 +179,34 @@ fn variable(word: &str) -> Result<Var, Refusal>
         "resource" => Ok(Var::Resource),
         "context" => Ok(Var::Context),
         _ => Err(Refusal::BadLine),
+    }
+}
+
+// The slot that has this text behind a question mark.
+fn slot(word: &str) -> Result<SlotId, Refusal>
+    ensures named { IfOk result (λ slot. 63 ∷ word.now ≡ slot_text slot) }
+    ensures every { OnErr result ((slot : SlotId) → 63 ∷ word.now ≢ slot_text slot) }
+    ensures refused { IfErr result (λ e. e ≡ Refusal.BadLine) }
+{
+    match word {
+        "principal" => Ok(SlotId::Principal),
+        "resource" => Ok(SlotId::Resource),
+        _ => Err(Refusal::BadLine),
+    }
+}
+
+// The name that a word writes in its normalized form.
+fn read_name(alloc: Global, word: &str) -> Result<Name, Refusal>
+    ensures read { IfOk result (λ name. IsNameOf word.now (bare_of_name name)) }
+    ensures allowed { IfOk result (λ name. has_reserved (bare_of_name name) ≡ false) }
+    ensures refused { IfErr result (λ e. (e ≡ Refusal.BadLine) ⊎ (e ≡ Refusal.Memory)) }
+    ensures bad { IfErr result (λ e. e ≡ Refusal.BadLine → IsNoName word.now) }
+{
+    match Name::from_normalized_str(alloc, word) {
+        Ok(name) => Ok(name),
+        Err(ParseErrors::NotNormalized { .. }) => Err(Refusal::BadLine),
+        Err(ParseErrors::Reserved(_)) => Err(Refusal::BadLine),
+        Err(ParseErrors::Memory) => Err(Refusal::Memory),
     }
 }
 

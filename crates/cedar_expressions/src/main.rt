@@ -2,6 +2,7 @@
 #![tactic(auto)]
 
 mod line;
+mod pattern;
 mod refusal;
 mod run;
 mod sketch;

@@ -3,6 +3,8 @@ ghost use Rattle.std.specs.Prelude.{◌≡◌};
 ghost use Rattle.cedar_expressions.specs.declared.refusal.Refusal.TheVariants.{Memory};
 
 use cedar_builders::{DuplicateKeyError, ExpressionConstructionError};
+use cedar_exprs::SubstitutionError;
+use cedar_terms::Type;
 use std::alloc::{AllocError, AllocFailed};
 use thiserror::Error;
 
@@ -24,6 +26,9 @@ pub enum Refusal {
     /// The expression to bind is no value.
     #[error("not a value")]
     NotAValue,
+    /// The value of an unknown has another type than its annotation says.
+    #[error("expected {expected}, actual {actual}")]
+    TypeError { expected: Type, actual: Type },
     /// Memory was wanted, and none was given.
     #[error("no memory")]
     Memory,
@@ -54,6 +59,21 @@ impl From<ExpressionConstructionError> for Refusal {
         match error {
             ExpressionConstructionError::DuplicateKey(error) => Refusal::DuplicateKey(error),
             ExpressionConstructionError::Memory => Refusal::Memory,
+        }
+    }
+}
+
+impl From<SubstitutionError> for Refusal {
+    ghost use Rattle.cedar_expressions.specs.Refusals.{refusal_of_types};
+
+    ghost from_gives = { λ e r. r ≡ refusal_of_types e };
+
+    fn from(error: SubstitutionError) -> Refusal {
+        match error {
+            SubstitutionError::TypeError { expected, actual } => {
+                Refusal::TypeError { expected, actual }
+            }
+            SubstitutionError::Memory => Refusal::Memory,
         }
     }
 }

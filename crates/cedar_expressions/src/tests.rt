@@ -51,6 +51,10 @@ fn scripts_show_trees(rt: HostRuntime) -> Result<(), Fail> {
         ("string a b\nshow\n", "\"a b\"\n"),
         ("unknown x\nshow\n", "(unknown x)\n"),
         ("unknown x bool\nshow\n", "(unknown x bool)\n"),
+        ("unknown x long\nshow\n", "(unknown x long)\n"),
+        ("unknown x string\nshow\n", "(unknown x string)\n"),
+        ("unknown x set\nshow\n", "(unknown x set)\n"),
+        ("unknown x record\nshow\n", "(unknown x record)\n"),
         ("bool true\nbool false\nand\nshow\n", "false\n"),
         ("bool false\nbool true\nor\nshow\n", "true\n"),
         (
@@ -79,10 +83,24 @@ fn scripts_show_trees(rt: HostRuntime) -> Result<(), Fail> {
         ("var action\nshow\n", "action\n"),
         ("var resource\nshow\n", "resource\n"),
         ("var context\nshow\n", "context\n"),
+        ("slot principal\nshow\n", "?principal\n"),
+        ("slot resource\nshow\n", "?resource\n"),
         ("bool true\nlong 1\nlong 2\nif\nshow\n", "(if true 1 2)\n"),
         ("bool true\n!\nshow\n", "(! true)\n"),
         ("long -5\nneg\nshow\n", "(- -5)\n"),
         ("set 0\nisEmpty\nshow\n", "(isEmpty (set))\n"),
+        ("long 1\nlong 2\ncall f 2\nshow\n", "(call f 1 2)\n"),
+        ("call a::b::c 0\nshow\n", "(call a::b::c)\n"),
+        ("var principal\nget a\nshow\n", "(get principal \"a\")\n"),
+        ("var principal\nhas a\nshow\n", "(has principal \"a\")\n"),
+        (
+            "var principal\nexthas a b\nshow\n",
+            "(has principal \"a\" \"b\")\n",
+        ),
+        ("var principal\nexthas a\nshow\n", "(has principal \"a\")\n"),
+        ("string aab\nlike *ab\nshow\n", "(like \"aab\" \"*ab\")\n"),
+        ("string a\nlike\nshow\n", "(like \"a\" \"\")\n"),
+        ("var principal\nis A::B\nshow\n", "(is principal A::B)\n"),
         ("long 1\nlong 2\nlong 1\nset 3\nshow\n", "(set 1 2 1)\n"),
         ("long 1\nset 0\nset 002\nshow\n", "(set 1 (set))\n"),
         ("record\nshow\n", "(record)\n"),
@@ -105,6 +123,74 @@ fn scripts_show_trees(rt: HostRuntime) -> Result<(), Fail> {
     ];
     for (script, shown) in table {
         assert_shows(&rt, script, shown)?;
+    }
+    Ok(())
+}
+
+#[test]
+fn the_kinds_with_names_show(rt: HostRuntime) -> Result<(), Fail> {
+    let table = [
+        ("slot resource\nis A::B\nshow\n", "(is ?resource A::B)\n"),
+        (
+            "long 1\nlong 2\ncall n::f 2\nget a\nshow\n",
+            "(get (call n::f 1 2) \"a\")\n",
+        ),
+        // Only so many arguments are taken, the lowest first.
+        (
+            "long 1\nlong 2\nlong 3\ncall f 2\nshow\n-\nshow\n",
+            "(call f 2 3)\n(- 1 (call f 2 3))\n",
+        ),
+        // Attributes are words, shown with their escapes.
+        (
+            "var context\nget \"'\\\t\u{7f}é\nshow\n",
+            "(get context \"\\\"\\'\\\\\\t\\u{7f}é\")\n",
+        ),
+        (
+            "var context\nhas \"'\\\r\0\nshow\n",
+            "(has context \"\\\"\\'\\\\\\r\\0\")\n",
+        ),
+        (
+            "var context\nexthas \" b ' b\nshow\n",
+            "(has context \"\\\"\" \"b\" \"\\'\" \"b\")\n",
+        ),
+        // They are searched by substitution.
+        (
+            "unknown x\nget a\nunknown x\nhas b\nunknown x\nexthas c d\nunknown x\nlike *\nunknown x\nis T\ncall f 5\nlong 1\nbind x\nsubstitute\nshow\n",
+            "(call f (get 1 \"a\") (has 1 \"b\") (has 1 \"c\" \"d\") (like 1 \"*\") (is 1 T))\n",
+        ),
+        (
+            "slot principal\nlong 1\nbind x\nsubstitute\nshow\n",
+            "?principal\n",
+        ),
+    ];
+    for (script, shown) in table {
+        assert_shows(&rt, script, shown)?;
+    }
+    Ok(())
+}
+
+#[test]
+fn patterns_are_read_and_shown(rt: HostRuntime) -> Result<(), Fail> {
+    // What stands behind `like` and a space, and the text of its pattern.
+    let table = [
+        ("", ""),
+        ("*", "*"),
+        ("**", "**"),
+        ("ab", "ab"),
+        ("a*b", "a*b"),
+        ("\\*", "\\*"),
+        ("\\\\", "\\\\"),
+        ("\\\\*", "\\\\*"),
+        ("\\*\\\\*", "\\*\\\\*"),
+        (" ", " "),
+        ("  a  b ", "  a  b "),
+        ("\"'\t\r\0\u{1b}", "\\\"\\'\\t\\r\\0\\u{1b}"),
+        ("é\u{1f600}*", "é\u{1f600}*"),
+    ];
+    for (spelled, pattern) in table {
+        let script = format!(in rt.alloc(); "string s\nlike {spelled}\nshow\n")?;
+        let shown = format!(in rt.alloc(); "(like \"s\" \"{pattern}\")\n")?;
+        assert_shows(&rt, script.as_str(), shown.as_str())?;
     }
     Ok(())
 }
@@ -151,6 +237,34 @@ fn substitution_binds_names(rt: HostRuntime) -> Result<(), Fail> {
     ];
     for (script, shown) in table {
         assert_shows(&rt, script, shown)?;
+    }
+    Ok(())
+}
+
+#[test]
+fn typed_substitution_compares_types(rt: HostRuntime) -> Result<(), Fail> {
+    assert_shows(&rt, "unknown x long\nlong 2\nbind x\ntyped\nshow\n", "2\n")?;
+    assert_shows(&rt, "unknown x\nlong 2\nbind x\ntyped\nshow\n", "2\n")?;
+    assert_shows(
+        &rt,
+        "unknown x bool\nlong 2\nbind y\ntyped\nshow\n",
+        "(unknown x bool)\n",
+    )?;
+    let table: [(&[u8], &str, &str); 3] = [
+        (b"typed\n", "", "line 1: too few expressions"),
+        (
+            b"unknown foo bool\nshow\nlong 1\nbind foo\ntyped\n",
+            "(unknown foo bool)\n",
+            "line 5: expected bool, actual long",
+        ),
+        (
+            b"unknown x bool\nunknown y string\nrecord b a\nlong 1\nbind x\nlong 2\nbind y\ntyped\n",
+            "",
+            "line 8: expected string, actual long",
+        ),
+    ];
+    for (script, shown, fault) in table {
+        assert_refused(&rt, script, shown, fault)?;
     }
     Ok(())
 }
@@ -229,8 +343,47 @@ fn bad_lines_are_refused(rt: HostRuntime) -> Result<(), Fail> {
         "bind ",
         "bind x y",
         "substitute x",
-        "typed",
-        "like a",
+        "typed x",
+        "slot",
+        "slot ",
+        "slot action",
+        "slot ?resource",
+        "slot principal resource",
+        "call",
+        "call f",
+        "call f -1",
+        "call f +1",
+        "call f x",
+        "call f 1 2",
+        "call  1",
+        "call 1f 0",
+        "call if 0",
+        "call a: 0",
+        "call a::__cedar::b 0",
+        "call __cedar 0",
+        "call n::f 18446744073709551616",
+        "get",
+        "get ",
+        "get  a",
+        "get a b",
+        "has",
+        "has a b",
+        "exthas",
+        "exthas ",
+        "exthas a ",
+        "exthas a  b",
+        "like a\\x",
+        "like \\",
+        "like a\\",
+        "like *\\\\\\",
+        "like\\*",
+        "is",
+        "is ",
+        "is A B",
+        "is A::",
+        "is true",
+        "is 1",
+        "is A::__cedar",
     ];
     for line in table {
         let script = format!(in rt.alloc(); "{line}\nbool true\nshow\n")?;
@@ -250,6 +403,25 @@ fn short_stacks_are_refused(rt: HostRuntime) -> Result<(), Fail> {
         ("long 1\nraw-and\n", "", "line 2: too few expressions"),
         ("long 1\nraw-or\n", "", "line 2: too few expressions"),
         ("long 1\n==\n", "", "line 2: too few expressions"),
+        ("long 1\nset 2\n", "", "line 2: too few expressions"),
+        ("long 1\nrecord a b\n", "", "line 2: too few expressions"),
+        ("long 1\ncall f 2\n", "", "line 2: too few expressions"),
+        ("get a\n", "", "line 1: too few expressions"),
+        ("has a\n", "", "line 1: too few expressions"),
+        ("exthas a b\n", "", "line 1: too few expressions"),
+        ("like *\n", "", "line 1: too few expressions"),
+        ("is A\n", "", "line 1: too few expressions"),
+        (
+            "bool true\nbool true\nif\n",
+            "",
+            "line 3: too few expressions",
+        ),
+        ("neg\n", "", "line 1: too few expressions"),
+        (
+            "call f 18446744073709551615\n",
+            "",
+            "line 1: too few expressions",
+        ),
         (
             "long 5\nshow\nand\nshow\n",
             "5\n",
@@ -264,7 +436,15 @@ fn short_stacks_are_refused(rt: HostRuntime) -> Result<(), Fail> {
 
 #[test]
 fn what_is_no_value_record_or_text_is_refused(rt: HostRuntime) -> Result<(), Fail> {
-    let table: [(&[u8], &str, &str); 11] = [
+    let table: [(&[u8], &str, &str); 15] = [
+        (
+            b"string aab\nlike *ab\nshow\nlike a\\x\n",
+            "(like \"aab\" \"*ab\")\n",
+            "line 4: bad line",
+        ),
+        (b"slot principal\nbind y\n", "", "line 2: not a value"),
+        (b"call f 0\nbind y\n", "", "line 2: not a value"),
+        (b"like \xff\n", "", "line 1: not UTF-8"),
         (b"set 0\nbind y\n", "", "line 2: not a value"),
         (
             b"long 1\nlong 2\nrecord a a\nshow\n",

@@ -1,19 +1,26 @@
 //! The state of a script: a stack of expressions and the bindings of names, and what each command does to them.
-ghost use Rattle.std.specs.Prelude.{◌≡◌, ◌≢◌, ◌∷◌, Ok, Some, None, drop, take, reverse, IsSome, ◌+◌, ◌<◌, ◌↔◌, OnOk, IfOk, IsErrOf, is_some, IfErr, vec_len};
+ghost use Rattle.std.specs.Prelude.{◌≡◌, ◌≢◌, ◌∷◌, Ok, None, drop, take, reverse, ◌+◌, ◌<◌, ◌↔◌, OnOk, IfOk, IsErrOf, IfErr, map, string_bytes, vec_len};
+ghost use Rattle.std.specs.Rc.{rc_str_bytes};
+ghost use Rattle.cedar_names.specs.PlainNames.{bare_of_name};
 ghost use Rattle.cedar_terms.specs.Literals.{BareLiteral, StringLit, bare_literal};
 ghost use Rattle.cedar_terms.specs.Unknowns.{bare_annotation};
-ghost use Rattle.cedar_builders.specs.Bare.{Lit, Unknown as unknown_tree, And, Or, Set as members};
-ghost use Rattle.cedar_builders.specs.Environment.{fold};
+ghost use Rattle.cedar_builders.specs.Bare.{Lit, Unknown as unknown_tree, And, Or, ExtensionFunctionApp as call_tree, Set as members};
+ghost use Rattle.cedar_builders.specs.Clash.{clash};
+ghost use Rattle.cedar_builders.specs.Environment.{empty, fold};
 ghost use Rattle.cedar_builders.specs.Trees.{tree_ops};
 ghost use Rattle.cedar_exprs.specs.View.{bare, bares};
 ghost use Rattle.cedar_exprs.specs.Keys.{keyed};
-ghost use Rattle.cedar_expressions.specs.Commands.{key_pairs, record_made, bound_in, bound_as};
+ghost use Rattle.cedar_exprs.specs.Typed.{IsClashError};
+ghost use Rattle.cedar_expressions.specs.Commands.{key_pairs, record_made, bound_in, bound_as, texts_now};
+ghost use Rattle.cedar_expressions.specs.Sketch.{sketch_ops};
+ghost use Rattle.cedar_expressions.specs.declared.line.Command.{Command};
 
 use crate::line::Command;
 use crate::refusal::Refusal;
-use crate::sketch::write_sketch;
+use crate::sketch::Sketch;
 use cedar_builders::ExprBuilder as _;
-use cedar_exprs::{Expr, ExprBuilder, ExprKind};
+use cedar_exprs::{Expr, ExprBuilder, ExprKind, SubstitutionError};
+use cedar_names::{Name, NonEmpty};
 use cedar_terms::{Literal, Type, Unknown};
 use std::alloc::{AllocError, Global};
 use std::collections::HashMap;
@@ -30,8 +37,8 @@ pub struct State {
 }
 
 impl State {
-    ghost use Rattle.cedar_expressions.specs.Commands.{Pushes, OfTop, OfOne, OfTwo, OfThree, Works, Binds};
-    ghost use Rattle.cedar_expressions.specs.Stack.{tops, bindings_of, depth, needed, left, shows};
+    ghost use Rattle.cedar_expressions.specs.Commands.{Pushes, OfTop, OfOne, OfTwo, OfThree, Works, Binds, Shows};
+    ghost use Rattle.cedar_expressions.specs.Stack.{tops, bindings_of, depth, needed, left};
 
     /// An empty stack, and nothing bound.
     pub fn new(alloc: Global) -> State
@@ -52,13 +59,14 @@ impl State {
         ensures binds { OnOk result (Binds command.entry (tops self.old) (bindings_of self.old) (bindings_of self.new)) }
         ensures depth { OnOk result (depth self.new + needed command.entry ≡ depth self.old + left command.entry) }
         ensures too_few { IsErrOf result Refusal.TooFewExpressions ↔ (depth self.old < needed command.entry) }
-        ensures shows { IfOk result (λ shown. is_some shown ≡ shows command.entry) }
+        ensures shows { IfOk result (Shows command.entry (tops self.old)) }
     {
         match command {
             Command::Bool(value) => self.push(Expr::val(Literal::Bool(value))),
             Command::Long(value) => self.push(Expr::val(Literal::Long(value))),
             Command::String(text) => self.push(string(alloc, text)?),
             Command::Var(var) => self.push(Expr::var(var)),
+            Command::Slot(slot) => self.push(Expr::slot(slot)),
             Command::Unknown(name, annotation) => self.push(unknown(alloc, name, annotation)?),
             Command::If => self.conditional(alloc),
             Command::And => self.apply_two(alloc, Expr::and),
@@ -71,10 +79,27 @@ impl State {
             Command::Binary(op) => self.apply_two(alloc, |alloc, arg1, arg2| {
                 Expr::binary_app(alloc, op, arg1, arg2)
             }),
+            Command::Call(name, count) => self.call(alloc, name, count),
+            Command::Get(attribute) => {
+                self.apply_one(alloc, |alloc, expr| get(alloc, expr, attribute))
+            }
+            Command::Has(attribute) => {
+                self.apply_one(alloc, |alloc, expr| has(alloc, expr, attribute))
+            }
+            Command::ExtHas(attributes) => self.apply_one(alloc, |alloc, expr| {
+                extended_has(alloc, expr, attributes)
+            }),
+            Command::Like(pattern) => {
+                self.apply_one(alloc, |alloc, expr| Expr::like(alloc, expr, pattern))
+            }
+            Command::Is(entity_type) => self.apply_one(alloc, |alloc, expr| {
+                Expr::is_entity_type(alloc, expr, entity_type)
+            }),
             Command::Set(count) => self.set(alloc, count),
             Command::Record(keys) => self.record(alloc, keys),
             Command::Bind(name) => self.bind(alloc, name),
             Command::Substitute => self.substitute(alloc),
+            Command::Typed => self.substitute_typed(alloc),
             Command::Show => self.show(alloc),
         }
     }
@@ -162,6 +187,18 @@ impl State {
         self.push(Expr::ite(alloc, test_expr, then_expr, else_expr)?)
     }
 
+    // Takes this many expressions, and pushes the call of the function on them.
+    fn call(&mut self, alloc: Global, name: Name, count: usize) -> Shown
+        ensures shows { IfOk result (λ shown. shown ≡ None) }
+        ensures bindings { bindings_of self.new ≡ bindings_of self.old }
+        ensures made { OnOk result (Pushes (λ e. bare e ≡ call_tree (bare_of_name name) (bares (reverse (take count (tops self.old))))) (drop count (tops self.old)) (tops self.new)) }
+        ensures depth { OnOk result (depth self.new + count ≡ depth self.old + 1) }
+        ensures too_few { IsErrOf result Refusal.TooFewExpressions ↔ (depth self.old < count) }
+    {
+        let args = self.pop_many(count)?;
+        self.push(Expr::call_extension_fn(alloc, name, args)?)
+    }
+
     // Takes this many expressions, and pushes the set of them.
     fn set(&mut self, alloc: Global, count: usize) -> Shown
         ensures shows { IfOk result (λ shown. shown ≡ None) }
@@ -224,6 +261,19 @@ impl State {
         self.push(top)
     }
 
+    // Replaces the top by its substitution, if no value has another type than is expected of it.
+    fn substitute_typed(&mut self, alloc: Global) -> Shown
+        ensures shows { IfOk result (λ shown. shown ≡ None) }
+        ensures bindings { bindings_of self.new ≡ bindings_of self.old }
+        ensures made { OnOk result (OfOne (λ a e. (fold tree_ops (bound_in (bindings_of self.old)) (bare a) ≡ Ok (bare e)) × (clash (bound_in (bindings_of self.old)) (bare a) ≡ None)) (tops self.old) (tops self.new)) }
+        ensures depth { OnOk result (depth self.new ≡ depth self.old) }
+        ensures too_few { IsErrOf result Refusal.TooFewExpressions ↔ (depth self.old < 1) }
+    {
+        let top = self.pop()?;
+        let top = self.substituted_typed(alloc, &top)?;
+        self.push(top)
+    }
+
     // The expression with each name that is bound replaced.
     fn substituted(&self, alloc: Global, expr: &Expr) -> Result<Expr, AllocError>
         ensures { IfOk result (λ e. fold tree_ops (bound_in (bindings_of self.now)) (bare expr.now) ≡ Ok (bare e)) }
@@ -231,17 +281,30 @@ impl State {
         expr.substitute(alloc, &self.bindings)
     }
 
+    // The same, if no value has another type than is expected of it.
+    fn substituted_typed(&self, alloc: Global, expr: &Expr) -> Result<Expr, SubstitutionError>
+        ensures made { IfOk result (λ e. fold tree_ops (bound_in (bindings_of self.now)) (bare expr.now) ≡ Ok (bare e)) }
+        ensures passed { OnOk result (clash (bound_in (bindings_of self.now)) (bare expr.now) ≡ None) }
+        ensures refused { IfErr result (IsClashError (clash (bound_in (bindings_of self.now)) (bare expr.now))) }
+    {
+        expr.substitute_typed(alloc, &self.bindings)
+    }
+
     // Shows the top, which stays.
     fn show(&self, alloc: Global) -> Shown
-        ensures shows { IfOk result (λ shown. IsSome shown) }
+        ensures shows { IfOk result (Shows Command.Show (tops self.now)) }
         ensures too_few { IsErrOf result Refusal.TooFewExpressions ↔ (depth self.now < 1) }
     {
         let top = self.stack.last().ok_or(Refusal::TooFewExpressions)?;
-        let mut text = String::new(alloc);
-        // A text refuses a write only for want of memory.
-        write_sketch(&mut text, top).map_err(|_| Refusal::Memory)?;
-        Ok(Some(text))
+        Ok(Some(written(alloc, top)?))
     }
+}
+
+// The text of an expression.
+fn written(alloc: Global, expr: &Expr) -> Result<String, AllocError>
+    ensures { IfOk result (λ text. fold sketch_ops empty (bare expr.now) ≡ Ok (string_bytes text)) }
+{
+    expr.into_expr::<Sketch>(alloc)?.to_text(alloc)
 }
 
 fn string(alloc: Global, text: &str) -> Result<Expr, AllocError>
@@ -259,6 +322,41 @@ fn unknown(alloc: Global, name: &str, annotation: Option<Type>) -> Result<Expr, 
         None => Unknown::new_untyped(name),
         Some(ty) => Unknown::new_with_type(name, ty),
     }))
+}
+
+// The attribute of an expression.
+fn get(alloc: Global, expr: Expr, attribute: &str) -> Result<Expr, AllocError>
+    ensures { IfOk result (λ e. bare e ≡ tree_ops.get_of (bare expr) attribute.now) }
+{
+    let attribute = RcStr::from_str(alloc, attribute)?;
+    Expr::get_attr(alloc, expr, attribute)
+}
+
+// The test for an attribute of an expression.
+fn has(alloc: Global, expr: Expr, attribute: &str) -> Result<Expr, AllocError>
+    ensures { IfOk result (λ e. bare e ≡ tree_ops.has_of (bare expr) attribute.now) }
+{
+    let attribute = RcStr::from_str(alloc, attribute)?;
+    Expr::has_attr(alloc, expr, attribute)
+}
+
+// The test for each attribute in turn.
+fn extended_has(alloc: Global, expr: Expr, attributes: NonEmpty<&str>) -> Result<Expr, AllocError>
+    ensures { IfOk result (λ e. bare e ≡ tree_ops.ext_has_of (bare expr) attributes.entry.head.now (texts_now attributes.entry.tail.items)) }
+{
+    let head = RcStr::from_str(alloc, attributes.head)?;
+    let tail = shared_texts(alloc, &attributes.tail)?;
+    Expr::extended_has_attr(alloc, expr, NonEmpty::new(head, tail))
+}
+
+fn shared_texts(alloc: Global, texts: &[&str]) -> Result<Vec<RcStr>, AllocError>
+    ensures { IfOk result (λ shared. map rc_str_bytes shared.items ≡ texts_now texts.now) }
+{
+    let mut shared = Vec::with_capacity(alloc, texts.len())?;
+    for text in texts {
+        shared.push(RcStr::from_str(alloc, text)?)?;
+    }
+    Ok(shared)
 }
 
 // The value that an expression is: a literal.
