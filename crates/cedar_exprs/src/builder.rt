@@ -55,6 +55,17 @@ impl<T: Default + Copy> ExprBuilder<T> {
         })
     }
 
+    /// A copy.
+    pub fn clone(&self, alloc: Global) -> Result<ExprBuilder<T>, AllocError>
+        ensures loc { IfOk result (λ b. builder_loc b ≡ builder_loc self.now) }
+        ensures of_node { IfOk result (λ b. builder_data b ≡ builder_data self.now) }
+    {
+        Ok(ExprBuilder {
+            source_loc: clone_loc(alloc, self.source_loc.as_ref())?,
+            data: self.data,
+        })
+    }
+
     /// The node of this kind, as it stands: nothing is simplified.
     pub fn with_expr_kind(self, expr_kind: ExprKind<T>) -> Expr<T>
         ensures { IsMadeBy self (bare_kind expr_kind) (held_kind expr_kind) result }

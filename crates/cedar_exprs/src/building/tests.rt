@@ -204,6 +204,16 @@ fn builds_again_with_simplification(rt: HostRuntime) -> Result<(), Fail> {
     Ok(())
 }
 
+// A copy of a builder has its place and its data.
+#[test]
+fn copies_make_the_same(rt: HostRuntime) -> Result<(), Fail> {
+    let builder = at(&rt, 1)?.clone(rt.alloc())?;
+    assert_eq!(rt; start_of(&builder.var(rt.alloc(), Var::Action)?), Some(1));
+    let sevens = ExprBuilder::<u8>::with_data(7).clone(rt.alloc())?;
+    assert_eq!(rt; *sevens.var(rt.alloc(), Var::Action)?.data(), 7);
+    Ok(())
+}
+
 // A builder that simplifies nothing makes that node again.
 #[test]
 fn a_raw_builder_keeps_the_node(rt: HostRuntime) -> Result<(), Fail> {
