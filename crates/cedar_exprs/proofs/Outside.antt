@@ -3,6 +3,7 @@ use Rattle.std.proofs.Common.{◌≡◌, ℕ, ◌+◌, ◌<◌, length, get_or, 
 use Rattle.std.specs.declared.rc.Rc.{Rc}
 use Rattle.std.specs.declared.rc.RcStr.{RcStr}
 use Rattle.cedar_names.specs.declared.plain_name.Name.{Name}
+use Rattle.cedar_builders.specs.Environment.{either}
 use Rattle.cedar_exprs.specs.declared.expr.Expr.{Expr}
 use Rattle.cedar_exprs.specs.declared.expr.ExprKind.{ExprKind, out-ExprKind}
 use Rattle.cedar_exprs.specs.declared.expr.ExprKind.TheOpen.{ExprKind-F}
@@ -10,11 +11,6 @@ use Rattle.cedar_exprs.specs.declared.expr.ExprKind.TheVariants.{ExtensionFuncti
 use Rattle.cedar_exprs.specs.Walks.{parts, children, preorder, forward, first_such}
 use Rattle.cedar_exprs.specs.Outside.{outside_part, is_outside, first_outside, first_outside_all}
 use Rattle.cedar_exprs.proofs.Walks.{walk_is}
-
--- the first answer of two
-abbrev pub either : {A : Type 0} → Option A → Option A → Option A
-either (Some x) b = Some x
-either None b = b
 
 module _ {A : Type 0} (p : A → Bool) where
   if_first : (b : Bool) (x : A) (r s : Option A) → (if b then Some x else either r s) ≡ either (if b then Some x else r) s

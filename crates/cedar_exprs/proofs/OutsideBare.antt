@@ -4,13 +4,14 @@ use Rattle.std.proofs.lemmas.Bool.{false≢true}
 use Rattle.std.specs.Result.{is_ok, IsErrAnd}
 use Rattle.std.specs.declared.rc.RcStr.{RcStr}
 use Rattle.cedar_builders.specs.Bare.{Bare, trees_of}
+use Rattle.cedar_builders.specs.Environment.{either}
 use Rattle.cedar_builders.specs.Restricted.{is_restricted, are_restricted, fields_are_restricted, IsRestricted}
 use Rattle.cedar_exprs.specs.declared.expr.Expr.{Expr, Expr-F, fold-roll-Expr, ind-Expr, roll-Expr}
 use Rattle.cedar_exprs.specs.declared.expr.ExprKind.{ExprKind, ExprKind-F, fold-roll-ExprKind, out-ExprKind, out-roll-ExprKind, map-ExprKind}
 use Rattle.cedar_exprs.specs.View.{bare, bare_kind, bare_step, node_step, fields_at}
 use Rattle.cedar_exprs.specs.Walks.{parts, children}
 use Rattle.cedar_exprs.specs.Outside.{outside_part, is_outside, first_outside, first_outside_all}
-use Rattle.cedar_exprs.proofs.Outside.{either, first_is, first_of_all}
+use Rattle.cedar_exprs.proofs.Outside.{first_is, first_of_all}
 
 -- whether none was found
 abbrev none_found : {A : Type 0} → Option A → Bool
