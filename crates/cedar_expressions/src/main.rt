@@ -1,16 +1,12 @@
 //! Reads a script of expressions from standard input, works it line by line, and prints the trees that it asks for.
 #![tactic(auto)]
 
-mod line;
-mod pattern;
-mod refusal;
-mod run;
-mod sketch;
+#[cfg(test)]
+mod raw;
 #[cfg(test)]
 mod tests;
-mod work;
 
-use run::run;
+use cedar_script::run::run;
 use std::io;
 use std::process::ExitCode;
 

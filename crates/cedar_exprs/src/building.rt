@@ -24,9 +24,6 @@ use std::alloc::{AllocError, Global};
 use std::collections::BTreeMap;
 use std::rc::RcStr;
 
-#[cfg(test)]
-mod tests;
-
 impl<T> Expr<T> {
     /// What a builder makes of the expression: its children first, in field order and those of a record in the order of
     /// their keys, and each node by a new builder with the node's place. The first error ends it.

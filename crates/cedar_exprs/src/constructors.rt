@@ -13,9 +13,6 @@ ghost use Rattle.cedar_exprs.specs.View.{bare, bares, fields, further, unknown_t
 ghost use Rattle.cedar_exprs.specs.Keys.{IsFirstRepeat, record_fields};
 ghost use Rattle.cedar_exprs.specs.Node.{IsPlain};
 
-#[cfg(test)]
-mod tests;
-
 use crate::builder::ExprBuilder;
 use crate::expr::{Expr, ExprKind};
 use cedar_builders::{BuildFault, ExprBuilder as _, ExpressionConstructionError};

@@ -6,9 +6,6 @@ ghost use Rattle.cedar_exprs.specs.Data.{SameData, held};
 ghost use Rattle.cedar_exprs.specs.View.{bare};
 ghost use Rattle.cedar_exprs.specs.declared.expr.Expr.{Expr};
 
-#[cfg(test)]
-mod tests;
-
 use crate::expr::Expr;
 pub use cedar_builders::laws::{
     built_after, clash_by_children, rebuilt_twice, restricted_rebuilt, substituted_by_fold,

@@ -8,11 +8,7 @@ pub mod expr;
 mod first_fault;
 mod keys;
 pub mod laws;
-#[cfg(test)]
-mod raw;
 pub mod restricted;
-#[cfg(test)]
-mod samples;
 mod shape;
 mod substitution;
 pub mod typed;

@@ -6,9 +6,6 @@ ghost use Rattle.cedar_builders.specs.Bare.{Bare, Lit};
 ghost use Rattle.cedar_builders.specs.Restricted.{IsRestricted};
 ghost use Rattle.cedar_exprs.specs.View.{bare};
 
-#[cfg(test)]
-mod tests;
-
 use crate::expr::{Expr, clone_loc};
 use crate::first_fault::first_fault;
 use cedar_names::Loc;

@@ -14,9 +14,6 @@ ghost use Rattle.cedar_builders.specs.Trees.{tree_ops, bound_tree, substituted, 
 ghost use Rattle.cedar_exprs.specs.View.{bare, bares, fields, further, unknown_tree};
 ghost use Rattle.cedar_exprs.specs.Restricted.{env_of};
 
-#[cfg(test)]
-mod tests;
-
 use crate::expr::{Expr, ExprKind};
 use crate::restricted::SubstituteValue;
 use cedar_builders::laws::{built_after, restricted_rebuilt, substituted_by_fold};

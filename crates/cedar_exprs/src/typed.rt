@@ -10,9 +10,6 @@ ghost use Rattle.cedar_exprs.specs.View.{bare, bares, fields};
 ghost use Rattle.cedar_exprs.specs.Restricted.{env_of};
 ghost use Rattle.cedar_exprs.specs.Typed.{types_of, IsClashError, Checks};
 
-#[cfg(test)]
-mod tests;
-
 use crate::expr::{Expr, ExprKind};
 use crate::restricted::SubstituteValue;
 use cedar_builders::laws::clash_by_children;

@@ -1,9 +1,0 @@
-use Rattle.std.proofs.Common.{inl, inr, ◌∙◌}
-use Rattle.cedar_exprs.specs.Keys.{keyed}
-use Rattle.cedar_expressions.proofs.Pairs.{all_paired}
-use Rattle.cedar_expressions.proofs.work.pairs_of.Goals as goal
-
-pub returns : goal.returns
-returns c =
-    all_paired keyed _ _ _ _ c.loop-key.invariant.0
-    (elim c.in-None.ensures.steps [ inl h ↦ inl (c.loop-key.invariant.1 ∙ h.1.0) | inr h ↦ inr (c.loop-key.invariant.2 ∙ h.1.0) ])

@@ -1,0 +1,621 @@
+// Scripts, with what they show and what they end with.
+
+use cedar_script::RunFault;
+use cedar_script::run::run;
+use std::alloc::{AllocError, Global};
+use std::io::{self, ErrorKind, Read, Write};
+use std::process::Abort;
+use std::test::Fail;
+
+// What a run of a script writes, the text of its fault, empty where it has none, and its status.
+fn played(alloc: Global, mut script: &[u8]) -> Result<(String, String, u8), Fail> {
+    let mut shown = Vec::new(alloc);
+    let (fault, status) = match run(alloc, &mut script, &mut shown) {
+        Ok(()) => (String::new(alloc), 0),
+        Err(fault) => (fault.to_string(alloc)?, fault.status()),
+    };
+    Ok((String::from_utf8(shown)?, fault, status))
+}
+
+// Checks that a script comes to its end and shows this.
+fn assert_shows(rt: &(impl Abort + AllocGlobal), script: &str, shown: &str) -> Result<(), Fail> {
+    let played = played(rt.alloc(), script.as_bytes())?;
+    assert_eq!(rt; played.0.as_str(), shown, "shown by {script:?}");
+    assert_eq!(rt; played.1.as_str(), "", "fault of {script:?}");
+    assert_eq!(rt; played.2, 0, "status of {script:?}");
+    Ok(())
+}
+
+// Checks that a line of a script is refused after this was shown.
+fn assert_refused(
+    rt: &(impl Abort + AllocGlobal),
+    script: &[u8],
+    shown: &str,
+    fault: &str,
+) -> Result<(), Fail> {
+    let played = played(rt.alloc(), script)?;
+    assert_eq!(rt; played.0.as_str(), shown, "shown by {script:?}");
+    assert_eq!(rt; played.1.as_str(), fault, "fault of {script:?}");
+    assert_eq!(rt; played.2, 1, "status of {script:?}");
+    Ok(())
+}
+
+#[test]
+fn scripts_show_trees(rt: HostRuntime) -> Result<(), Fail> {
+    let table = [
+        ("", ""),
+        ("\n\n\n", ""),
+        // Every command that makes an expression.
+        ("bool true\nshow\n", "true\n"),
+        ("bool false\nshow\n", "false\n"),
+        ("long 7\nshow\n", "7\n"),
+        ("string a b\nshow\n", "\"a b\"\n"),
+        ("unknown x\nshow\n", "(unknown x)\n"),
+        ("unknown x bool\nshow\n", "(unknown x bool)\n"),
+        ("unknown x long\nshow\n", "(unknown x long)\n"),
+        ("unknown x string\nshow\n", "(unknown x string)\n"),
+        ("unknown x set\nshow\n", "(unknown x set)\n"),
+        ("unknown x record\nshow\n", "(unknown x record)\n"),
+        ("bool true\nbool false\nand\nshow\n", "false\n"),
+        ("bool false\nbool true\nor\nshow\n", "true\n"),
+        (
+            "bool true\nunknown x\nand\nshow\n",
+            "(and true (unknown x))\n",
+        ),
+        ("long 1\nbool false\nor\nshow\n", "(or 1 false)\n"),
+        (
+            "bool true\nbool false\nraw-and\nshow\n",
+            "(and true false)\n",
+        ),
+        ("bool true\nbool false\nraw-or\nshow\n", "(or true false)\n"),
+        ("long 1\nlong 2\n==\nshow\n", "(== 1 2)\n"),
+        ("long 1\nlong 2\n<\nshow\n", "(< 1 2)\n"),
+        ("long 1\nlong 2\n<=\nshow\n", "(<= 1 2)\n"),
+        ("long 1\nlong 2\n+\nshow\n", "(+ 1 2)\n"),
+        ("long 1\nlong 2\n-\nshow\n", "(- 1 2)\n"),
+        ("long 1\nlong 2\n*\nshow\n", "(* 1 2)\n"),
+        ("long 1\nlong 2\nin\nshow\n", "(in 1 2)\n"),
+        ("long 1\nlong 2\ncontains\nshow\n", "(contains 1 2)\n"),
+        ("long 1\nlong 2\ncontainsAll\nshow\n", "(containsAll 1 2)\n"),
+        ("long 1\nlong 2\ncontainsAny\nshow\n", "(containsAny 1 2)\n"),
+        ("long 1\nlong 2\ngetTag\nshow\n", "(getTag 1 2)\n"),
+        ("long 1\nlong 2\nhasTag\nshow\n", "(hasTag 1 2)\n"),
+        ("var principal\nshow\n", "principal\n"),
+        ("var action\nshow\n", "action\n"),
+        ("var resource\nshow\n", "resource\n"),
+        ("var context\nshow\n", "context\n"),
+        ("slot principal\nshow\n", "?principal\n"),
+        ("slot resource\nshow\n", "?resource\n"),
+        ("bool true\nlong 1\nlong 2\nif\nshow\n", "(if true 1 2)\n"),
+        ("bool true\n!\nshow\n", "(! true)\n"),
+        ("long -5\nneg\nshow\n", "(- -5)\n"),
+        ("set 0\nisEmpty\nshow\n", "(isEmpty (set))\n"),
+        ("long 1\nlong 2\ncall f 2\nshow\n", "(call f 1 2)\n"),
+        ("call a::b::c 0\nshow\n", "(call a::b::c)\n"),
+        ("var principal\nget a\nshow\n", "(get principal \"a\")\n"),
+        ("var principal\nhas a\nshow\n", "(has principal \"a\")\n"),
+        (
+            "var principal\nexthas a b\nshow\n",
+            "(has principal \"a\" \"b\")\n",
+        ),
+        ("var principal\nexthas a\nshow\n", "(has principal \"a\")\n"),
+        ("string aab\nlike *ab\nshow\n", "(like \"aab\" \"*ab\")\n"),
+        ("string a\nlike\nshow\n", "(like \"a\" \"\")\n"),
+        ("var principal\nis A::B\nshow\n", "(is principal A::B)\n"),
+        ("long 1\nlong 2\nlong 1\nset 3\nshow\n", "(set 1 2 1)\n"),
+        ("long 1\nset 0\nset 002\nshow\n", "(set 1 (set))\n"),
+        ("record\nshow\n", "(record)\n"),
+        (
+            "long 1\nlong 2\nrecord b a\nshow\n",
+            "(record (\"a\" 2) (\"b\" 1))\n",
+        ),
+        (
+            "long 1\nlong 2\nlong 3\nrecord \"' if é\tx\nshow\n",
+            "(record (\"\\\"\\'\" 1) (\"if\" 2) (\"é\\tx\" 3))\n",
+        ),
+        (
+            "long 1\nlong 2\n-\nlong 3\n*\n!\nisEmpty\nshow\n",
+            "(isEmpty (! (* (- 1 2) 3)))\n",
+        ),
+        // What stands below the top stays, and what is shown too.
+        ("long 1\nlong 2\nshow\nshow\n+\nshow\n", "2\n2\n(+ 1 2)\n"),
+        // The last line without a line feed, and empty lines between.
+        ("long 1\n\n\nshow", "1\n"),
+    ];
+    for (script, shown) in table {
+        assert_shows(&rt, script, shown)?;
+    }
+    Ok(())
+}
+
+#[test]
+fn the_kinds_with_names_show(rt: HostRuntime) -> Result<(), Fail> {
+    let table = [
+        ("slot resource\nis A::B\nshow\n", "(is ?resource A::B)\n"),
+        (
+            "long 1\nlong 2\ncall n::f 2\nget a\nshow\n",
+            "(get (call n::f 1 2) \"a\")\n",
+        ),
+        // Only so many arguments are taken, the lowest first.
+        (
+            "long 1\nlong 2\nlong 3\ncall f 2\nshow\n-\nshow\n",
+            "(call f 2 3)\n(- 1 (call f 2 3))\n",
+        ),
+        // Attributes are words, shown with their escapes.
+        (
+            "var context\nget \"'\\\t\u{7f}é\nshow\n",
+            "(get context \"\\\"\\'\\\\\\t\\u{7f}é\")\n",
+        ),
+        (
+            "var context\nhas \"'\\\r\0\nshow\n",
+            "(has context \"\\\"\\'\\\\\\r\\0\")\n",
+        ),
+        (
+            "var context\nexthas \" b ' b\nshow\n",
+            "(has context \"\\\"\" \"b\" \"\\'\" \"b\")\n",
+        ),
+        // They are searched by substitution.
+        (
+            "unknown x\nget a\nunknown x\nhas b\nunknown x\nexthas c d\nunknown x\nlike *\nunknown x\nis T\ncall f 5\nlong 1\nbind x\nsubstitute\nshow\n",
+            "(call f (get 1 \"a\") (has 1 \"b\") (has 1 \"c\" \"d\") (like 1 \"*\") (is 1 T))\n",
+        ),
+        (
+            "slot principal\nlong 1\nbind x\nsubstitute\nshow\n",
+            "?principal\n",
+        ),
+    ];
+    for (script, shown) in table {
+        assert_shows(&rt, script, shown)?;
+    }
+    Ok(())
+}
+
+#[test]
+fn patterns_are_read_and_shown(rt: HostRuntime) -> Result<(), Fail> {
+    // What stands behind `like` and a space, and the text of its pattern.
+    let table = [
+        ("", ""),
+        ("*", "*"),
+        ("**", "**"),
+        ("ab", "ab"),
+        ("a*b", "a*b"),
+        ("\\*", "\\*"),
+        ("\\\\", "\\\\"),
+        ("\\\\*", "\\\\*"),
+        ("\\*\\\\*", "\\*\\\\*"),
+        (" ", " "),
+        ("  a  b ", "  a  b "),
+        ("\"'\t\r\0\u{1b}", "\\\"\\'\\t\\r\\0\\u{1b}"),
+        ("é\u{1f600}*", "é\u{1f600}*"),
+    ];
+    for (spelled, pattern) in table {
+        let script = format!(in rt.alloc(); "string s\nlike {spelled}\nshow\n")?;
+        let shown = format!(in rt.alloc(); "(like \"s\" \"{pattern}\")\n")?;
+        assert_shows(&rt, script.as_str(), shown.as_str())?;
+    }
+    Ok(())
+}
+
+#[test]
+fn substitution_binds_names(rt: HostRuntime) -> Result<(), Fail> {
+    let table = [
+        (
+            "unknown x\nlong 2\n<\nbool true\nand\nlong 1\nbind x\nsubstitute\nshow\n",
+            "(and (< 1 2) true)\n",
+        ),
+        (
+            "bool false\nbool true\nand\nlong 1\nbind x\nsubstitute\nshow\n",
+            "false\n",
+        ),
+        (
+            "bool true\nbool false\nraw-and\nshow\nsubstitute\nshow\n",
+            "(and true false)\nfalse\n",
+        ),
+        (
+            "bool true\nbool false\nraw-or\nshow\nsubstitute\nshow\n",
+            "(or true false)\ntrue\n",
+        ),
+        (
+            "unknown x\nunknown y\n==\nlong 1\nbind y\nsubstitute\nshow\n",
+            "(== (unknown x) 1)\n",
+        ),
+        // A later binding takes the place of an earlier one, and the binding is off the stack.
+        (
+            "unknown x\nlong 1\nbind x\nbool true\nbind x\nsubstitute\nshow\n",
+            "true\n",
+        ),
+        ("long 3\nstring s\nbind x\nshow\n", "3\n"),
+        // Every kind is searched.
+        (
+            "unknown x\nunknown x\nrecord a\nunknown x\n!\nset 1\nif\nlong 1\nbind x\nsubstitute\nshow\n",
+            "(if 1 (record (\"a\" 1)) (set (! 1)))\n",
+        ),
+        // Only the top is replaced.
+        (
+            "unknown x\nunknown x\nlong 1\nbind x\nsubstitute\n-\nshow\n",
+            "(- (unknown x) 1)\n",
+        ),
+    ];
+    for (script, shown) in table {
+        assert_shows(&rt, script, shown)?;
+    }
+    Ok(())
+}
+
+#[test]
+fn typed_substitution_compares_types(rt: HostRuntime) -> Result<(), Fail> {
+    assert_shows(&rt, "unknown x long\nlong 2\nbind x\ntyped\nshow\n", "2\n")?;
+    assert_shows(&rt, "unknown x\nlong 2\nbind x\ntyped\nshow\n", "2\n")?;
+    assert_shows(
+        &rt,
+        "unknown x bool\nlong 2\nbind y\ntyped\nshow\n",
+        "(unknown x bool)\n",
+    )?;
+    let table: [(&[u8], &str, &str); 3] = [
+        (b"typed\n", "", "line 1: too few expressions"),
+        (
+            b"unknown foo bool\nshow\nlong 1\nbind foo\ntyped\n",
+            "(unknown foo bool)\n",
+            "line 5: expected bool, actual long",
+        ),
+        (
+            b"unknown x bool\nunknown y string\nrecord b a\nlong 1\nbind x\nlong 2\nbind y\ntyped\n",
+            "",
+            "line 8: expected string, actual long",
+        ),
+    ];
+    for (script, shown, fault) in table {
+        assert_refused(&rt, script, shown, fault)?;
+    }
+    Ok(())
+}
+
+#[test]
+fn words_are_read_as_they_are(rt: HostRuntime) -> Result<(), Fail> {
+    let table = [
+        ("long 9223372036854775807\nshow\n", "9223372036854775807\n"),
+        (
+            "long -9223372036854775808\nshow\n",
+            "-9223372036854775808\n",
+        ),
+        ("long 00\nshow\n", "0\n"),
+        ("long -0\nshow\n", "0\n"),
+        ("long -007\nshow\n", "-7\n"),
+        ("long 000000000000000000000000000000001\nshow\n", "1\n"),
+        ("string\nshow\n", "\"\"\n"),
+        ("string \nshow\n", "\"\"\n"),
+        ("string  a  \nshow\n", "\" a  \"\n"),
+        ("string \"it's\" \\\nshow\n", "\"\\\"it\\'s\\\" \\\\\"\n"),
+        ("string a\tb\r\nshow\n", "\"a\\tb\\r\"\n"),
+        ("string \0\u{1b}\u{7f}é\nshow\n", "\"\\0\\u{1b}\\u{7f}é\"\n"),
+        // A name is any word.
+        ("unknown \"a\tb\r\nshow\n", "(unknown \"a\tb\r)\n"),
+        ("unknown show\nshow\n", "(unknown show)\n"),
+    ];
+    for (script, shown) in table {
+        assert_shows(&rt, script, shown)?;
+    }
+    Ok(())
+}
+
+#[test]
+fn bad_lines_are_refused(rt: HostRuntime) -> Result<(), Fail> {
+    let table = [
+        " ",
+        "\t",
+        "\r",
+        "Show",
+        "show ",
+        " show",
+        "show\r",
+        "show\t",
+        "show x",
+        "bool",
+        "bool True",
+        "bool  true",
+        "bool true ",
+        "bool\ttrue",
+        "bool true\r",
+        "long",
+        "long ",
+        "long -",
+        "long +1",
+        "long --1",
+        "long 1 2",
+        "long 0x1",
+        "long 1\r",
+        "long 9223372036854775808",
+        "long -9223372036854775809",
+        "long 99999999999999999999",
+        "string\t",
+        "string\r",
+        "unknown",
+        "unknown ",
+        "unknown  x",
+        "unknown x y",
+        "unknown x entity",
+        "unknown x bool ",
+        "and or",
+        "and ",
+        "raw-and x",
+        "== 1",
+        "=",
+        "bind",
+        "bind ",
+        "bind x y",
+        "substitute x",
+        "var",
+        "var subject",
+        "if x",
+        "neg x",
+        "set",
+        "set -1",
+        "set +1",
+        "set 1 2",
+        "set 18446744073709551616",
+        "record a ",
+        "record  a",
+        "typed x",
+        "slot",
+        "slot ",
+        "slot action",
+        "slot ?resource",
+        "slot principal resource",
+        "call",
+        "call f",
+        "call f -1",
+        "call f +1",
+        "call f x",
+        "call f 1 2",
+        "call  1",
+        "call 1f 0",
+        "call if 0",
+        "call a: 0",
+        "call a::__cedar::b 0",
+        "call __cedar 0",
+        "call n::f 18446744073709551616",
+        "get",
+        "get ",
+        "get  a",
+        "get a b",
+        "has",
+        "has a b",
+        "exthas",
+        "exthas ",
+        "exthas a ",
+        "exthas a  b",
+        "like a\\x",
+        "like \\",
+        "like a\\",
+        "like *\\\\\\",
+        "like\\*",
+        "is",
+        "is ",
+        "is A B",
+        "is A::",
+        "is true",
+        "is 1",
+        "is A::__cedar",
+    ];
+    for line in table {
+        let script = format!(in rt.alloc(); "{line}\nbool true\nshow\n")?;
+        assert_refused(&rt, script.as_bytes(), "", "line 1: bad line")?;
+    }
+    Ok(())
+}
+
+#[test]
+fn short_stacks_are_refused(rt: HostRuntime) -> Result<(), Fail> {
+    let table = [
+        ("show", "", "line 1: too few expressions"),
+        ("substitute\n", "", "line 1: too few expressions"),
+        ("bind x\n", "", "line 1: too few expressions"),
+        ("\nlong 1\nand\n", "", "line 3: too few expressions"),
+        ("long 1\nor\n", "", "line 2: too few expressions"),
+        ("long 1\nraw-and\n", "", "line 2: too few expressions"),
+        ("long 1\nraw-or\n", "", "line 2: too few expressions"),
+        ("long 1\n==\n", "", "line 2: too few expressions"),
+        ("long 1\nset 2\n", "", "line 2: too few expressions"),
+        (
+            "set 18446744073709551615\n",
+            "",
+            "line 1: too few expressions",
+        ),
+        ("long 1\nrecord a b\n", "", "line 2: too few expressions"),
+        ("long 1\ncall f 2\n", "", "line 2: too few expressions"),
+        ("get a\n", "", "line 1: too few expressions"),
+        ("has a\n", "", "line 1: too few expressions"),
+        ("exthas a b\n", "", "line 1: too few expressions"),
+        ("like *\n", "", "line 1: too few expressions"),
+        ("is A\n", "", "line 1: too few expressions"),
+        (
+            "bool true\nbool true\nif\n",
+            "",
+            "line 3: too few expressions",
+        ),
+        ("neg\n", "", "line 1: too few expressions"),
+        (
+            "call f 18446744073709551615\n",
+            "",
+            "line 1: too few expressions",
+        ),
+        (
+            "long 5\nshow\nand\nshow\n",
+            "5\n",
+            "line 3: too few expressions",
+        ),
+    ];
+    for (script, shown, fault) in table {
+        assert_refused(&rt, script.as_bytes(), shown, fault)?;
+    }
+    Ok(())
+}
+
+#[test]
+fn what_is_no_value_record_or_text_is_refused(rt: HostRuntime) -> Result<(), Fail> {
+    let table: [(&[u8], &str, &str); 15] = [
+        (
+            b"string aab\nlike *ab\nshow\nlike a\\x\n",
+            "(like \"aab\" \"*ab\")\n",
+            "line 4: bad line",
+        ),
+        (b"slot principal\nbind y\n", "", "line 2: not a value"),
+        (b"call f 0\nbind y\n", "", "line 2: not a value"),
+        (b"like \xff\n", "", "line 1: not UTF-8"),
+        (b"set 0\nbind y\n", "", "line 2: not a value"),
+        (
+            b"long 1\nlong 2\nrecord a a\nshow\n",
+            "",
+            "line 3: duplicate key `a`",
+        ),
+        (
+            b"set 0\nset 0\nset 0\nset 0\nrecord a b b a\n",
+            "",
+            "line 5: duplicate key `b`",
+        ),
+        (b"unknown x\nbind y\n", "", "line 2: not a value"),
+        (b"long 1\nlong 2\n+\nbind y\n", "", "line 4: not a value"),
+        (
+            b"bool true\nbool true\nraw-and\nbind y\n",
+            "",
+            "line 4: not a value",
+        ),
+        (
+            b"bool true\nbool true\nraw-or\nbind y\n",
+            "",
+            "line 4: not a value",
+        ),
+        (b"long 1\nshow\n\xff\nshow\n", "1\n", "line 3: not UTF-8"),
+        (b"string \xc3\n", "", "line 1: not UTF-8"),
+        // The bytes of a line come before its words, and an earlier line before a later one.
+        (b"show  \x80", "", "line 1: not UTF-8"),
+        (b"bad\n\xff\n", "", "line 1: bad line"),
+    ];
+    for (script, shown, fault) in table {
+        assert_refused(&rt, script, shown, fault)?;
+    }
+    Ok(())
+}
+
+#[test]
+fn long_scripts_run(rt: HostRuntime) -> Result<(), Fail> {
+    let alloc = rt.alloc();
+    let (mut script, mut shown) = (String::from_str(alloc, "long 1\n")?, String::new(alloc));
+    for _ in 0..9_998 {
+        script.push_str("show\n")?;
+        shown.push_str("1\n")?;
+    }
+    script.push_str("show ")?;
+    assert_refused(
+        &rt,
+        script.as_bytes(),
+        shown.as_str(),
+        "line 10000: bad line",
+    )?;
+
+    // A wide tree below a deep one, of 10,000 lines too.
+    let mut script = String::new(alloc);
+    for _ in 0..3_000 {
+        script.push_str("unknown x\nlong 2\n+\n")?;
+    }
+    script.push_str("set 3000\n")?;
+    let mut shown = String::new(alloc);
+    for _ in 0..995 {
+        script.push_str("!\n")?;
+        shown.push_str("(! ")?;
+    }
+    script.push_str("long 1\nbind x\nsubstitute\nshow")?;
+    shown.push_str("(set")?;
+    for _ in 0..3_000 {
+        shown.push_str(" (+ 1 2)")?;
+    }
+    for _ in 0..996 {
+        shown.push_str(")")?;
+    }
+    shown.push_str("\n")?;
+    assert_shows(&rt, script.as_str(), shown.as_str())
+}
+
+// A reader that fails after some bytes.
+#[derive(Drop)]
+struct BrokenReader<'a> {
+    bytes: &'a [u8],
+    kind: ErrorKind,
+}
+
+impl Read for BrokenReader<'_> {
+    fn read(&mut self, buf: &mut [u8]) -> io::Result<usize> {
+        if self.bytes.is_empty() {
+            return Err(io::Error::from(self.kind));
+        }
+        self.bytes.read(buf)
+    }
+}
+
+#[test]
+fn broken_readers_end_the_run(rt: HostRuntime) -> Result<(), Fail> {
+    let alloc = rt.alloc();
+    let table = [
+        (ErrorKind::BrokenPipe, RunFault::Input, "input fault"),
+        (ErrorKind::OutOfMemory, RunFault::Memory, "no memory"),
+    ];
+    for (kind, wanted, text) in table {
+        let mut reader = BrokenReader {
+            bytes: b"long 1\nshow\n",
+            kind,
+        };
+        let mut shown = Vec::new(alloc);
+        let fault = run(alloc, &mut reader, &mut shown).err().ok_or("no fault")?;
+        assert_eq!(rt; fault, wanted);
+        assert_eq!(rt; fault.to_string(alloc)?.as_str(), text);
+        assert_eq!(rt; fault.status(), 2);
+        assert!(rt; shown.is_empty());
+    }
+    Ok(())
+}
+
+// A writer that takes one byte at a time, and fails where its room is full.
+#[derive(Drop)]
+struct FullWriter<'a> {
+    room: &'a mut [u8],
+    used: usize,
+}
+
+impl Write for FullWriter<'_> {
+    fn write(&mut self, buf: &[u8]) -> io::Result<usize> {
+        match (buf.first(), self.room.get_mut(self.used)) {
+            (Some(byte), Some(place)) => {
+                *place = *byte;
+                self.used = self.used.saturating_add(1);
+                Ok(1)
+            }
+            (Some(_), None) => Err(io::Error::from(ErrorKind::BrokenPipe)),
+            (None, _) => Ok(0),
+        }
+    }
+
+    fn flush(&mut self) -> io::Result<()> {
+        Ok(())
+    }
+}
+
+#[test]
+fn broken_writers_end_the_run(rt: HostRuntime) -> Result<(), Fail> {
+    let alloc = rt.alloc();
+    for (room, wanted) in [(0, ""), (2, "1\n"), (3, "1\n1")] {
+        let mut bytes = vec![in alloc; 0u8; room]?;
+        let mut writer = FullWriter {
+            room: bytes.as_mut_slice(),
+            used: 0,
+        };
+        let mut script: &[u8] = b"long 1\nshow\nshow\nbad";
+        let fault = run(alloc, &mut script, &mut writer)
+            .err()
+            .ok_or("no fault")?;
+        assert_eq!(rt; fault, RunFault::Output);
+        assert_eq!(rt; fault.to_string(alloc)?.as_str(), "output fault");
+        assert_eq!(rt; fault.status(), 2);
+        assert_eq!(rt; bytes.as_slice(), wanted.as_bytes());
+    }
+    Ok(())
+}

@@ -1,0 +1,27 @@
+-- The statuses that the program ends with.
+use Rattle.std.specs.Prelude.{◌≡◌, ◌≢◌, ℕ, ⊤}
+use Rattle.cedar_script.specs.declared.refusal.Refusal.{Refusal}
+use Rattle.cedar_script.specs.declared.refusal.Refusal.TheVariants.{Memory as no_memory}
+use Rattle.cedar_script.specs.declared.run.RunFault.{RunFault}
+use Rattle.cedar_script.specs.declared.run.RunFault.TheVariants.{Line, Input, Output, Memory}
+
+-- 1 where the script is at fault, 2 where its surroundings are
+abbrev pub status_of : RunFault → ℕ
+status_of (Line line cause) = 1
+status_of Input = 2
+status_of Output = 2
+status_of Memory = 2
+
+-- the fault of a line that is refused: want of memory as itself, else the line's number, unless its cause has no memory
+abbrev pub IsFaultAt : ℕ → Refusal → RunFault → Type 0
+IsFaultAt number refusal (Line line cause) = (line ≡ number) × (refusal ≢ no_memory)
+IsFaultAt number refusal Input = ⊥
+IsFaultAt number refusal Output = ⊥
+IsFaultAt number refusal Memory = ⊤
+
+-- a fault that reading the input ends with
+abbrev pub IsInputFault : RunFault → Type 0
+IsInputFault (Line line cause) = ⊥
+IsInputFault Input = ⊤
+IsInputFault Output = ⊥
+IsInputFault Memory = ⊤

@@ -1,0 +1,76 @@
+-- Which words ask for which command.
+use Rattle.std.specs.Prelude.{◌≡◌, ℕ, List, [], ◌∷◌, None, Some, codes}
+use Rattle.std.specs.Str.Parse.{IsNumeral, digits_value, signed_digits_value}
+use Rattle.cedar_names.specs.Names.{IsNameOf}
+use Rattle.cedar_names.specs.PlainNames.{bare_of_name}
+use Rattle.cedar_names.specs.Slots.{slot_text}
+use Rattle.cedar_terms.specs.Entities.{bare_entity_type}
+use Rattle.cedar_terms.specs.Literals.{BoolLit, literal_text}
+use Rattle.cedar_terms.specs.Ops.{binary_op_text, var_text}
+use Rattle.cedar_terms.specs.Types.{bare_type, type_text}
+use Rattle.cedar_terms.specs.declared.ops.UnaryOp.{UnaryOp}
+use Rattle.cedar_terms.specs.declared.ops.UnaryOp.TheVariants.{Not, Neg, IsEmpty}
+use Rattle.cedar_builders.specs.Bare.{Text}
+use Rattle.cedar_script.specs.Commands.{texts_now}
+use Rattle.cedar_script.specs.Words.{WritesLong}
+use Rattle.cedar_script.specs.declared.line.Command.{Command}
+use Rattle.cedar_script.specs.declared.line.Command.TheVariants.{Bool, Long, String, Var, Slot, Unknown, If, And, Or, RawAnd, RawOr, Unary, Binary, Call, Get, Has, ExtHas, Like, Is, Set, Record, Bind, Substitute, Typed, Show}
+
+-- a first word and nothing more
+abbrev pub Alone : Text → List Text → Type 0
+Alone first (w ∷ []) = w ≡ first
+Alone first ws = ⊥
+
+-- a first word and one more with the property
+abbrev pub WithOne : Text → (Text → Type 0) → List Text → Type 0
+WithOne first P (w ∷ x ∷ []) = (w ≡ first) × P x
+WithOne first P ws = ⊥
+
+-- a first word and two more with the property
+abbrev pub WithTwo : Text → (Text → Text → Type 0) → List Text → Type 0
+WithTwo first P (w ∷ x ∷ y ∷ []) = (w ≡ first) × P x y
+WithTwo first P ws = ⊥
+
+-- a first word and these
+abbrev pub WithThese : Text → List Text → List Text → Type 0
+WithThese first xs [] = ⊥
+WithThese first xs (w ∷ ws) = (w ≡ first) × (ws ≡ xs)
+
+-- a word writes the number in decimal
+abbrev pub Writes : Text → ℕ → Type 0
+Writes word n = IsNumeral 10 word × (n ≡ digits_value 10 word)
+
+-- the word of an operator of one argument, whose minus is `neg`
+abbrev pub unary_word : UnaryOp → Text
+unary_word Not = codes "!"
+unary_word Neg = codes "neg"
+unary_word IsEmpty = codes "isEmpty"
+
+-- the words ask for the command
+abbrev pub Spells : Command → List Text → Type 0
+Spells (Bool b) ws = WithOne (codes "bool") (λ x. x ≡ literal_text (BoolLit b)) ws
+Spells (Long n) ws = WithOne (codes "long") (λ x. WritesLong x × (n ≡ signed_digits_value 10 x)) ws
+Spells (String text) ws = Alone (codes "string") ws × (text.now ≡ [])
+Spells (Var v) ws = WithOne (codes "var") (λ x. x ≡ var_text v) ws
+Spells (Slot s) ws = WithOne (codes "slot") (λ x. 63 ∷ x ≡ slot_text s) ws
+Spells (Unknown name None) ws = WithOne (codes "unknown") (λ x. x ≡ name.now) ws
+Spells (Unknown name (Some ty)) ws = WithTwo (codes "unknown") (λ x y. (x ≡ name.now) × (y ≡ type_text (bare_type ty))) ws
+Spells If ws = Alone (codes "if") ws
+Spells And ws = Alone (codes "and") ws
+Spells Or ws = Alone (codes "or") ws
+Spells RawAnd ws = Alone (codes "raw-and") ws
+Spells RawOr ws = Alone (codes "raw-or") ws
+Spells (Unary op) ws = Alone (unary_word op) ws
+Spells (Binary op) ws = Alone (binary_op_text op) ws
+Spells (Call name n) ws = WithTwo (codes "call") (λ x y. IsNameOf x (bare_of_name name) × Writes y n) ws
+Spells (Get k) ws = WithOne (codes "get") (λ x. x ≡ k.now) ws
+Spells (Has k) ws = WithOne (codes "has") (λ x. x ≡ k.now) ws
+Spells (ExtHas ks) ws = WithThese (codes "exthas") (ks.head.now ∷ texts_now ks.tail.items) ws
+Spells (Like p) ws = Alone (codes "like") ws × (p ≡ [])
+Spells (Is ty) ws = WithOne (codes "is") (λ x. IsNameOf x (bare_entity_type ty)) ws
+Spells (Set n) ws = WithOne (codes "set") (λ x. Writes x n) ws
+Spells (Record ks) ws = WithThese (codes "record") (texts_now ks.items) ws
+Spells (Bind name) ws = WithOne (codes "bind") (λ x. x ≡ name.now) ws
+Spells Substitute ws = Alone (codes "substitute") ws
+Spells Typed ws = Alone (codes "typed") ws
+Spells Show ws = Alone (codes "show") ws

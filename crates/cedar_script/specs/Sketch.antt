@@ -1,0 +1,67 @@
+-- The texts of expressions, in prefix form.
+use Rattle.std.specs.Prelude.{List, [], ◌∷◌, ◌++◌, map, codes, Option, None, Some, Ok, string_bytes}
+use Rattle.std.specs.Str.{encode_utf8_all}
+use Rattle.cedar_names.specs.Names.{name_text}
+use Rattle.cedar_names.specs.Slots.{slot_text}
+use Rattle.cedar_terms.specs.Escape.{quoted}
+use Rattle.cedar_terms.specs.Literals.{literal_text}
+use Rattle.cedar_terms.specs.Ops.{unary_op_text, binary_op_text, var_text}
+use Rattle.cedar_terms.specs.Patterns.{pattern_text}
+use Rattle.cedar_terms.specs.Types.{BareType, type_text}
+use Rattle.cedar_terms.specs.declared.pattern.PatternElem.{PatternElem}
+use Rattle.cedar_builders.specs.Bare.{Text}
+use Rattle.cedar_builders.specs.Ops.{Ops}
+use Rattle.cedar_script.specs.declared.sketch.SExpression.{SExpression, SExpression-F, fold-SExpression}
+
+-- each text behind a space
+abbrev pub spaced : List Text → Text
+spaced [] = []
+spaced (t ∷ ts) = 32 ∷ (t ++ spaced ts)
+
+-- a word and the texts that follow it, in round brackets
+abbrev pub listed : Text → List Text → Text
+listed word ts = 40 ∷ (word ++ (spaced ts ++ (41 ∷ [])))
+
+-- the type of an unknown, if it has one
+abbrev pub annotation_texts : Option BareType → List Text
+annotation_texts None = []
+annotation_texts (Some ty) = type_text ty ∷ []
+
+-- a pattern between double quotes
+abbrev pub pattern_quoted : List PatternElem → Text
+pattern_quoted p = 34 ∷ (encode_utf8_all (pattern_text p) ++ (34 ∷ []))
+
+-- a key of a record and its value
+abbrev pub pair_text : Text × Text → Text
+pair_text p = listed (quoted p.0) (p.1 ∷ [])
+
+-- the text of each kind of expression
+abbrev pub sketch_ops : Ops Text ⊥
+sketch_ops = record {
+  lit_of = literal_text;
+  var_of = var_text;
+  slot_of = slot_text;
+  unknown_of = λ n t. listed (codes "unknown") (n ∷ annotation_texts t);
+  if_of = λ t a b. listed (codes "if") (t ∷ a ∷ b ∷ []);
+  and_of = λ l r. listed (codes "and") (l ∷ r ∷ []);
+  or_of = λ l r. listed (codes "or") (l ∷ r ∷ []);
+  unary_of = λ op a. listed (unary_op_text op) (a ∷ []);
+  binary_of = λ op a b. listed (binary_op_text op) (a ∷ b ∷ []);
+  call_of = λ n ts. Ok (listed (codes "call") (name_text n ∷ ts));
+  get_of = λ e k. listed (codes "get") (e ∷ quoted k ∷ []);
+  has_of = λ e k. listed (codes "has") (e ∷ quoted k ∷ []);
+  ext_has_of = λ e k ks. listed (codes "has") (e ∷ quoted k ∷ map quoted ks);
+  like_of = λ e p. listed (codes "like") (e ∷ pattern_quoted p ∷ []);
+  set_of = λ ts. listed (codes "set") ts;
+  record_of = λ ps. listed (codes "record") (map pair_text ps);
+  is_of = λ e n. listed (codes "is") (e ∷ name_text n ∷ []);
+}
+
+-- one level, whose parts are texts already
+abbrev pub text_step : SExpression-F Text → Text
+text_step (SExpression-F.Atom word) = string_bytes word
+text_step (SExpression-F.List word parts) = listed (string_bytes word) parts.items
+
+-- the text of an S-expression
+abbrev pub text_of : SExpression → Text
+text_of = fold-SExpression Text text_step

@@ -1,0 +1,249 @@
+//! The lines of the script, read as commands.
+ghost use Rattle.std.specs.Prelude.{◌≡◌, ◌≢◌, ◌^◌, ◌<◌, ◌==◌, ◌⊎◌, ◌∷◌, IfOk, OnErr, IfErr, false, slice_index};
+ghost use Rattle.std.specs.Result.{OkIff};
+ghost use Rattle.std.specs.Str.Parse.{IsNumeral, digits_value, signed_digits_value};
+ghost use Rattle.cedar_names.specs.Names.{IsNameOf, has_reserved};
+ghost use Rattle.cedar_names.specs.PlainNames.{bare_of_name};
+ghost use Rattle.cedar_names.specs.Slots.{slot_text};
+ghost use Rattle.cedar_names.specs.declared.slot.SlotId.{SlotId};
+ghost use Rattle.cedar_terms.specs.Ops.{binary_op_text, var_text};
+ghost use Rattle.cedar_terms.specs.Types.{bare_type, type_text};
+ghost use Rattle.cedar_terms.specs.declared.ops.BinaryOp.{BinaryOp};
+ghost use Rattle.cedar_terms.specs.declared.var.Var.{Var};
+ghost use Rattle.cedar_script.specs.Commands.{texts_now};
+ghost use Rattle.cedar_script.specs.Reading.{Spells};
+ghost use Rattle.cedar_script.specs.Words.{IsNoName, WritesLong};
+
+use crate::pattern::read_pattern;
+use crate::refusal::Refusal;
+use cedar_names::{FromNormalizedStr as _, Name, NonEmpty, ParseErrors, SlotId};
+use cedar_terms::{BinaryOp, EntityType, Pattern, Type, UnaryOp, Var};
+use std::alloc::Global;
+
+/// What a line asks for, with its words read.
+#[derive(Debug, Drop)]
+pub enum Command<'a> {
+    /// Pushes a Boolean literal.
+    Bool(bool),
+    /// Pushes an integer literal.
+    Long(i64),
+    /// Pushes a string literal.
+    String(&'a str),
+    /// Pushes a variable.
+    Var(Var),
+    /// Pushes a slot.
+    Slot(SlotId),
+    /// Pushes the unknown of this name, which values of the type may replace, or any where none is given.
+    Unknown(&'a str, Option<Type>),
+    /// Takes a test and two branches, and pushes their conditional.
+    If,
+    /// Takes two expressions and pushes their conjunction, simplified where both are Boolean literals.
+    And,
+    /// Takes two expressions and pushes their disjunction, simplified where both are Boolean literals.
+    Or,
+    /// Takes two expressions and pushes the node of their conjunction.
+    RawAnd,
+    /// Takes two expressions and pushes the node of their disjunction.
+    RawOr,
+    /// Takes an expression and pushes the operator applied to it.
+    Unary(UnaryOp),
+    /// Takes two expressions and pushes the operator applied to them.
+    Binary(BinaryOp),
+    /// Takes this many expressions and pushes the call of the function on them, the lowest as the first argument.
+    Call(Name, usize),
+    /// Takes an expression and pushes its attribute.
+    Get(&'a str),
+    /// Takes an expression and pushes the test for its attribute.
+    Has(&'a str),
+    /// Takes an expression and pushes the test for each attribute in turn.
+    ExtHas(NonEmpty<&'a str>),
+    /// Takes an expression and pushes the test against the pattern.
+    Like(Pattern),
+    /// Takes an expression and pushes the test for the entity type.
+    Is(EntityType),
+    /// Takes this many expressions and pushes the set of them, the lowest as the first member.
+    Set(usize),
+    /// Takes an expression for each key, the lowest for the first, and pushes the record of them.
+    Record(Vec<&'a str>),
+    /// Takes a value and binds the name to it, in place of an earlier binding.
+    Bind(&'a str),
+    /// Replaces the top by its substitution.
+    Substitute,
+    /// The same, where each value has the type that is expected of it.
+    Typed,
+    /// Shows the top, which stays.
+    Show,
+}
+
+impl<'a> Command<'a> {
+    /// Reads the text of a line that is not empty.
+    ///
+    /// Words are separated by one space each, and none is empty; after `string` and `like` the rest of the line is taken as
+    /// it is. What is no command is a bad line.
+    pub fn parse(alloc: Global, text: &'a str) -> Result<Command<'a>, Refusal>
+        ensures { IfErr result (λ e. (e ≡ Refusal.BadLine) ⊎ (e ≡ Refusal.Memory)) }
+    {
+        match text.split_once(' ') {
+            Some(("string", rest)) => return Ok(Command::String(rest)),
+            Some(("like", rest)) => return Ok(Command::Like(read_pattern(alloc, rest)?)),
+            _ => {}
+        }
+        let words: Vec<&str> = text.split(' ').collect(alloc)?;
+        if words.iter().any(|word| word.is_empty()) {
+            return Err(Refusal::BadLine);
+        }
+        of_words(alloc, &words)
+    }
+}
+
+// The command that words spell, none of which is empty.
+fn of_words<'a>(alloc: Global, words: &[&'a str]) -> Result<Command<'a>, Refusal>
+    ensures spelled { IfOk result (λ command. Spells command (texts_now words.now)) }
+    ensures refused { IfErr result (λ e. (e ≡ Refusal.BadLine) ⊎ (e ≡ Refusal.Memory)) }
+{
+    match words {
+        ["bool", "true"] => Ok(Command::Bool(true)),
+        ["bool", "false"] => Ok(Command::Bool(false)),
+        ["long", number] => Ok(Command::Long(long(number)?)),
+        ["string"] => Ok(Command::String("")),
+        ["var", name] => Ok(Command::Var(variable(name)?)),
+        ["slot", name] => Ok(Command::Slot(slot(name)?)),
+        ["unknown", name] => Ok(Command::Unknown(name, None)),
+        ["unknown", name, ty] => Ok(Command::Unknown(name, Some(annotation(ty)?))),
+        ["if"] => Ok(Command::If),
+        ["and"] => Ok(Command::And),
+        ["or"] => Ok(Command::Or),
+        ["raw-and"] => Ok(Command::RawAnd),
+        ["raw-or"] => Ok(Command::RawOr),
+        ["!"] => Ok(Command::Unary(UnaryOp::Not)),
+        ["neg"] => Ok(Command::Unary(UnaryOp::Neg)),
+        ["isEmpty"] => Ok(Command::Unary(UnaryOp::IsEmpty)),
+        ["call", name, number] => Ok(Command::Call(read_name(alloc, name)?, count(number)?)),
+        ["get", attribute] => Ok(Command::Get(attribute)),
+        ["has", attribute] => Ok(Command::Has(attribute)),
+        ["exthas", first, later @ ..] => {
+            let later = later.to_vec(alloc)?;
+            Ok(Command::ExtHas(NonEmpty::new(*first, later)))
+        }
+        ["like"] => Ok(Command::Like(Pattern::from_vec(alloc, Vec::new(alloc))?)),
+        ["is", name] => Ok(Command::Is(EntityType::from(read_name(alloc, name)?))),
+        ["set", number] => Ok(Command::Set(count(number)?)),
+        ["record", keys @ ..] => Ok(Command::Record(keys.to_vec(alloc)?)),
+        ["bind", name] => Ok(Command::Bind(name)),
+        ["substitute"] => Ok(Command::Substitute),
+        ["typed"] => Ok(Command::Typed),
+        ["show"] => Ok(Command::Show),
+        [operator] => Ok(Command::Binary(binary_operator(operator)?)),
+        _ => Err(Refusal::BadLine),
+    }
+}
+
+// The integer that a word writes: an optional minus and one or more digits, within 64 bits signed.
+fn long(word: &str) -> Result<i64, Refusal>
+    ensures number { OkIff result (WritesLong word.now) (signed_digits_value 10 word.now) }
+    ensures refused { IfErr result (λ e. e ≡ Refusal.BadLine) }
+{
+    if starts_with_plus(word) {
+        return Err(Refusal::BadLine);
+    }
+    word.parse().map_err(|_| Refusal::BadLine)
+}
+
+// The count that a word writes: one or more digits, within 64 bits unsigned.
+fn count(word: &str) -> Result<usize, Refusal>
+    ensures number { OkIff result (IsNumeral 10 word.now × (digits_value 10 word.now < 2 ^ 64)) (digits_value 10 word.now) }
+    ensures refused { IfErr result (λ e. e ≡ Refusal.BadLine) }
+{
+    if starts_with_plus(word) {
+        return Err(Refusal::BadLine);
+    }
+    word.parse().map_err(|_| Refusal::BadLine)
+}
+
+// Whether a word begins with the sign that `parse` would take too.
+fn starts_with_plus(word: &str) -> bool
+    ensures { result ≡ (slice_index word.now 0 == 43) }
+{
+    matches!(word.as_bytes(), [b'+', ..])
+}
+
+// The variable that has this text.
+fn variable(word: &str) -> Result<Var, Refusal>
+    ensures named { IfOk result (λ var. word.now ≡ var_text var) }
+    ensures every { OnErr result ((var : Var) → word.now ≢ var_text var) }
+    ensures refused { IfErr result (λ e. e ≡ Refusal.BadLine) }
+{
+    match word {
+        "principal" => Ok(Var::Principal),
+        "action" => Ok(Var::Action),
+        "resource" => Ok(Var::Resource),
+        "context" => Ok(Var::Context),
+        _ => Err(Refusal::BadLine),
+    }
+}
+
+// The slot that has this text behind a question mark.
+fn slot(word: &str) -> Result<SlotId, Refusal>
+    ensures named { IfOk result (λ slot. 63 ∷ word.now ≡ slot_text slot) }
+    ensures every { OnErr result ((slot : SlotId) → 63 ∷ word.now ≢ slot_text slot) }
+    ensures refused { IfErr result (λ e. e ≡ Refusal.BadLine) }
+{
+    match word {
+        "principal" => Ok(SlotId::Principal),
+        "resource" => Ok(SlotId::Resource),
+        _ => Err(Refusal::BadLine),
+    }
+}
+
+// The name that a word writes in its normalized form.
+fn read_name(alloc: Global, word: &str) -> Result<Name, Refusal>
+    ensures read { IfOk result (λ name. IsNameOf word.now (bare_of_name name)) }
+    ensures allowed { IfOk result (λ name. has_reserved (bare_of_name name) ≡ false) }
+    ensures refused { IfErr result (λ e. (e ≡ Refusal.BadLine) ⊎ (e ≡ Refusal.Memory)) }
+    ensures bad { IfErr result (λ e. e ≡ Refusal.BadLine → IsNoName word.now) }
+{
+    match Name::from_normalized_str(alloc, word) {
+        Ok(name) => Ok(name),
+        Err(ParseErrors::NotNormalized { .. }) => Err(Refusal::BadLine),
+        Err(ParseErrors::Reserved(_)) => Err(Refusal::BadLine),
+        Err(ParseErrors::Memory) => Err(Refusal::Memory),
+    }
+}
+
+// The type without a name of its own that has this text.
+fn annotation(word: &str) -> Result<Type, Refusal>
+    ensures named { IfOk result (λ ty. word.now ≡ type_text (bare_type ty)) }
+    ensures refused { IfErr result (λ e. e ≡ Refusal.BadLine) }
+{
+    match word {
+        "bool" => Ok(Type::Bool),
+        "long" => Ok(Type::Long),
+        "string" => Ok(Type::String),
+        "set" => Ok(Type::Set),
+        "record" => Ok(Type::Record),
+        _ => Err(Refusal::BadLine),
+    }
+}
+
+// The operator of two arguments that has this text.
+fn binary_operator(word: &str) -> Result<BinaryOp, Refusal>
+    ensures named { IfOk result (λ op. word.now ≡ binary_op_text op) }
+    ensures every { OnErr result ((op : BinaryOp) → word.now ≢ binary_op_text op) }
+    ensures refused { IfErr result (λ e. e ≡ Refusal.BadLine) }
+{
+    match word {
+        "==" => Ok(BinaryOp::Eq),
+        "<" => Ok(BinaryOp::Less),
+        "<=" => Ok(BinaryOp::LessEq),
+        "+" => Ok(BinaryOp::Add),
+        "-" => Ok(BinaryOp::Sub),
+        "*" => Ok(BinaryOp::Mul),
+        "in" => Ok(BinaryOp::In),
+        "contains" => Ok(BinaryOp::Contains),
+        "containsAll" => Ok(BinaryOp::ContainsAll),
+        "containsAny" => Ok(BinaryOp::ContainsAny),
+        "getTag" => Ok(BinaryOp::GetTag),
+        "hasTag" => Ok(BinaryOp::HasTag),
+        _ => Err(Refusal::BadLine),
+    }
+}

@@ -1,0 +1,51 @@
+//! The patterns that a script spells.
+ghost use Rattle.std.specs.Prelude.{◌≡◌, ◌∷◌, ◌++◌, ◌⊎◌, [], IfOk, IfErr, MatchOption};
+ghost use Rattle.std.specs.Str.{chars};
+ghost use Rattle.cedar_script.specs.Patterns.{elem_spelling, spelling, BeginsWithNone, SpellsNone};
+
+use crate::refusal::Refusal;
+use cedar_terms::{Pattern, PatternElem};
+use std::alloc::Global;
+
+/// The pattern that a text spells: `*` is the wildcard, `\*` and `\\` are the two characters, any other character is itself.
+///
+/// A text with another backslash is a bad line.
+pub fn read_pattern(alloc: Global, text: &str) -> Result<Pattern, Refusal>
+    ensures spelled { IfOk result (λ p. chars text.now ≡ spelling p) }
+    ensures refused { IfErr result (λ e. (e ≡ Refusal.BadLine) ⊎ (e ≡ Refusal.Memory)) }
+    ensures bad { IfErr result (λ e. e ≡ Refusal.BadLine → SpellsNone (chars text.now)) }
+{
+    let mut elems = Vec::new(alloc);
+    let mut rest = text;
+    'elems: while let Some((elem, later)) = first_elem(rest) {
+        elems.push(elem)?;
+        rest = later;
+    }
+    match first_char(rest) {
+        None => Ok(Pattern::from_vec(alloc, elems)?),
+        Some(_) => Err(Refusal::BadLine),
+    }
+}
+
+// The element that a text begins with, and what follows it.
+fn first_elem(text: &str) -> Option<(PatternElem, &str)>
+    ensures { MatchOption result (BeginsWithNone (chars text.now)) (λ x. chars text.now ≡ elem_spelling x.0 ++ chars x.1.now) }
+{
+    match first_char(text)? {
+        ('*', rest) => Some((PatternElem::Wildcard, rest)),
+        ('\\', rest) => match first_char(rest)? {
+            (c @ ('*' | '\\'), rest) => Some((PatternElem::Char(c), rest)),
+            _ => None,
+        },
+        (c, rest) => Some((PatternElem::Char(c), rest)),
+    }
+}
+
+// The first character of a text, and what follows it.
+fn first_char(text: &str) -> Option<(char, &str)>
+    ensures { MatchOption result (chars text.now ≡ []) (λ x. chars text.now ≡ x.0 ∷ chars x.1.now) }
+{
+    let mut rest = text.chars();
+    let first = rest.next()?;
+    Some((first, rest.as_str()))
+}

@@ -1,0 +1,107 @@
+//! The run of a script, from a reader to a writer.
+ghost use Rattle.std.specs.Prelude.{◌≡◌, ◌∷◌, [], ◌++◌, IfOk, IfErr, IfSome, OnOk};
+ghost use Rattle.std.specs.Io.KnownBytes.{Appends, IsAtEnd};
+ghost use Rattle.cedar_script.specs.Faults.{status_of, IsFaultAt, IsInputFault};
+
+use crate::line::Command;
+use crate::refusal::Refusal;
+use crate::work::State;
+use std::alloc::Global;
+use std::io::{self, Read, Write};
+use std::rc::RcStr;
+use thiserror::Error;
+
+/// Why a run ends before the end of its script.
+#[derive(Debug, PartialEq, Eq, Drop, Error)]
+pub enum RunFault {
+    /// A line is refused; lines count from 1.
+    #[error("line {line}: {cause}")]
+    Line { line: usize, cause: RcStr },
+    /// The input can't be read.
+    #[error("input fault")]
+    Input,
+    /// What is shown can't be written.
+    #[error("output fault")]
+    Output,
+    /// Memory was wanted, and none was given.
+    #[error("no memory")]
+    Memory,
+}
+
+impl RunFault {
+    /// The status that the program ends with.
+    pub fn status(&self) -> u8
+        ensures { result ≡ status_of self.now }
+    {
+        match self {
+            RunFault::Line { .. } => 1,
+            RunFault::Input | RunFault::Output | RunFault::Memory => 2,
+        }
+    }
+
+    // The fault of a line that is refused.
+    fn at_line(alloc: Global, line: usize, refusal: Refusal) -> RunFault
+        ensures { IsFaultAt line refusal result }
+    {
+        if refusal == Refusal::Memory {
+            return RunFault::Memory;
+        }
+        match refusal.to_string(alloc).and_then(RcStr::from_string) {
+            Ok(cause) => RunFault::Line { line, cause },
+            Err(_) => RunFault::Memory,
+        }
+    }
+}
+
+/// Reads a script to its end, works its lines one after the other, and writes what they show.
+///
+/// A refused line ends the run; what was shown before it stays. After an output fault nothing is known of how much of
+/// the last text went out.
+pub fn run<R: Read, W: Write>(alloc: Global, reader: &mut R, writer: &mut W) -> Result<(), RunFault>
+    ensures { OnOk result (IsAtEnd (R.remaining reader.new)) }
+{
+    let input = read_input(alloc, reader)?;
+    let mut state = State::new(alloc);
+    let mut number = 0usize;
+    for line in input.split(|byte| *byte == b'\n') {
+        number = number.saturating_add(1);
+        match work_line(alloc, &mut state, line) {
+            Ok(None) => {}
+            Ok(Some(shown)) => write_line(writer, &shown).map_err(|_| RunFault::Output)?,
+            Err(refusal) => return Err(RunFault::at_line(alloc, number, refusal)),
+        }
+    }
+    Ok(())
+}
+
+// All that the reader gives.
+fn read_input<R: Read>(alloc: Global, reader: &mut R) -> Result<Vec<u8>, RunFault>
+    ensures bytes { IfOk result (λ input. IfSome (R.remaining reader.old) (λ bytes. input.items ≡ bytes)) }
+    ensures end { OnOk result (IsAtEnd (R.remaining reader.new)) }
+    ensures fault { IfErr result IsInputFault }
+{
+    let mut input = Vec::new(alloc);
+    match reader.read_to_end(&mut input) {
+        Ok(_) => Ok(input),
+        Err(error) if error.kind() == io::ErrorKind::OutOfMemory => Err(RunFault::Memory),
+        Err(_) => Err(RunFault::Input),
+    }
+}
+
+// Works a line, and gives the text that it shows, if it shows one. An empty line does nothing.
+fn work_line(alloc: Global, state: &mut State, line: &[u8]) -> Result<Option<String>, Refusal> {
+    let text = str::from_utf8(line).map_err(|_| Refusal::NotUtf8)?;
+    if text.is_empty() {
+        return Ok(None);
+    }
+    state.work(alloc, Command::parse(alloc, text)?)
+}
+
+// Writes a text and a line feed, at once.
+fn write_line<W: Write>(writer: &mut W, text: &str) -> io::Result<()>
+    ensures { OnOk result (Appends (W.contents writer.old) (W.contents writer.new) (text.now ++ 10 ∷ [])) }
+{
+    writer.write_all(text.as_bytes())?;
+    writer.write_all(b"\n")?;
+    writer.flush()
+}

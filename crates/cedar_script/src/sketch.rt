@@ -1,0 +1,356 @@
+//! The texts of expressions, in prefix form.
+ghost use Rattle.std.specs.Prelude.{◌≡◌, ◌∷◌, ◌++◌, List, ℕ, IfOk, IfErr, OnOk, None, map, string_bytes, ⊤};
+ghost use Rattle.std.specs.Rc.{rc_str_bytes};
+ghost use Rattle.cedar_names.specs.PlainNames.{bare_of_name};
+ghost use Rattle.cedar_names.specs.Names.{name_text};
+ghost use Rattle.cedar_terms.specs.Escape.{quoted};
+ghost use Rattle.cedar_terms.specs.Unknowns.{bare_unknown};
+ghost use Rattle.cedar_builders.specs.Errors.{OnDuplicateKey};
+ghost use Rattle.cedar_builders.specs.Gives.{Gives};
+ghost use Rattle.cedar_builders.specs.Keys.{keys_of, meant_pairs, IsRising, HasRepeat};
+ghost use Rattle.cedar_builders.specs.declared.expression_construction_errors.ExpressionConstructionError.TheVariants as error;
+ghost use Rattle.cedar_exprs.specs.Node.{never};
+ghost use Rattle.cedar_script.specs.Sketch.{annotation_texts, listed, pair_text, sketch_ops, spaced, text_of};
+
+use cedar_builders::{
+    BuildFault, ExprBuilder, ExprBuilderInfallibleBuild, ExpressionConstructionError,
+};
+use cedar_names::{Loc, Name, NonEmpty, SlotId};
+use cedar_terms::{BinaryOp, EntityType, Escaped, Literal, Pattern, UnaryOp, Unknown, Var};
+use std::alloc::{AllocError, Global};
+use std::convert::Infallible;
+use std::rc::RcStr;
+
+/// An S-expression: a text in parts, which are joined once, when it is written.
+#[derive(Debug, Drop)]
+pub enum SExpression {
+    /// A text as it stands.
+    Atom(String),
+    /// A first word and the parts that follow it, in round brackets.
+    List(String, Vec<SExpression>),
+}
+
+impl SExpression {
+    /// The text, with one space between the parts of a list.
+    pub fn to_text(&self, alloc: Global) -> Result<String, AllocError>
+        ensures { IfOk result (λ s. string_bytes s ≡ text_of self.now) }
+    {
+        let mut text = String::new(alloc);
+        push_text(&mut text, self)?;
+        Ok(text)
+    }
+}
+
+// Writes the text behind what is there.
+#[cycle(writing)]
+fn push_text(out: &mut String, part: &SExpression) -> Result<(), AllocError>
+    ensures { OnOk result (string_bytes out.new ≡ string_bytes out.old ++ text_of part.now) }
+{
+    match part {
+        SExpression::Atom(word) => out.push_str(word),
+        SExpression::List(word, parts) => {
+            out.push_str("(")?;
+            out.push_str(word)?;
+            push_spaced(out, parts)?;
+            out.push_str(")")
+        }
+    }
+}
+
+// Writes each text behind a space.
+#[cycle(writing)]
+fn push_spaced(out: &mut String, parts: &Vec<SExpression>) -> Result<(), AllocError>
+    ensures { OnOk result (string_bytes out.new ≡ string_bytes out.old ++ spaced (map text_of parts.now.items)) }
+{
+    for part in parts {
+        out.push_str(" ")?;
+        push_text(out, part)?;
+    }
+    Ok(())
+}
+
+// The list of a word and these parts.
+fn list(alloc: Global, word: &str, parts: Vec<SExpression>) -> Result<SExpression, AllocError>
+    ensures { IfOk result (λ e. text_of e ≡ listed word.now (map text_of parts.items)) }
+{
+    let word = String::from_str(alloc, word)?;
+    Ok(SExpression::List(word, parts))
+}
+
+// A text in double quotes, with its escapes.
+fn quote(alloc: Global, text: &str) -> Result<SExpression, AllocError>
+    ensures { IfOk result (λ e. text_of e ≡ quoted text.now) }
+{
+    let quoted = format!(in alloc; "\"{}\"", Escaped(text))?;
+    Ok(SExpression::Atom(quoted))
+}
+
+// The name of a function or a type.
+fn name_atom(alloc: Global, name: &Name) -> Result<SExpression, AllocError>
+    ensures { IfOk result (λ e. text_of e ≡ name_text (bare_of_name name.now)) }
+{
+    Ok(SExpression::Atom(format!(in alloc; "{name}")?))
+}
+
+// The name of an unknown, and its type, if it has one.
+fn unknown_parts(alloc: Global, unknown: &Unknown) -> Result<Vec<SExpression>, AllocError>
+    ensures { IfOk result (λ parts. map text_of parts.items ≡ (bare_unknown unknown.now).name ∷ annotation_texts (bare_unknown unknown.now).annotation) }
+{
+    let name = SExpression::Atom(String::from_str(alloc, &unknown.name)?);
+    match &unknown.type_annotation {
+        None => Ok(vec![in alloc; name]?),
+        Some(ty) => {
+            let annotation = SExpression::Atom(format!(in alloc; "{ty}")?);
+            Ok(vec![in alloc; name, annotation]?)
+        }
+    }
+}
+
+// Each attribute in quotes, behind the parts that are there.
+fn push_attributes(
+    alloc: Global,
+    parts: &mut Vec<SExpression>,
+    attributes: &[RcStr],
+) -> Result<(), AllocError>
+    ensures { OnOk result (map text_of parts.new.items ≡ map text_of parts.old.items ++ map quoted (map rc_str_bytes attributes.now)) }
+{
+    for attribute in attributes {
+        parts.push(quote(alloc, attribute)?)?;
+    }
+    Ok(())
+}
+
+// The list of each key and its value.
+fn pair_lists(
+    alloc: Global,
+    pairs: Vec<(RcStr, SExpression)>,
+) -> Result<Vec<SExpression>, AllocError>
+    ensures { IfOk result (λ parts. map text_of parts.items ≡ map pair_text (meant_pairs text_of pairs.items)) }
+{
+    let mut parts = Vec::with_capacity(alloc, pairs.len())?;
+    for (key, value) in pairs {
+        parts.push(pair_list(alloc, &key, value)?)?;
+    }
+    Ok(parts)
+}
+
+// The list of a key and its value.
+fn pair_list(alloc: Global, key: &str, value: SExpression) -> Result<SExpression, AllocError>
+    ensures { IfOk result (λ e. text_of e ≡ pair_text (key.now, text_of value)) }
+{
+    let key = format!(in alloc; "\"{}\"", Escaped(key))?;
+    Ok(SExpression::List(key, vec![in alloc; value]?))
+}
+
+/// The builder of texts: what it makes of `1 < 2 && true` is `(and (< 1 2) true)`.
+///
+/// It makes every node as it stands: `(and true false)` is not `false`.
+#[derive(Debug, Drop)]
+pub struct Sketch;
+
+impl ExprBuilder for Sketch {
+    type Expr = SExpression;
+
+    type Data = ();
+
+    type BuildError = Infallible;
+
+    ghost Meaning = { List ℕ };
+
+    ghost Fault = { ⊥ };
+
+    ghost ops = { sketch_ops };
+
+    ghost meaning_of = { text_of };
+
+    ghost fault_of = { never };
+
+    ghost is_new = { λ _. ⊤ };
+
+    // No place is kept.
+    ghost place_of = { λ _. None };
+
+    ghost kept_place = { λ _. None };
+
+    ghost makes_unary = { λ _ _ _ _. ⊤ };
+
+    ghost makes_binary = { λ _ _ _ _ _. ⊤ };
+
+    fn new() -> Sketch {
+        Sketch
+    }
+
+    fn with_data(_data: ()) -> Sketch {
+        Sketch
+    }
+
+    fn loc(&self) -> Option<&Loc> {
+        None
+    }
+
+    fn data(&self) -> &() {
+        &()
+    }
+
+    fn with_maybe_source_loc(self, _source_loc: Option<Loc>) -> Sketch {
+        self
+    }
+
+    fn val(self, alloc: Global, literal: Literal) -> Result<SExpression, AllocError> {
+        Ok(SExpression::Atom(format!(in alloc; "{literal}")?))
+    }
+
+    fn var(self, alloc: Global, var: Var) -> Result<SExpression, AllocError> {
+        Ok(SExpression::Atom(format!(in alloc; "{var}")?))
+    }
+
+    fn slot(self, alloc: Global, slot: SlotId) -> Result<SExpression, AllocError> {
+        Ok(SExpression::Atom(format!(in alloc; "{slot}")?))
+    }
+
+    fn unknown(self, alloc: Global, unknown: Unknown) -> Result<SExpression, AllocError> {
+        let parts = unknown_parts(alloc, &unknown)?;
+        list(alloc, "unknown", parts)
+    }
+
+    fn ite(
+        self,
+        alloc: Global,
+        test_expr: SExpression,
+        then_expr: SExpression,
+        else_expr: SExpression,
+    ) -> Result<SExpression, AllocError> {
+        list(
+            alloc,
+            "if",
+            vec![in alloc; test_expr, then_expr, else_expr]?,
+        )
+    }
+
+    fn and(
+        self,
+        alloc: Global,
+        left: SExpression,
+        right: SExpression,
+    ) -> Result<SExpression, AllocError> {
+        list(alloc, "and", vec![in alloc; left, right]?)
+    }
+
+    fn or(
+        self,
+        alloc: Global,
+        left: SExpression,
+        right: SExpression,
+    ) -> Result<SExpression, AllocError> {
+        list(alloc, "or", vec![in alloc; left, right]?)
+    }
+
+    fn unary_app(
+        self,
+        alloc: Global,
+        op: UnaryOp,
+        arg: SExpression,
+    ) -> Result<SExpression, AllocError> {
+        let word = format!(in alloc; "{op}")?;
+        Ok(SExpression::List(word, vec![in alloc; arg]?))
+    }
+
+    fn binary_app(
+        self,
+        alloc: Global,
+        op: BinaryOp,
+        arg1: SExpression,
+        arg2: SExpression,
+    ) -> Result<SExpression, AllocError> {
+        let word = format!(in alloc; "{op}")?;
+        Ok(SExpression::List(word, vec![in alloc; arg1, arg2]?))
+    }
+
+    fn call_extension_fn(
+        self,
+        alloc: Global,
+        fn_name: Name,
+        mut args: Vec<SExpression>,
+    ) -> Result<SExpression, BuildFault<Infallible>>
+        ensures { Gives text_of never (sketch_ops.call_of (bare_of_name fn_name) (map text_of args.items)) result }
+    {
+        let mut parts = vec![in alloc; name_atom(alloc, &fn_name)?]?;
+        parts.append(&mut args)?;
+        Ok(list(alloc, "call", parts)?)
+    }
+
+    fn get_attr(
+        self,
+        alloc: Global,
+        expr: SExpression,
+        attr: RcStr,
+    ) -> Result<SExpression, AllocError> {
+        let attr = quote(alloc, &attr)?;
+        list(alloc, "get", vec![in alloc; expr, attr]?)
+    }
+
+    fn has_attr(
+        self,
+        alloc: Global,
+        expr: SExpression,
+        attr: RcStr,
+    ) -> Result<SExpression, AllocError> {
+        let attr = quote(alloc, &attr)?;
+        list(alloc, "has", vec![in alloc; expr, attr]?)
+    }
+
+    fn extended_has_attr(
+        self,
+        alloc: Global,
+        expr: SExpression,
+        attrs: NonEmpty<RcStr>,
+    ) -> Result<SExpression, AllocError> {
+        let first = quote(alloc, &attrs.head)?;
+        let mut parts = vec![in alloc; expr, first]?;
+        push_attributes(alloc, &mut parts, &attrs.tail)?;
+        list(alloc, "has", parts)
+    }
+
+    fn like(
+        self,
+        alloc: Global,
+        expr: SExpression,
+        pattern: Pattern,
+    ) -> Result<SExpression, AllocError> {
+        let pattern = SExpression::Atom(format!(in alloc; "\"{pattern}\"")?);
+        list(alloc, "like", vec![in alloc; expr, pattern]?)
+    }
+
+    fn is_entity_type(
+        self,
+        alloc: Global,
+        expr: SExpression,
+        entity_type: EntityType,
+    ) -> Result<SExpression, AllocError> {
+        let entity_type = name_atom(alloc, entity_type.name())?;
+        list(alloc, "is", vec![in alloc; expr, entity_type]?)
+    }
+
+    fn set(self, alloc: Global, members: Vec<SExpression>) -> Result<SExpression, AllocError>
+        ensures { IfOk result (λ e. text_of e ≡ sketch_ops.set_of (map text_of members.items)) }
+    {
+        list(alloc, "set", members)
+    }
+
+    fn record(
+        self,
+        alloc: Global,
+        pairs: Vec<(RcStr, SExpression)>,
+    ) -> Result<SExpression, ExpressionConstructionError>
+        ensures means { IsRising (keys_of pairs.items) → IfOk result (λ e. text_of e ≡ sketch_ops.record_of (meant_pairs text_of pairs.items)) }
+        ensures accepts { IsRising (keys_of pairs.items) → IfErr result (λ e. e ≡ error.Memory) }
+        ensures refuses { IfErr result (OnDuplicateKey (λ _. HasRepeat (keys_of pairs.items))) }
+    {
+        let parts = pair_lists(alloc, pairs)?;
+        Ok(list(alloc, "record", parts)?)
+    }
+}
+
+impl ExprBuilderInfallibleBuild for Sketch {}
+
+// No lawful builder: the law of conjunctions does not hold of its texts.

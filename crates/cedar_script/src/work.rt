@@ -1,0 +1,430 @@
+//! The state of a script: a stack of expressions and the bindings of names, and what each command does to them.
+ghost use Rattle.std.specs.Prelude.{◌≡◌, ◌≢◌, ◌∷◌, Ok, None, drop, take, reverse, ◌+◌, ◌<◌, ◌↔◌, OnOk, IfOk, IsErrOf, IfErr, map, string_bytes, vec_len};
+ghost use Rattle.std.specs.Rc.{rc_str_bytes};
+ghost use Rattle.cedar_names.specs.PlainNames.{bare_of_name};
+ghost use Rattle.cedar_terms.specs.Literals.{BareLiteral, StringLit, bare_literal};
+ghost use Rattle.cedar_terms.specs.Unknowns.{bare_annotation};
+ghost use Rattle.cedar_builders.specs.Bare.{Lit, Unknown as unknown_tree, And, Or, ExtensionFunctionApp as call_tree, Set as members};
+ghost use Rattle.cedar_builders.specs.Clash.{clash};
+ghost use Rattle.cedar_builders.specs.Environment.{empty, fold};
+ghost use Rattle.cedar_builders.specs.Trees.{tree_ops};
+ghost use Rattle.cedar_exprs.specs.View.{bare, bares};
+ghost use Rattle.cedar_exprs.specs.Keys.{keyed};
+ghost use Rattle.cedar_exprs.specs.Typed.{IsClashError};
+ghost use Rattle.cedar_script.specs.Commands.{key_pairs, record_made, bound_in, bound_as, texts_now};
+ghost use Rattle.cedar_script.specs.Sketch.{sketch_ops};
+ghost use Rattle.cedar_script.specs.declared.line.Command.{Command};
+
+use crate::line::Command;
+use crate::refusal::Refusal;
+use crate::sketch::Sketch;
+use cedar_builders::ExprBuilder as _;
+use cedar_exprs::{Expr, ExprBuilder, ExprKind, SubstitutionError};
+use cedar_names::{Name, NonEmpty};
+use cedar_terms::{Literal, Type, Unknown};
+use std::alloc::{AllocError, Global};
+use std::collections::HashMap;
+use std::rc::{Rc, RcStr};
+
+/// What a command shows, if it shows something, or why its line is refused.
+pub type Shown = Result<Option<String>, Refusal>;
+
+/// A stack of expressions, and what names are bound to.
+#[derive(Debug, Drop)]
+pub struct State {
+    stack: Vec<Expr>,
+    bindings: HashMap<RcStr, Literal>,
+}
+
+impl State {
+    ghost use Rattle.cedar_script.specs.Commands.{Pushes, OfTop, OfOne, OfTwo, OfThree, Works, Binds, Shows};
+    ghost use Rattle.cedar_script.specs.Stack.{tops, bindings_of, depth, needed, left};
+
+    /// An empty stack, and nothing bound.
+    pub fn new(alloc: Global) -> State
+        ensures { depth result ≡ 0 }
+    {
+        State {
+            stack: Vec::new(alloc),
+            bindings: HashMap::new(alloc),
+        }
+    }
+
+    /// Works a command, and gives the text that it shows, if it shows one.
+    ///
+    /// Before anything else it is checked that the stack has the expressions that the command needs. After a refusal
+    /// some of them may be gone.
+    pub fn work(&mut self, alloc: Global, command: Command<'_>) -> Shown
+        ensures works { OnOk result (Works (bound_in (bindings_of self.old)) command.entry (tops self.old) (tops self.new)) }
+        ensures binds { OnOk result (Binds command.entry (tops self.old) (bindings_of self.old) (bindings_of self.new)) }
+        ensures depth { OnOk result (depth self.new + needed command.entry ≡ depth self.old + left command.entry) }
+        ensures too_few { IsErrOf result Refusal.TooFewExpressions ↔ (depth self.old < needed command.entry) }
+        ensures shows { IfOk result (Shows command.entry (tops self.old)) }
+    {
+        match command {
+            Command::Bool(value) => self.push(Expr::val(Literal::Bool(value))),
+            Command::Long(value) => self.push(Expr::val(Literal::Long(value))),
+            Command::String(text) => self.push(string(alloc, text)?),
+            Command::Var(var) => self.push(Expr::var(var)),
+            Command::Slot(slot) => self.push(Expr::slot(slot)),
+            Command::Unknown(name, annotation) => self.push(unknown(alloc, name, annotation)?),
+            Command::If => self.conditional(alloc),
+            Command::And => self.apply_two(alloc, Expr::and),
+            Command::Or => self.apply_two(alloc, Expr::or),
+            Command::RawAnd => self.apply_two(alloc, raw_and),
+            Command::RawOr => self.apply_two(alloc, raw_or),
+            Command::Unary(op) => {
+                self.apply_one(alloc, |alloc, arg| Expr::unary_app(alloc, op, arg))
+            }
+            Command::Binary(op) => self.apply_two(alloc, |alloc, arg1, arg2| {
+                Expr::binary_app(alloc, op, arg1, arg2)
+            }),
+            Command::Call(name, count) => self.call(alloc, name, count),
+            Command::Get(attribute) => {
+                self.apply_one(alloc, |alloc, expr| get(alloc, expr, attribute))
+            }
+            Command::Has(attribute) => {
+                self.apply_one(alloc, |alloc, expr| has(alloc, expr, attribute))
+            }
+            Command::ExtHas(attributes) => self.apply_one(alloc, |alloc, expr| {
+                extended_has(alloc, expr, attributes)
+            }),
+            Command::Like(pattern) => {
+                self.apply_one(alloc, |alloc, expr| Expr::like(alloc, expr, pattern))
+            }
+            Command::Is(entity_type) => self.apply_one(alloc, |alloc, expr| {
+                Expr::is_entity_type(alloc, expr, entity_type)
+            }),
+            Command::Set(count) => self.set(alloc, count),
+            Command::Record(keys) => self.record(alloc, keys),
+            Command::Bind(name) => self.bind(alloc, name),
+            Command::Substitute => self.substitute(alloc),
+            Command::Typed => self.substitute_typed(alloc),
+            Command::Show => self.show(alloc),
+        }
+    }
+
+    #[tactic(auto, using(crate::proofs::Tops::reverse_push))]
+    fn push(&mut self, expr: Expr) -> Shown
+        ensures shows { IfOk result (λ shown. shown ≡ None) }
+        ensures pushed { OnOk result (tops self.new ≡ expr ∷ tops self.old) }
+        ensures depth { OnOk result (depth self.new ≡ depth self.old + 1) }
+        ensures bindings { bindings_of self.new ≡ bindings_of self.old }
+        ensures refused { IfErr result (λ e. e ≡ Refusal.Memory) }
+    {
+        self.stack.push(expr)?;
+        Ok(None)
+    }
+
+    // Takes the top of the stack.
+    #[tactic(auto, using(crate::proofs::Tops::reverse_push))]
+    fn pop(&mut self) -> Result<Expr, Refusal>
+        ensures popped { IfOk result (λ top. tops self.old ≡ top ∷ tops self.new) }
+        ensures bindings { bindings_of self.new ≡ bindings_of self.old }
+        ensures depth { OnOk result (depth self.new + 1 ≡ depth self.old) }
+        ensures too_few { IfErr result (λ e. (e ≡ Refusal.TooFewExpressions) × (depth self.old < 1)) }
+    {
+        self.stack.pop().ok_or(Refusal::TooFewExpressions)
+    }
+
+    // Takes this many expressions, and gives the lowest first.
+    #[tactic(auto, using(crate::proofs::Tops::past_place, crate::proofs::Tops::before_place))]
+    fn pop_many(&mut self, count: usize) -> Result<Vec<Expr>, Refusal>
+        ensures popped { IfOk result (λ exprs. exprs.items ≡ reverse (take count (tops self.old))) }
+        ensures below { OnOk result (tops self.new ≡ drop count (tops self.old)) }
+        ensures bindings { bindings_of self.new ≡ bindings_of self.old }
+        ensures depth { IfOk result (λ exprs. (vec_len exprs ≡ count) × (depth self.new + count ≡ depth self.old)) }
+        ensures too_few { IsErrOf result Refusal.TooFewExpressions ↔ (depth self.old < count) }
+    {
+        match self.stack.len().checked_sub(count) {
+            Some(kept) => Ok(self.stack.split_off(kept)?),
+            None => Err(Refusal::TooFewExpressions),
+        }
+    }
+
+    // Takes the top, and pushes what is made of it.
+    fn apply_one<F>(&mut self, alloc: Global, make: F) -> Shown
+    where
+        F: FnOnce(Global, Expr) -> Result<Expr, AllocError>,
+        requires { F.IsAlwaysCallable make }
+        ensures shows { IfOk result (λ shown. shown ≡ None) }
+        ensures bindings { bindings_of self.new ≡ bindings_of self.old }
+        ensures made { OnOk result (OfOne (λ a e. F.post make alloc a (Ok e)) (tops self.old) (tops self.new)) }
+        ensures depth { OnOk result (depth self.new ≡ depth self.old) }
+        ensures too_few { IsErrOf result Refusal.TooFewExpressions ↔ (depth self.old < 1) }
+    {
+        let top = self.pop()?;
+        self.push(make(alloc, top)?)
+    }
+
+    // Takes the two top expressions, and pushes what is made of the lower and the upper one.
+    fn apply_two<F>(&mut self, alloc: Global, make: F) -> Shown
+    where
+        F: FnOnce(Global, Expr, Expr) -> Result<Expr, AllocError>,
+        requires { F.IsAlwaysCallable make }
+        ensures shows { IfOk result (λ shown. shown ≡ None) }
+        ensures bindings { bindings_of self.new ≡ bindings_of self.old }
+        ensures made { OnOk result (OfTwo (λ a b e. F.post make alloc a b (Ok e)) (tops self.old) (tops self.new)) }
+        ensures depth { OnOk result (depth self.new + 1 ≡ depth self.old) }
+        ensures too_few { IsErrOf result Refusal.TooFewExpressions ↔ (depth self.old < 2) }
+    {
+        let upper = self.pop()?;
+        let lower = self.pop()?;
+        self.push(make(alloc, lower, upper)?)
+    }
+
+    // Takes the test and the branches, the test lowest, and pushes their conditional.
+    fn conditional(&mut self, alloc: Global) -> Shown
+        ensures shows { IfOk result (λ shown. shown ≡ None) }
+        ensures bindings { bindings_of self.new ≡ bindings_of self.old }
+        ensures made { OnOk result (OfThree (λ a b c e. bare e ≡ tree_ops.if_of (bare a) (bare b) (bare c)) (tops self.old) (tops self.new)) }
+        ensures depth { OnOk result (depth self.new + 2 ≡ depth self.old) }
+        ensures too_few { IsErrOf result Refusal.TooFewExpressions ↔ (depth self.old < 3) }
+    {
+        let else_expr = self.pop()?;
+        let then_expr = self.pop()?;
+        let test_expr = self.pop()?;
+        self.push(Expr::ite(alloc, test_expr, then_expr, else_expr)?)
+    }
+
+    // Takes this many expressions, and pushes the call of the function on them.
+    fn call(&mut self, alloc: Global, name: Name, count: usize) -> Shown
+        ensures shows { IfOk result (λ shown. shown ≡ None) }
+        ensures bindings { bindings_of self.new ≡ bindings_of self.old }
+        ensures made { OnOk result (Pushes (λ e. bare e ≡ call_tree (bare_of_name name) (bares (reverse (take count (tops self.old))))) (drop count (tops self.old)) (tops self.new)) }
+        ensures depth { OnOk result (depth self.new + count ≡ depth self.old + 1) }
+        ensures too_few { IsErrOf result Refusal.TooFewExpressions ↔ (depth self.old < count) }
+    {
+        let args = self.pop_many(count)?;
+        self.push(Expr::call_extension_fn(alloc, name, args)?)
+    }
+
+    // Takes this many expressions, and pushes the set of them.
+    fn set(&mut self, alloc: Global, count: usize) -> Shown
+        ensures shows { IfOk result (λ shown. shown ≡ None) }
+        ensures bindings { bindings_of self.new ≡ bindings_of self.old }
+        ensures made { OnOk result (Pushes (λ e. bare e ≡ members (bares (reverse (take count (tops self.old))))) (drop count (tops self.old)) (tops self.new)) }
+        ensures depth { OnOk result (depth self.new + count ≡ depth self.old + 1) }
+        ensures too_few { IsErrOf result Refusal.TooFewExpressions ↔ (depth self.old < count) }
+    {
+        let members = self.pop_many(count)?;
+        self.push(Expr::set(alloc, members)?)
+    }
+
+    // Takes an expression for each key, and pushes the record of them.
+    fn record(&mut self, alloc: Global, keys: Vec<&str>) -> Shown
+        ensures shows { IfOk result (λ shown. shown ≡ None) }
+        ensures bindings { bindings_of self.new ≡ bindings_of self.old }
+        ensures made { OnOk result (Pushes (λ e. bare e ≡ record_made keys.entry.items (reverse (take (vec_len keys.entry) (tops self.old)))) (drop (vec_len keys.entry) (tops self.old)) (tops self.new)) }
+        ensures depth { OnOk result (depth self.new + vec_len keys.entry ≡ depth self.old + 1) }
+        ensures too_few { IsErrOf result Refusal.TooFewExpressions ↔ (depth self.old < vec_len keys.entry) }
+    {
+        let values = self.pop_many(keys.len())?;
+        self.push(record_of(alloc, keys, values)?)
+    }
+
+    // Takes the top as a value, and binds the name to it.
+    fn bind(&mut self, alloc: Global, name: &str) -> Shown
+        ensures shows { IfOk result (λ shown. shown ≡ None) }
+        ensures bound { OnOk result (OfTop (λ top. bound_in (bindings_of self.new) name.now ≡ bound_as (bare top)) (tops self.old)) }
+        ensures below { OnOk result (tops self.new ≡ drop 1 (tops self.old)) }
+        ensures depth { OnOk result (depth self.new + 1 ≡ depth self.old) }
+        ensures too_few { IsErrOf result Refusal.TooFewExpressions ↔ (depth self.old < 1) }
+    {
+        let value = value_of(self.pop()?)?;
+        self.bind_to(alloc, name, value)
+    }
+
+    // Binds the name to a value, in place of an earlier binding.
+    fn bind_to(&mut self, alloc: Global, name: &str, value: Literal) -> Shown
+        ensures shows { IfOk result (λ shown. shown ≡ None) }
+        ensures bound { OnOk result (bound_in (bindings_of self.new) name.now ≡ bound_as (Lit (bare_literal value))) }
+        ensures stack { tops self.new ≡ tops self.old }
+        ensures depth { depth self.new ≡ depth self.old }
+        ensures refused { IfErr result (λ e. e ≡ Refusal.Memory) }
+    {
+        let name = RcStr::from_str(alloc, name)?;
+        self.bindings.insert(name, value)?;
+        Ok(None)
+    }
+
+    // Replaces the top by its substitution.
+    fn substitute(&mut self, alloc: Global) -> Shown
+        ensures shows { IfOk result (λ shown. shown ≡ None) }
+        ensures bindings { bindings_of self.new ≡ bindings_of self.old }
+        ensures made { OnOk result (OfOne (λ a e. fold tree_ops (bound_in (bindings_of self.old)) (bare a) ≡ Ok (bare e)) (tops self.old) (tops self.new)) }
+        ensures depth { OnOk result (depth self.new ≡ depth self.old) }
+        ensures too_few { IsErrOf result Refusal.TooFewExpressions ↔ (depth self.old < 1) }
+    {
+        let top = self.pop()?;
+        let top = self.substituted(alloc, &top)?;
+        self.push(top)
+    }
+
+    // Replaces the top by its substitution, if no value has another type than is expected of it.
+    fn substitute_typed(&mut self, alloc: Global) -> Shown
+        ensures shows { IfOk result (λ shown. shown ≡ None) }
+        ensures bindings { bindings_of self.new ≡ bindings_of self.old }
+        ensures made { OnOk result (OfOne (λ a e. (fold tree_ops (bound_in (bindings_of self.old)) (bare a) ≡ Ok (bare e)) × (clash (bound_in (bindings_of self.old)) (bare a) ≡ None)) (tops self.old) (tops self.new)) }
+        ensures depth { OnOk result (depth self.new ≡ depth self.old) }
+        ensures too_few { IsErrOf result Refusal.TooFewExpressions ↔ (depth self.old < 1) }
+    {
+        let top = self.pop()?;
+        let top = self.substituted_typed(alloc, &top)?;
+        self.push(top)
+    }
+
+    // The expression with each name that is bound replaced.
+    fn substituted(&self, alloc: Global, expr: &Expr) -> Result<Expr, AllocError>
+        ensures { IfOk result (λ e. fold tree_ops (bound_in (bindings_of self.now)) (bare expr.now) ≡ Ok (bare e)) }
+    {
+        expr.substitute(alloc, &self.bindings)
+    }
+
+    // The same, if no value has another type than is expected of it.
+    fn substituted_typed(&self, alloc: Global, expr: &Expr) -> Result<Expr, SubstitutionError>
+        ensures made { IfOk result (λ e. fold tree_ops (bound_in (bindings_of self.now)) (bare expr.now) ≡ Ok (bare e)) }
+        ensures passed { OnOk result (clash (bound_in (bindings_of self.now)) (bare expr.now) ≡ None) }
+        ensures refused { IfErr result (IsClashError (clash (bound_in (bindings_of self.now)) (bare expr.now))) }
+    {
+        expr.substitute_typed(alloc, &self.bindings)
+    }
+
+    // Shows the top, which stays.
+    fn show(&self, alloc: Global) -> Shown
+        ensures shows { IfOk result (Shows Command.Show (tops self.now)) }
+        ensures too_few { IsErrOf result Refusal.TooFewExpressions ↔ (depth self.now < 1) }
+    {
+        let top = self.stack.last().ok_or(Refusal::TooFewExpressions)?;
+        Ok(Some(written(alloc, top)?))
+    }
+}
+
+// The text of an expression.
+fn written(alloc: Global, expr: &Expr) -> Result<String, AllocError>
+    ensures { IfOk result (λ text. fold sketch_ops empty (bare expr.now) ≡ Ok (string_bytes text)) }
+{
+    expr.into_expr::<Sketch>(alloc)?.to_text(alloc)
+}
+
+fn string(alloc: Global, text: &str) -> Result<Expr, AllocError>
+    ensures { IfOk result (λ e. bare e ≡ Lit (StringLit text.now)) }
+{
+    let text = RcStr::from_str(alloc, text)?;
+    Ok(Expr::val(Literal::String(text)))
+}
+
+fn unknown(alloc: Global, name: &str, annotation: Option<Type>) -> Result<Expr, AllocError>
+    ensures { IfOk result (λ e. bare e ≡ unknown_tree name.now (bare_annotation annotation)) }
+{
+    let name = RcStr::from_str(alloc, name)?;
+    Ok(Expr::unknown(match annotation {
+        None => Unknown::new_untyped(name),
+        Some(ty) => Unknown::new_with_type(name, ty),
+    }))
+}
+
+// The attribute of an expression.
+fn get(alloc: Global, expr: Expr, attribute: &str) -> Result<Expr, AllocError>
+    ensures { IfOk result (λ e. bare e ≡ tree_ops.get_of (bare expr) attribute.now) }
+{
+    let attribute = RcStr::from_str(alloc, attribute)?;
+    Expr::get_attr(alloc, expr, attribute)
+}
+
+// The test for an attribute of an expression.
+fn has(alloc: Global, expr: Expr, attribute: &str) -> Result<Expr, AllocError>
+    ensures { IfOk result (λ e. bare e ≡ tree_ops.has_of (bare expr) attribute.now) }
+{
+    let attribute = RcStr::from_str(alloc, attribute)?;
+    Expr::has_attr(alloc, expr, attribute)
+}
+
+// The test for each attribute in turn.
+fn extended_has(alloc: Global, expr: Expr, attributes: NonEmpty<&str>) -> Result<Expr, AllocError>
+    ensures { IfOk result (λ e. bare e ≡ tree_ops.ext_has_of (bare expr) attributes.entry.head.now (texts_now attributes.entry.tail.items)) }
+{
+    let head = RcStr::from_str(alloc, attributes.head)?;
+    let tail = shared_texts(alloc, &attributes.tail)?;
+    Expr::extended_has_attr(alloc, expr, NonEmpty::new(head, tail))
+}
+
+fn shared_texts(alloc: Global, texts: &[&str]) -> Result<Vec<RcStr>, AllocError>
+    ensures { IfOk result (λ shared. map rc_str_bytes shared.items ≡ texts_now texts.now) }
+{
+    let mut shared = Vec::with_capacity(alloc, texts.len())?;
+    for text in texts {
+        shared.push(RcStr::from_str(alloc, text)?)?;
+    }
+    Ok(shared)
+}
+
+// The value that an expression is: a literal.
+fn value_of(expr: Expr) -> Result<Literal, Refusal>
+    ensures value { IfOk result (λ literal. bare expr ≡ Lit (bare_literal literal)) }
+    ensures refused { IfErr result (λ e. (e ≡ Refusal.NotAValue) × ((l : BareLiteral) → bare expr ≢ Lit l)) }
+{
+    match expr.into_expr_kind() {
+        ExprKind::Lit(literal) => Ok(literal),
+        ExprKind::Var(_)
+        | ExprKind::Slot(_)
+        | ExprKind::Unknown(_)
+        | ExprKind::If { .. }
+        | ExprKind::And { .. }
+        | ExprKind::Or { .. }
+        | ExprKind::UnaryApp { .. }
+        | ExprKind::BinaryApp { .. }
+        | ExprKind::ExtensionFunctionApp { .. }
+        | ExprKind::GetAttr { .. }
+        | ExprKind::HasAttr { .. }
+        | ExprKind::ExtHasAttr { .. }
+        | ExprKind::Like { .. }
+        | ExprKind::Set(_)
+        | ExprKind::Record(_)
+        | ExprKind::Is { .. } => Err(Refusal::NotAValue),
+    }
+}
+
+// The record of keys, each with the value at its place.
+fn record_of(alloc: Global, keys: Vec<&str>, values: Vec<Expr>) -> Result<Expr, Refusal>
+    ensures made { IfOk result (λ e. bare e ≡ record_made keys.entry.items values.items) }
+    ensures refused { IfErr result (λ e. e ≢ Refusal.TooFewExpressions) }
+{
+    let pairs = pairs_of(alloc, keys, values)?;
+    Ok(Expr::record(alloc, pairs)?)
+}
+
+// Each key with the value at its place.
+fn pairs_of(
+    alloc: Global,
+    keys: Vec<&str>,
+    values: Vec<Expr>,
+) -> Result<Vec<(RcStr, Expr)>, AllocError>
+    ensures { IfOk result (λ pairs. keyed pairs.items ≡ key_pairs keys.entry.items values.items) }
+{
+    let mut pairs = Vec::with_capacity(alloc, keys.len())?;
+    for (key, value) in keys.into_iter().zip(values) {
+        pairs.push((RcStr::from_str(alloc, key)?, value))?;
+    }
+    Ok(pairs)
+}
+
+// The node of a conjunction, as it stands.
+fn raw_and(alloc: Global, left: Expr, right: Expr) -> Result<Expr, AllocError>
+    ensures { IfOk result (λ e. bare e ≡ And (bare left) (bare right)) }
+{
+    Ok(ExprBuilder::new().with_expr_kind(ExprKind::And {
+        left: Rc::new(alloc, left)?,
+        right: Rc::new(alloc, right)?,
+    }))
+}
+
+// The node of a disjunction, as it stands.
+fn raw_or(alloc: Global, left: Expr, right: Expr) -> Result<Expr, AllocError>
+    ensures { IfOk result (λ e. bare e ≡ Or (bare left) (bare right)) }
+{
+    Ok(ExprBuilder::new().with_expr_kind(ExprKind::Or {
+        left: Rc::new(alloc, left)?,
+        right: Rc::new(alloc, right)?,
+    }))
+}
