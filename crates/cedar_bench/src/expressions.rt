@@ -97,12 +97,11 @@ fn sums_unbound(alloc: Global, nodes: usize) -> Result<Substitution, CaseFault> 
 }
 
 fn typed_sums(alloc: Global, nodes: usize) -> Result<Substitution, CaseFault> {
-    let expr = sum_of(alloc, leaves(alloc, nodes / 2 + 1, long_unknown)?)?;
-    Substitution::of_x(alloc, expr, Literal::Long(7))
+    Substitution::of_x(alloc, sum_of(alloc, nodes, long_unknown)?, Literal::Long(7))
 }
 
 fn sums(alloc: Global, nodes: usize) -> Result<Expr, CaseFault> {
-    sum_of(alloc, leaves(alloc, nodes / 2 + 1, Unknown::new_untyped)?)
+    sum_of(alloc, nodes, Unknown::new_untyped)
 }
 
 fn set(alloc: Global, nodes: usize) -> Result<Substitution, CaseFault> {
@@ -145,8 +144,13 @@ where
     Ok(leaves)
 }
 
-fn sum_of(alloc: Global, leaves: Vec<Expr>) -> Result<Expr, CaseFault> {
-    only(alloc, leaves, by_two)
+// A full tree of `+`, of which every second node is a leaf.
+fn sum_of<F>(alloc: Global, nodes: usize, unknown: F) -> Result<Expr, CaseFault>
+where
+    F: Fn(RcStr) -> Unknown + Drop,
+    requires { F.IsAlwaysCallable unknown }
+{
+    only(alloc, leaves(alloc, nodes / 2 + 1, unknown)?, by_two)
 }
 
 // What is left of the expressions when they have been gathered until there is one.
