@@ -44,22 +44,26 @@ TwoTypes = BareType × BareType
 abbrev pub difference : BareType → BareType → Option TwoTypes
 difference t s = if type_eq t s then None else Some (t, s)
 
--- what an annotation and the type of a binding, if there is one, differ in
-abbrev pub mismatch : BareType → Option (BareType × Bare) → Option TwoTypes
-mismatch t None = None
-mismatch t (Some r) = difference t r.0
+-- what an annotation, if there is one, and the type of a value differ in
+abbrev pub mismatch : Option BareType → BareType → Option TwoTypes
+mismatch None s = None
+mismatch (Some t) s = difference t s
 
--- the same for an annotation, if there is one
-abbrev pub unknown_clash : Option BareType → Option (BareType × Bare) → Option TwoTypes
-unknown_clash None r = None
-unknown_clash (Some t) r = mismatch t r
+-- what is refused of a value, by the unknown's annotation and the value's type
+abbrev pub Refusals : Type 0
+Refusals = Option BareType → BareType → Option TwoTypes
+
+-- what is refused at an unknown by its binding, if it has one
+abbrev pub refused_binding : Refusals → Option BareType → Option (BareType × Bare) → Option TwoTypes
+refused_binding refuse t None = None
+refused_binding refuse t (Some r) = refuse t r.0
 
 -- the clash at a position itself
 abbrev pub clash_at : Env → Bare → Option TwoTypes
 clash_at env (Lit l) = None
 clash_at env (Var v) = None
 clash_at env (Slot s) = None
-clash_at env (Unknown n t) = unknown_clash t (env n)
+clash_at env (Unknown n t) = refused_binding mismatch t (env n)
 clash_at env (If a b c) = None
 clash_at env (And a b) = None
 clash_at env (Or a b) = None
@@ -83,37 +87,38 @@ first_of f (x ∷ xs) = either (f x) (first_of f xs)
 abbrev pub clash : Env → Bare → Option TwoTypes
 clash env e = first_of (clash_at env) (preorder e)
 
-abbrev mutual
-  -- the same, found child by child
-  pub first_clash : Env → Bare → Option TwoTypes
-  first_clash env (Lit l) = None
-  first_clash env (Var v) = None
-  first_clash env (Slot s) = None
-  first_clash env (Unknown n t) = unknown_clash t (env n)
-  first_clash env (If a b c) = either (first_clash env a) (either (first_clash env b) (first_clash env c))
-  first_clash env (And a b) = either (first_clash env a) (first_clash env b)
-  first_clash env (Or a b) = either (first_clash env a) (first_clash env b)
-  first_clash env (UnaryApp o a) = first_clash env a
-  first_clash env (BinaryApp o a b) = either (first_clash env a) (first_clash env b)
-  first_clash env (ExtensionFunctionApp n es) = first_clash_of_all env es
-  first_clash env (GetAttr a k) = first_clash env a
-  first_clash env (HasAttr a k) = first_clash env a
-  first_clash env (ExtHasAttr a k ks) = first_clash env a
-  first_clash env (Like a p) = first_clash env a
-  first_clash env (Set es) = first_clash_of_all env es
-  first_clash env (Record fs) = first_clash_of_fields env fs
-  first_clash env (Is a n) = first_clash env a
+module _ (refuse : Refusals) (env : Env) where
+  abbrev mutual
+    -- the first refusal at an unknown, found child by child
+    pub first_refusal : Bare → Option TwoTypes
+    first_refusal (Lit l) = None
+    first_refusal (Var v) = None
+    first_refusal (Slot s) = None
+    first_refusal (Unknown n t) = refused_binding refuse t (env n)
+    first_refusal (If a b c) = either (first_refusal a) (either (first_refusal b) (first_refusal c))
+    first_refusal (And a b) = either (first_refusal a) (first_refusal b)
+    first_refusal (Or a b) = either (first_refusal a) (first_refusal b)
+    first_refusal (UnaryApp o a) = first_refusal a
+    first_refusal (BinaryApp o a b) = either (first_refusal a) (first_refusal b)
+    first_refusal (ExtensionFunctionApp n es) = first_refusal_of_all es
+    first_refusal (GetAttr a k) = first_refusal a
+    first_refusal (HasAttr a k) = first_refusal a
+    first_refusal (ExtHasAttr a k ks) = first_refusal a
+    first_refusal (Like a p) = first_refusal a
+    first_refusal (Set es) = first_refusal_of_all es
+    first_refusal (Record fs) = first_refusal_of_fields fs
+    first_refusal (Is a n) = first_refusal a
 
-  -- in a list of trees
-  pub first_clash_of_all : Env → Bares → Option TwoTypes
-  first_clash_of_all env no_trees = None
-  first_clash_of_all env (tree e es) = either (first_clash env e) (first_clash_of_all env es)
+    -- in a list of trees
+    pub first_refusal_of_all : Bares → Option TwoTypes
+    first_refusal_of_all no_trees = None
+    first_refusal_of_all (tree e es) = either (first_refusal e) (first_refusal_of_all es)
 
-  -- in the values of a record
-  pub first_clash_of_fields : Env → Fields → Option TwoTypes
-  first_clash_of_fields env no_fields = None
-  first_clash_of_fields env (field k e fs) = either (first_clash env e) (first_clash_of_fields env fs)
+    -- in the values of a record
+    pub first_refusal_of_fields : Fields → Option TwoTypes
+    first_refusal_of_fields no_fields = None
+    first_refusal_of_fields (field k e fs) = either (first_refusal e) (first_refusal_of_fields fs)
 
 -- the clash at the first position in preorder is the first one found child by child
 abbrev pub ClashByChildren : Type 0
-ClashByChildren = (env : Env) (e : Bare) → clash env e ≡ first_clash env e
+ClashByChildren = (env : Env) (e : Bare) → clash env e ≡ first_refusal mismatch env e

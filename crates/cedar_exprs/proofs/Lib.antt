@@ -11,4 +11,4 @@ pub mod Derived
 pub mod Walks
 pub mod Outside
 pub mod OutsideBare
-pub mod Checked
+pub mod Refusals

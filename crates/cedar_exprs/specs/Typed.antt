@@ -1,7 +1,12 @@
--- What the check of types finds (`SubstitutionError` of Cedar's `expr.rs`).
-use Rattle.std.specs.Prelude.{◌≡◌, ⊤, Option, Some, None, Result, Ok, Err}
+-- What substitution refuses (`SubstitutionError` of Cedar's `expr.rs`).
+use Rattle.std.specs.Prelude.{◌≡◌, ⊤, Option, Some, None, Result, Ok, Err, Box}
+use Rattle.std.specs.Global.{Global}
+use Rattle.std.specs.declared.convert.Infallible.{Infallible}
 use Rattle.cedar_terms.specs.Types.{bare_type}
 use Rattle.cedar_builders.specs.Clash.{TwoTypes}
+use Rattle.cedar_builders.specs.declared.expr_builder.BuildFault.{BuildFault}
+use Rattle.cedar_builders.specs.declared.expr_builder.BuildFault.TheVariants.{Build as Refused, Memory as NoMemory}
+use Rattle.cedar_exprs.specs.declared.type_check.Clash.{Clash}
 use Rattle.cedar_exprs.specs.declared.typed.SubstitutionError.{SubstitutionError}
 use Rattle.cedar_exprs.specs.declared.typed.SubstitutionError.TheVariants.{TypeError, Memory}
 
@@ -15,7 +20,24 @@ abbrev pub IsClashError : Option TwoTypes → SubstitutionError → Type 0
 IsClashError found (TypeError expected actual) = found ≡ Some (bare_type expected, bare_type actual)
 IsClashError found Memory = ⊤
 
+-- the types of a clash
+abbrev pub clash_types : Clash → TwoTypes
+clash_types c = (bare_type c.expected, bare_type c.actual)
+
+-- those of a clash in a box
+abbrev pub boxed_types : Box Clash Global → TwoTypes
+boxed_types b = clash_types b.value
+
+-- those of a refusal that there is none of
+abbrev pub no_clash : Infallible → TwoTypes
+no_clash c = elim c [ ]
+
+-- the refusal is what was found, or it is want of memory
+abbrev pub IsRefusal : {D : Type 0} → (D → TwoTypes) → Option TwoTypes → BuildFault D → Type 0
+IsRefusal types_of found (Refused d) = found ≡ Some (types_of d)
+IsRefusal types_of found NoMemory = ⊤
+
 -- nothing is refused where nothing was found, else what was found
-abbrev pub Checks : Option TwoTypes → Result Unit SubstitutionError → Type 0
-Checks found (Ok _) = found ≡ None
-Checks found (Err e) = IsClashError found e
+abbrev pub Refuses : {E D : Type 0} → (D → TwoTypes) → Option TwoTypes → Result E (BuildFault D) → Type 0
+Refuses types_of found (Ok _) = found ≡ None
+Refuses types_of found (Err e) = IsRefusal types_of found e

@@ -96,6 +96,26 @@ impl<T: Default + Copy> ExprBuilder<T> {
         })
     }
 
+    // The conjunction of shared expressions: of two Boolean literals their literal, else the node.
+    pub(crate) fn and_arc(self, left: Rc<Expr<T>>, right: Rc<Expr<T>>) -> Expr<T>
+        ensures { IsMadeBy self (tree_ops.and_of (bare left.value) (bare right.value)) (of_connective left.value right.value) result }
+    {
+        match (left.as_bool(), right.as_bool()) {
+            (Some(a), Some(b)) => self.bool_literal(a && b),
+            _ => self.with_expr_kind(ExprKind::And { left, right }),
+        }
+    }
+
+    // The disjunction of shared expressions: of two Boolean literals their literal, else the node.
+    pub(crate) fn or_arc(self, left: Rc<Expr<T>>, right: Rc<Expr<T>>) -> Expr<T>
+        ensures { IsMadeBy self (tree_ops.or_of (bare left.value) (bare right.value)) (of_connective left.value right.value) result }
+    {
+        match (left.as_bool(), right.as_bool()) {
+            (Some(a), Some(b)) => self.bool_literal(a || b),
+            _ => self.with_expr_kind(ExprKind::Or { left, right }),
+        }
+    }
+
     /// A record of a shared map.
     pub fn record_arc(self, values: Rc<BTreeMap<RcStr, Expr<T>>>) -> Expr<T>
         ensures { IsMadeBy self (Record (fields values.value.entries)) (held_values values.value.entries) result }

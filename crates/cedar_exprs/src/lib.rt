@@ -11,6 +11,7 @@ pub mod laws;
 pub mod restricted;
 mod shape;
 mod substitution;
+mod type_check;
 pub mod typed;
 
 pub use builder::ExprBuilder;

@@ -77,6 +77,27 @@ fn leaves_keep_their_places(rt: HostRuntime) -> Result<(), Fail> {
     Ok(())
 }
 
+// So do the members of a set, which are copied.
+#[test]
+fn members_keep_their_places(rt: HostRuntime) -> Result<(), Fail> {
+    let alloc = rt.alloc();
+    let mut members = Vec::new(alloc);
+    members.push(at(&rt, 3)?.val(alloc, Literal::Long(1))?)?;
+    members.push(at(&rt, 3)?.var(alloc, Var::Action)?)?;
+    let set = Expr::set(alloc, members)?;
+    let answer = set.substitute(alloc, &bound(&rt, "x", 2)?)?;
+    match answer.expr_kind() {
+        ExprKind::Set(members) => {
+            for member in members.iter() {
+                assert_eq!(rt; start_of(member), Some(3));
+            }
+        }
+        _ => assert!(rt; false, "a set"),
+    }
+    assert!(rt; answer == set);
+    Ok(())
+}
+
 // What is fed for the shape of a conjunction of variables: the numbers of the kinds and what the fields feed.
 #[test]
 fn shapes_feed_numbers_and_fields(rt: HostRuntime) -> Result<(), Fail> {

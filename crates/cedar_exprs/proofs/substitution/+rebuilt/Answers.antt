@@ -7,21 +7,23 @@ use Rattle.cedar_exprs.specs.View.{bare, fields}
 use Rattle.cedar_exprs.specs.Restricted.{env_of}
 use Rattle.cedar_exprs.proofs.Records.{Entry, text_cmp, bare_at_record}
 use Rattle.cedar_exprs.proofs.Rebuilt.{all_made, next_field}
+use Rattle.cedar_exprs.proofs.Refusals.{value_passed}
 use Rattle.cedar_exprs.proofs.substitution.+rebuilt.Goals as goal
 
-pub rebuilt_all-returns : goal.rebuilt_all-returns
-rebuilt_all-returns g t c = all_made _ _ _ _ _ c.loop-member.invariant c.loop-member-test.false c.deref-member-items.ensures.value
+pub rebuilt_all-returns-clause-tree : goal.rebuilt_all-returns-clause-tree
+rebuilt_all-returns-clause-tree g t c = all_made _ _ _ _ _ c.loop-member.invariant.0 c.loop-member-test.false c.deref-member-items.ensures.value
 
-pub rebuilt-returns-in-Record : goal.rebuilt-returns-in-Record
-rebuilt-returns-in-Record g t c =
+pub rebuilt-returns-in-Record-clause-tree : goal.rebuilt-returns-in-Record-clause-tree
+rebuilt-returns-in-Record-clause-tree g t c =
     let env = env_of g.V.SubstituteValue.bare_type_of g.V.SubstituteValue.bare_tree_of c.args.values.now in
     subst (λ tree. IfOk c.record_with.result (λ r. bare r ≡ tree))
     (ap (λ m. Record (fields_substituted env (fields m.entries))) c.deref-in-Record.ensures
     ∙ sym (ap (substituted env) (bare_at_record c.args.e.now c.in-Record.pairs (sym c.expr_kind.ensures ∙ c.in-Record.is))))
-    c.record_with.ensures
+    c.record_with.ensures.tree
 
 pub rebuilt_values-loop-key-preserved : goal.rebuilt_values-loop-key-preserved
 rebuilt_values-loop-key-preserved g t c =
+    let env = env_of g.V.SubstituteValue.bare_type_of g.V.SubstituteValue.bare_tree_of c.args.values.now in
     let done = c.loop-key.invariant.0 in
     let e : Entry Unit = (c.in-Some.key.now, c.in-Some.value.now) in
     let left = c.next.new.self in
@@ -30,5 +32,6 @@ rebuilt_values-loop-key-preserved g t c =
       done ++ e ∷ [],
       all ∙ sym (append_assoc done (e ∷ []) left),
       ap fields c.in_ok-insert.ensures.entries
-          ∙ next_field (env_of g.V.SubstituteValue.bare_type_of g.V.SubstituteValue.bare_tree_of c.args.values.now) c.loop-key.done.entries done e left c.in_ok-name.name c.in_ok-rebuilt.field-0 c.loop-key.invariant.2 sorted c.in_ok-name.ensures.cases c.in_ok-rebuilt.ensures,
+          ∙ next_field env c.loop-key.done.entries done e left c.in_ok-name.name c.in_ok-rebuilt.field-0 c.loop-key.invariant.2 sorted c.in_ok-name.ensures.cases c.in_ok-rebuilt.ensures.tree,
+      value_passed g.C.TypeCheck.refuses env e.0 e.1 left c.loop-key.key-iterator _ c.in-Some.ensures.steps c.loop-key.invariant.3 c.in_ok-rebuilt.ensures.refused,
     )
