@@ -18,7 +18,7 @@ use std::alloc::{AllocError, Global};
 use std::convert::Infallible;
 use std::rc::{Rc, RcStr};
 
-// Makes expressions without data.
+/// Makes expressions without data, each node as it stands.
 #[derive(Drop)]
 pub struct Raw {
     inner: ExprBuilder<()>,
