@@ -11,4 +11,3 @@ pub mod Derived
 pub mod Walks
 pub mod Outside
 pub mod OutsideBare
-pub mod Refusals

@@ -1,5 +1,5 @@
 -- Lists and maps of expressions that are rebuilt in order.
-use Rattle.std.proofs.Common.{◌≡◌, ℕ, List, [], ◌∷◌, ◌++◌, map, refl, ap, ◌∙◌, ◌≤◌, length, take, Global, Greater, nat_cmp}
+use Rattle.std.proofs.Common.{◌≡◌, ℕ, List, [], ◌∷◌, ◌++◌, map, Option, None, refl, sym, ap, ◌∙◌, ◌≤◌, length, take, Global, Greater, nat_cmp}
 use Rattle.std.specs.Cmp.Lexicographic.{slice_cmp}
 use Rattle.std.specs.List.Sorted.{IsStrictlySortedBy}
 use Rattle.std.specs.Map.{keys_of}
@@ -8,7 +8,8 @@ use Rattle.std.specs.Rc.{rc_str_bytes}
 use Rattle.std.specs.declared.rc.RcStr.{RcStr}
 use Rattle.std.proofs.lemmas.List.{take_all}
 use Rattle.cedar_builders.specs.Bare.{trees_of}
-use Rattle.cedar_builders.specs.Environment.{Env}
+use Rattle.cedar_builders.specs.Clash.{TwoTypes, Refusals, first_refusal, first_refusal_of_fields}
+use Rattle.cedar_builders.specs.Environment.{Env, either}
 use Rattle.cedar_builders.specs.Trees.{substituted, all_substituted, fields_substituted}
 use Rattle.cedar_exprs.specs.View.{bare, bares, fields}
 use Rattle.cedar_exprs.proofs.Records.{Entry, text_cmp, above_first}
@@ -37,3 +38,10 @@ next_field env (m ∷ made) (d ∷ done) e more k v so_far sorted key value =
     let rest = next_field env made done e more k v (cc) sorted.1 key value in
     let above : slice_cmp nat_cmp (rc_str_bytes k) (rc_str_bytes m.0) ≡ Greater = rw (key, same_key) (above_first d done e more sorted.0) in
     rw above (rw (same_key, same_value, rest) refl)
+
+-- what is refused of the values of a map, once the first of those left is not
+pub value_passed : {T : Type 0} (refuse : Refusals) (env : Env) (e : Entry T) (more all : List (Entry T)) (w : Option TwoTypes)
+    → all ≡ e ∷ more → first_refusal_of_fields refuse env (fields all) ≡ w → first_refusal refuse env (bare e.1) ≡ None
+    → first_refusal_of_fields refuse env (fields more) ≡ w
+value_passed refuse env e more all w steps left passed =
+    sym (ap (λ x. either x (first_refusal_of_fields refuse env (fields more))) passed) ∙ (sym (ap (λ es. first_refusal_of_fields refuse env (fields es)) steps) ∙ left)

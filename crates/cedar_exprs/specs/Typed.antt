@@ -21,12 +21,8 @@ IsClashError found (TypeError expected actual) = found ≡ Some (bare_type expec
 IsClashError found Memory = ⊤
 
 -- the types of a clash
-abbrev pub clash_types : Clash → TwoTypes
-clash_types c = (bare_type c.expected, bare_type c.actual)
-
--- those of a clash in a box
-abbrev pub boxed_types : Box Clash Global → TwoTypes
-boxed_types b = clash_types b.value
+abbrev pub clash_types : Box Clash Global → TwoTypes
+clash_types c = (bare_type c.value.expected, bare_type c.value.actual)
 
 -- those of a refusal that there is none of
 abbrev pub no_clash : Infallible → TwoTypes

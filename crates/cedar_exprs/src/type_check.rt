@@ -3,7 +3,7 @@ ghost use Rattle.std.specs.Prelude.{None};
 ghost use Rattle.cedar_terms.specs.Types.{bare_type};
 ghost use Rattle.cedar_terms.specs.Unknowns.{bare_unknown};
 ghost use Rattle.cedar_builders.specs.Clash.{TwoTypes, Refusals, difference, mismatch};
-ghost use Rattle.cedar_exprs.specs.Typed.{boxed_types, no_clash, Refuses};
+ghost use Rattle.cedar_exprs.specs.Typed.{clash_types, no_clash, Refuses};
 
 use crate::restricted::SubstituteValue;
 use cedar_builders::BuildFault;
@@ -66,7 +66,7 @@ impl TypeCheck for Checked {
 
     ghost refuses = { mismatch };
 
-    ghost types_of = { boxed_types };
+    ghost types_of = { clash_types };
 
     fn check<V: SubstituteValue>(
         alloc: Global,
@@ -82,7 +82,7 @@ impl TypeCheck for Checked {
 
 // Refuses another type than is expected.
 fn check_type(alloc: Global, expected: &Type, actual: Type) -> Result<(), BuildFault<Box<Clash>>>
-    ensures { Refuses boxed_types (difference (bare_type expected.now) (bare_type actual)) result }
+    ensures { Refuses clash_types (difference (bare_type expected.now) (bare_type actual)) result }
 {
     if *expected == actual {
         return Ok(());

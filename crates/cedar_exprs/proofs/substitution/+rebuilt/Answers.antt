@@ -6,8 +6,7 @@ use Rattle.cedar_builders.specs.Trees.{substituted, fields_substituted}
 use Rattle.cedar_exprs.specs.View.{bare, fields}
 use Rattle.cedar_exprs.specs.Restricted.{env_of}
 use Rattle.cedar_exprs.proofs.Records.{Entry, text_cmp, bare_at_record}
-use Rattle.cedar_exprs.proofs.Rebuilt.{all_made, next_field}
-use Rattle.cedar_exprs.proofs.Refusals.{value_passed}
+use Rattle.cedar_exprs.proofs.Rebuilt.{all_made, next_field, value_passed}
 use Rattle.cedar_exprs.proofs.substitution.+rebuilt.Goals as goal
 
 pub rebuilt_all-returns-clause-tree : goal.rebuilt_all-returns-clause-tree
@@ -33,5 +32,5 @@ rebuilt_values-loop-key-preserved g t c =
       all ∙ sym (append_assoc done (e ∷ []) left),
       ap fields c.in_ok-insert.ensures.entries
           ∙ next_field env c.loop-key.done.entries done e left c.in_ok-name.name c.in_ok-rebuilt.field-0 c.loop-key.invariant.2 sorted c.in_ok-name.ensures.cases c.in_ok-rebuilt.ensures.tree,
-      value_passed g.C.TypeCheck.refuses env e.0 e.1 left c.loop-key.key-iterator _ c.in-Some.ensures.steps c.loop-key.invariant.3 c.in_ok-rebuilt.ensures.refused,
+      value_passed g.C.TypeCheck.refuses env e left c.loop-key.key-iterator _ c.in-Some.ensures.steps c.loop-key.invariant.3 c.in_ok-rebuilt.ensures.refused,
     )
