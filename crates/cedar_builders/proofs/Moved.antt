@@ -2,7 +2,7 @@
 use Rattle.std.proofs.Common.{◌≡◌, refl, sym, ap, Bool, ◌&&◌, ◌||◌, List, [], ◌∷◌, Option, Some, None, Result, Ok, Err}
 use Rattle.cedar_terms.specs.Literals.{BoolLit}
 use Rattle.cedar_terms.specs.Types.{BareType}
-use Rattle.cedar_builders.specs.Bare.{Text, Bare, Lit, Var, Slot, Unknown, If, And, Or, UnaryApp, BinaryApp, ExtensionFunctionApp, GetAttr, HasAttr, ExtHasAttr, Like, Set, Record, Is, Bares, no_trees, tree, trees_of, Fields, no_fields, field, fields_of}
+use Rattle.cedar_builders.specs.BareExpr.{Text, BareExpr, Lit, Var, Slot, Unknown, If, And, Or, UnaryApp, BinaryApp, ExtensionFunctionApp, GetAttr, HasAttr, ExtHasAttr, Like, Set, Record, Is, BareExprs, no_trees, tree, trees_of, BareFields, no_fields, field, fields_of}
 use Rattle.cedar_builders.specs.Ops.{Ops}
 use Rattle.cedar_builders.specs.Fold.{on_one, on_two, on_three, and_then, fold_with, fold_all, fold_fields}
 use Rattle.cedar_builders.specs.Trees.{bool_of, folded, and_made, or_made, ext_has_made, tree_ops, sure}
@@ -26,12 +26,12 @@ sure_then f (Ok a) = refl
 sure_then f (Err e) = absurd e
 
 -- the Boolean of a tree says which literal the tree is
-pub is_literal : (a : Bare) (b : Bool) → bool_of a ≡ Some b → a ≡ Lit (BoolLit b)
+pub is_literal : (a : BareExpr) (b : Bool) → bool_of a ≡ Some b → a ≡ Lit (BoolLit b)
 is_literal (Lit (BoolLit c)) b h = cc
 is_literal e b h = cc
 
 module _ {M F : Type 0} (B : Ops M F) (laws : Lawful B) (f : Text → Option BareType → Result M F) where
-  and_moved : (a b : Bare) → fold_with B f (and_made a b) ≡ on_two B.and_of (fold_with B f a) (fold_with B f b)
+  and_moved : (a b : BareExpr) → fold_with B f (and_made a b) ≡ on_two B.and_of (fold_with B f a) (fold_with B f b)
   and_moved a b = go (bool_of a) (bool_of b) refl refl
     where
       go : (x y : Option Bool) → bool_of a ≡ x → bool_of b ≡ y → fold_with B f (folded ◌&&◌ x y (And a b)) ≡ on_two B.and_of (fold_with B f a) (fold_with B f b)
@@ -39,7 +39,7 @@ module _ {M F : Type 0} (B : Ops M F) (laws : Lawful B) (f : Text → Option Bar
       go (Some p) None h k = refl
       go None y h k = refl
 
-  or_moved : (a b : Bare) → fold_with B f (or_made a b) ≡ on_two B.or_of (fold_with B f a) (fold_with B f b)
+  or_moved : (a b : BareExpr) → fold_with B f (or_made a b) ≡ on_two B.or_of (fold_with B f a) (fold_with B f b)
   or_moved a b = go (bool_of a) (bool_of b) refl refl
     where
       go : (x y : Option Bool) → bool_of a ≡ x → bool_of b ≡ y → fold_with B f (folded ◌||◌ x y (Or a b)) ≡ on_two B.or_of (fold_with B f a) (fold_with B f b)
@@ -47,7 +47,7 @@ module _ {M F : Type 0} (B : Ops M F) (laws : Lawful B) (f : Text → Option Bar
       go (Some p) None h k = refl
       go None y h k = refl
 
-  has_moved : (e : Bare) (k : Text) (ks : List Text) → fold_with B f (ext_has_made e k ks) ≡ on_one (λ m. B.ext_has_of m k ks) (fold_with B f e)
+  has_moved : (e : BareExpr) (k : Text) (ks : List Text) → fold_with B f (ext_has_made e k ks) ≡ on_one (λ m. B.ext_has_of m k ks) (fold_with B f e)
   has_moved e k [] = go (fold_with B f e)
     where
       go : (r : Result M F) → on_one (λ m. B.has_of m k) r ≡ on_one (λ m. B.ext_has_of m k []) r
@@ -55,9 +55,9 @@ module _ {M F : Type 0} (B : Ops M F) (laws : Lawful B) (f : Text → Option Bar
       go (Err e) = refl
   has_moved e k (l ∷ ls) = refl
 
-  module _ (g : Text → Option BareType → Result Bare ⊥) where
+  module _ (g : Text → Option BareType → Result BareExpr ⊥) where
     mutual
-      pub moved : (e : Bare) → fold_with B f (sure (fold_with tree_ops g e)) ≡ fold_with B (λ n t. fold_with B f (sure (g n t))) e
+      pub moved : (e : BareExpr) → fold_with B f (sure (fold_with tree_ops g e)) ≡ fold_with B (λ n t. fold_with B f (sure (g n t))) e
       moved (Lit l) = refl
       moved (Var v) = refl
       moved (Slot s) = refl
@@ -76,10 +76,10 @@ module _ {M F : Type 0} (B : Ops M F) (laws : Lawful B) (f : Text → Option Bar
       moved (Record fs) = simp (sure_one, moved_fields fs)
       moved (Is a n) = simp (sure_one, moved a)
 
-      pub moved_all : (es : Bares) → fold_all B f (trees_of (sure (fold_all tree_ops g es))) ≡ fold_all B (λ n t. fold_with B f (sure (g n t))) es
+      pub moved_all : (es : BareExprs) → fold_all B f (trees_of (sure (fold_all tree_ops g es))) ≡ fold_all B (λ n t. fold_with B f (sure (g n t))) es
       moved_all no_trees = refl
       moved_all (tree e es) = simp (sure_two, moved e, moved_all es)
 
-      pub moved_fields : (fs : Fields) → fold_fields B f (fields_of (sure (fold_fields tree_ops g fs))) ≡ fold_fields B (λ n t. fold_with B f (sure (g n t))) fs
+      pub moved_fields : (fs : BareFields) → fold_fields B f (fields_of (sure (fold_fields tree_ops g fs))) ≡ fold_fields B (λ n t. fold_with B f (sure (g n t))) fs
       moved_fields no_fields = refl
       moved_fields (field k e fs) = simp (sure_two, moved e, moved_fields fs)

@@ -4,7 +4,7 @@ use Rattle.std.proofs.Math.Bool.{and-eq-true_iff}
 use Rattle.cedar_names.specs.Names.{BareName}
 use Rattle.cedar_terms.specs.Types.{BareType, LongType}
 use Rattle.cedar_terms.specs.Literals.{BoolLit}
-use Rattle.cedar_builders.specs.Bare.{Text, Bare, Lit, Unknown, ExtensionFunctionApp, Set, Record, Bares, no_trees, tree, trees_of, Fields, no_fields, field, fields_of}
+use Rattle.cedar_builders.specs.BareExpr.{Text, BareExpr, Lit, Unknown, ExtensionFunctionApp, Set, Record, BareExprs, no_trees, tree, trees_of, BareFields, no_fields, field, fields_of}
 use Rattle.cedar_builders.specs.Ops.{Ops}
 use Rattle.cedar_builders.specs.Fold.{fold_with, fold_all, fold_fields}
 use Rattle.cedar_builders.specs.Environment.{Env, either, empty, own, bound, fold}
@@ -19,7 +19,7 @@ trees_are_lawful : Lawful tree_ops
 trees_are_lawful = record { and_of_literals = λ a b. refl; or_of_literals = λ a b. refl; ext_has_of_one = λ m k. refl }
 
 module _ {M F : Type 0} (B : Ops M F) (laws : Lawful B) where
-  built_bound : (o : Option (BareType × Bare)) (n : Text) (t : Option BareType) → fold_with B (own B) (sure (bound tree_ops o n t)) ≡ bound B o n t
+  built_bound : (o : Option (BareType × BareExpr)) (n : Text) (t : Option BareType) → fold_with B (own B) (sure (bound tree_ops o n t)) ≡ bound B o n t
   built_bound None n t = refl
   built_bound (Some r) n t = moved B laws (own B) (own tree_ops) r.1
 
@@ -27,7 +27,7 @@ module _ {M F : Type 0} (B : Ops M F) (laws : Lawful B) where
   built_after env e =
       moved B laws (own B) (λ n t. bound tree_ops (env n) n t) e ∙ ap (λ u. fold_with B u e) (λ i n t. built_bound (env n) n t i)
 
-  twice_bound : (env2 : Env) (o : Option (BareType × Bare)) (n : Text) (t : Option BareType) → fold B env2 (sure (bound tree_ops o n t)) ≡ bound B (either (within env2 o) (env2 n)) n t
+  twice_bound : (env2 : Env) (o : Option (BareType × BareExpr)) (n : Text) (t : Option BareType) → fold B env2 (sure (bound tree_ops o n t)) ≡ bound B (either (within env2 o) (env2 n)) n t
   twice_bound env2 None n t = refl
   twice_bound env2 (Some r) n t =
       moved B laws (λ m s. bound B (env2 m) m s) (own tree_ops) r.1 ∙ sym (built_after env2 r.1)
@@ -43,7 +43,7 @@ rebuilt_twice e = built_after tree_ops trees_are_lawful empty e
 
 module _ (env : Env) where
   mutual
-    kept : (e : Bare) → IsTrue (is_restricted e) → BindsNone env e → sure (fold tree_ops env e) ≡ e
+    kept : (e : BareExpr) → IsTrue (is_restricted e) → BindsNone env e → sure (fold tree_ops env e) ≡ e
     kept (Lit l) h k = refl
     kept (Unknown n t) h k = simp k
     kept (ExtensionFunctionApp n es) h k = simp (sure_then, kept_all es h k)
@@ -51,19 +51,19 @@ module _ (env : Env) where
     kept (Record fs) h k = simp (sure_one, kept_fields fs h k)
     kept e h k = cc
 
-    kept_all : (es : Bares) → IsTrue (are_restricted es) → BindsNoneOf env es → trees_of (sure (fold_all tree_ops (λ n t. bound tree_ops (env n) n t) es)) ≡ es
+    kept_all : (es : BareExprs) → IsTrue (are_restricted es) → BindsNoneOf env es → trees_of (sure (fold_all tree_ops (λ n t. bound tree_ops (env n) n t) es)) ≡ es
     kept_all no_trees h k = refl
     kept_all (tree e es) h k =
         let r = (and-eq-true_iff (is_restricted e) (are_restricted es)).0 h in
         simp (sure_two, kept e r.0 k.0, kept_all es r.1 k.1)
 
-    kept_fields : (fs : Fields) → IsTrue (fields_are_restricted fs) → BindsNoneIn env fs → fields_of (sure (fold_fields tree_ops (λ n t. bound tree_ops (env n) n t) fs)) ≡ fs
+    kept_fields : (fs : BareFields) → IsTrue (fields_are_restricted fs) → BindsNoneIn env fs → fields_of (sure (fold_fields tree_ops (λ n t. bound tree_ops (env n) n t) fs)) ≡ fs
     kept_fields no_fields h k = refl
     kept_fields (field j e fs) h k =
         let r = (and-eq-true_iff (is_restricted e) (fields_are_restricted fs)).0 h in
         simp (sure_two, kept e r.0 k.0, kept_fields fs r.1 k.1)
 
-kept_apart : (env2 : Env) (o r : Option (BareType × Bare)) → ((p : BareType × Bare) → o ≡ Some p → IsRestricted p.1) → ((p : BareType × Bare) → o ≡ Some p → BindsNone env2 p.1) → either (within env2 o) r ≡ either o r
+kept_apart : (env2 : Env) (o r : Option (BareType × BareExpr)) → ((p : BareType × BareExpr) → o ≡ Some p → IsRestricted p.1) → ((p : BareType × BareExpr) → o ≡ Some p → BindsNone env2 p.1) → either (within env2 o) r ≡ either o r
 kept_apart env2 None r h k = refl
 kept_apart env2 (Some p) r h k = ap (λ e. Some (p.0, e)) (kept env2 p.1 (h p refl) (k p refl))
 
@@ -75,10 +75,10 @@ then_is_both env1 env2 h k = λ i n. kept_apart env2 (env1 n) (env2 n) (h n) (k 
 some_name : BareName
 some_name = record { path = []; basename = [] }
 
-abbrev inner : Bare
+abbrev inner : BareExpr
 inner = Unknown (0 ∷ []) None
 
-abbrev truth : Bare
+abbrev truth : BareExpr
 truth = Lit (BoolLit true)
 
 abbrev first : Env

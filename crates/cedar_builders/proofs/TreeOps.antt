@@ -2,23 +2,23 @@
 use Rattle.std.proofs.Common.{◌≡◌, IsTrue, List, [], ◌∷◌, Option, Some, None, Result, Ok, Err, refl, ap}
 use Rattle.std.proofs.Math.Bool.{and-eq-true_iff}
 use Rattle.cedar_terms.specs.Types.{BareType}
-use Rattle.cedar_builders.specs.Bare.{Text, Bare, Lit, Var, Slot, Unknown, If, And, Or, UnaryApp, BinaryApp, ExtensionFunctionApp, GetAttr, HasAttr, ExtHasAttr, Like, Set, Record, Is, Bares, no_trees, tree, trees_of, Fields, no_fields, field, fields_of}
+use Rattle.cedar_builders.specs.BareExpr.{Text, BareExpr, Lit, Var, Slot, Unknown, If, And, Or, UnaryApp, BinaryApp, ExtensionFunctionApp, GetAttr, HasAttr, ExtHasAttr, Like, Set, Record, Is, BareExprs, no_trees, tree, trees_of, BareFields, no_fields, field, fields_of}
 use Rattle.cedar_builders.specs.Fold.{fold_with, fold_all, fold_fields}
 use Rattle.cedar_builders.specs.Environment.{Env, own, bound}
 use Rattle.cedar_builders.specs.Trees.{tree_ops, sure, bound_tree, substituted, all_substituted, fields_substituted}
 use Rattle.cedar_builders.specs.Restricted.{is_restricted, are_restricted, fields_are_restricted}
 use Rattle.cedar_builders.specs.Laws.{SubstitutedByFold, RestrictedRebuilt}
 
-abbrev IsListed : Result (List Bare) ⊥ → Bares → Type 0
-IsListed r es = (xs : List Bare) × (r ≡ Ok xs) × (trees_of xs ≡ es)
+abbrev IsListed : Result (List BareExpr) ⊥ → BareExprs → Type 0
+IsListed r es = (xs : List BareExpr) × (r ≡ Ok xs) × (trees_of xs ≡ es)
 
-abbrev IsPaired : Result (List (Text × Bare)) ⊥ → Fields → Type 0
-IsPaired r fs = (xs : List (Text × Bare)) × (r ≡ Ok xs) × (fields_of xs ≡ fs)
+abbrev IsPaired : Result (List (Text × BareExpr)) ⊥ → BareFields → Type 0
+IsPaired r fs = (xs : List (Text × BareExpr)) × (r ≡ Ok xs) × (fields_of xs ≡ fs)
 
 -- where each unknown means the tree that it is bound to, the fold is substitution
-module _ (env : Env) (at_unknown : Text → Option BareType → Result Bare ⊥) (known : (n : Text) (t : Option BareType) → at_unknown n t ≡ Ok (bound_tree (env n) (Unknown n t))) where
+module _ (env : Env) (at_unknown : Text → Option BareType → Result BareExpr ⊥) (known : (n : Text) (t : Option BareType) → at_unknown n t ≡ Ok (bound_tree (env n) (Unknown n t))) where
   mutual
-    with_trees : (e : Bare) → fold_with tree_ops at_unknown e ≡ Ok (substituted env e)
+    with_trees : (e : BareExpr) → fold_with tree_ops at_unknown e ≡ Ok (substituted env e)
     with_trees (Lit l) = refl
     with_trees (Var v) = refl
     with_trees (Slot s) = refl
@@ -37,13 +37,13 @@ module _ (env : Env) (at_unknown : Text → Option BareType → Result Bare ⊥)
     with_trees (Record fs) = let h = field_trees fs in rw h.1 (ap (λ xs. Ok (Record xs)) h.2)
     with_trees (Is a n) = rw (with_trees a)
 
-    all_trees : (es : Bares) → IsListed (fold_all tree_ops at_unknown es) (all_substituted env es)
+    all_trees : (es : BareExprs) → IsListed (fold_all tree_ops at_unknown es) (all_substituted env es)
     all_trees no_trees = ([], refl, refl)
     all_trees (tree e es) =
         let h = all_trees es in
         (substituted env e ∷ h.0, rw (with_trees e, h.1), ap (tree (substituted env e)) h.2)
 
-    field_trees : (fs : Fields) → IsPaired (fold_fields tree_ops at_unknown fs) (fields_substituted env fs)
+    field_trees : (fs : BareFields) → IsPaired (fold_fields tree_ops at_unknown fs) (fields_substituted env fs)
     field_trees no_fields = ([], refl, refl)
     field_trees (field k e fs) =
         let h = field_trees fs in
@@ -51,7 +51,7 @@ module _ (env : Env) (at_unknown : Text → Option BareType → Result Bare ⊥)
 
 -- a restricted tree is rebuilt as it is
 mutual
-  rebuilt : (e : Bare) → IsTrue (is_restricted e) → fold_with tree_ops (own tree_ops) e ≡ Ok e
+  rebuilt : (e : BareExpr) → IsTrue (is_restricted e) → fold_with tree_ops (own tree_ops) e ≡ Ok e
   rebuilt (Lit l) h = refl
   rebuilt (Unknown n t) h = refl
   rebuilt (ExtensionFunctionApp n es) h = let r = all_rebuilt es h in rw r.1 (ap (λ xs. Ok (ExtensionFunctionApp n xs)) r.2)
@@ -59,25 +59,25 @@ mutual
   rebuilt (Record fs) h = let r = fields_rebuilt fs h in rw r.1 (ap (λ xs. Ok (Record xs)) r.2)
   rebuilt e h = cc
 
-  all_rebuilt : (es : Bares) → IsTrue (are_restricted es) → IsListed (fold_all tree_ops (own tree_ops) es) es
+  all_rebuilt : (es : BareExprs) → IsTrue (are_restricted es) → IsListed (fold_all tree_ops (own tree_ops) es) es
   all_rebuilt no_trees h = ([], refl, refl)
   all_rebuilt (tree e es) h =
       let r = (and-eq-true_iff (is_restricted e) (are_restricted es)).0 h in
       let t = all_rebuilt es r.1 in
       (e ∷ t.0, rw (rebuilt e r.0, t.1), ap (tree e) t.2)
 
-  fields_rebuilt : (fs : Fields) → IsTrue (fields_are_restricted fs) → IsPaired (fold_fields tree_ops (own tree_ops) fs) fs
+  fields_rebuilt : (fs : BareFields) → IsTrue (fields_are_restricted fs) → IsPaired (fold_fields tree_ops (own tree_ops) fs) fs
   fields_rebuilt no_fields h = ([], refl, refl)
   fields_rebuilt (field k e fs) h =
       let r = (and-eq-true_iff (is_restricted e) (fields_are_restricted fs)).0 h in
       let t = fields_rebuilt fs r.1 in
       ((k, e) ∷ t.0, rw (rebuilt e r.0, t.1), ap (field k e) t.2)
 
-answered : (r : Result Bare ⊥) → r ≡ Ok (sure r)
+answered : (r : Result BareExpr ⊥) → r ≡ Ok (sure r)
 answered (Ok e) = refl
 answered (Err e) = absurd e
 
-bound_is : (o : Option (BareType × Bare)) (n : Text) (t : Option BareType) → bound tree_ops o n t ≡ Ok (bound_tree o (Unknown n t))
+bound_is : (o : Option (BareType × BareExpr)) (n : Text) (t : Option BareType) → bound tree_ops o n t ≡ Ok (bound_tree o (Unknown n t))
 bound_is None n t = refl
 bound_is (Some r) n t = answered (fold_with tree_ops (own tree_ops) r.1)
 

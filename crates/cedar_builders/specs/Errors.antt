@@ -1,7 +1,7 @@
 -- What the errors of making expressions say (`expression_construction_errors` of Cedar's `expr.rs`).
 use Rattle.std.specs.Prelude.{◌≡◌, ⊤}
 use Rattle.std.specs.Rc.{rc_str_bytes}
-use Rattle.cedar_builders.specs.Bare.{Text}
+use Rattle.cedar_builders.specs.BareExpr.{Text}
 use Rattle.cedar_builders.specs.declared.expression_construction_errors.DuplicateKeyError.{DuplicateKeyError}
 use Rattle.cedar_builders.specs.declared.expression_construction_errors.ExpressionConstructionError.{ExpressionConstructionError}
 use Rattle.cedar_builders.specs.declared.expression_construction_errors.ExpressionConstructionError.TheVariants.{DuplicateKey, Memory}

@@ -1,7 +1,7 @@
 -- What a builder makes of a tree: its children first, in field order, and the first error ends it.
 use Rattle.std.specs.Prelude.{List, [], ◌∷◌, Option, Result, Ok, Err}
 use Rattle.cedar_terms.specs.Types.{BareType}
-use Rattle.cedar_builders.specs.Bare.{Text, Bare, Lit, Var, Slot, Unknown, If, And, Or, UnaryApp, BinaryApp, ExtensionFunctionApp, GetAttr, HasAttr, ExtHasAttr, Like, Set, Record, Is, Bares, no_trees, tree, Fields, no_fields, field}
+use Rattle.cedar_builders.specs.BareExpr.{Text, BareExpr, Lit, Var, Slot, Unknown, If, And, Or, UnaryApp, BinaryApp, ExtensionFunctionApp, GetAttr, HasAttr, ExtHasAttr, Like, Set, Record, Is, BareExprs, no_trees, tree, BareFields, no_fields, field}
 use Rattle.cedar_builders.specs.Ops.{Ops}
 
 -- a function of one answer: an error answers in its place
@@ -27,7 +27,7 @@ and_then f (Err e) = Err e
 module _ {M F : Type 0} (B : Ops M F) (at_unknown : Text → Option BareType → Result M F) where
   abbrev mutual
     -- the meaning of a tree, where `at_unknown` says what an unknown means
-    pub fold_with : Bare → Result M F
+    pub fold_with : BareExpr → Result M F
     fold_with (Lit l) = Ok (B.lit_of l)
     fold_with (Var v) = Ok (B.var_of v)
     fold_with (Slot s) = Ok (B.slot_of s)
@@ -47,11 +47,11 @@ module _ {M F : Type 0} (B : Ops M F) (at_unknown : Text → Option BareType →
     fold_with (Is a n) = on_one (λ m. B.is_of m n) (fold_with a)
 
     -- the meanings of a list of trees
-    pub fold_all : Bares → Result (List M) F
+    pub fold_all : BareExprs → Result (List M) F
     fold_all no_trees = Ok []
     fold_all (tree e es) = on_two (λ m ms. m ∷ ms) (fold_with e) (fold_all es)
 
     -- the keys of a record with the meanings of its values
-    pub fold_fields : Fields → Result (List (Text × M)) F
+    pub fold_fields : BareFields → Result (List (Text × M)) F
     fold_fields no_fields = Ok []
     fold_fields (field k e fs) = on_two (λ m ms. (k, m) ∷ ms) (fold_with e) (fold_fields fs)

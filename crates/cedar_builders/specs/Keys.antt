@@ -7,7 +7,7 @@ use Rattle.std.specs.List.Sorted.{IsStrictlySortedBy}
 use Rattle.std.specs.Rc.{rc_str_bytes}
 use Rattle.std.specs.Cmp.Lexicographic.{slice_cmp, pointwise}
 use Rattle.std.specs.declared.rc.RcStr.{RcStr}
-use Rattle.cedar_builders.specs.Bare.{Text}
+use Rattle.cedar_builders.specs.BareExpr.{Text}
 
 -- the keys of some pairs, as texts
 abbrev pub keys_of : {A : Type 0} → List (RcStr Global × A) → List Text

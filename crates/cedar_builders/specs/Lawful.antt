@@ -1,7 +1,7 @@
 -- What a lawful builder keeps: the three simplifications of the builder of trees.
 use Rattle.std.specs.Prelude.{◌≡◌, Bool, ◌&&◌, ◌||◌, []}
 use Rattle.cedar_terms.specs.Literals.{BoolLit}
-use Rattle.cedar_builders.specs.Bare.{Text}
+use Rattle.cedar_builders.specs.BareExpr.{Text}
 use Rattle.cedar_builders.specs.Ops.{Ops}
 
 -- `and` and `or` of two Boolean literals mean the literal of the result, and a test for a path of one attribute means the

@@ -1,4 +1,4 @@
-pub mod Bare
+pub mod BareExpr
 pub mod Ops
 pub mod Fold
 pub mod Environment
@@ -6,8 +6,8 @@ pub mod Trees
 pub mod Restricted
 pub mod Lawful
 pub mod Laws
-pub mod Clash
+pub mod TypeClash
 pub mod Keys
 pub mod Errors
-pub mod Gives
+pub mod Answers
 pub mod Negated

@@ -9,7 +9,7 @@ use Rattle.cedar_terms.specs.declared.ops.BinaryOp.{BinaryOp}
 use Rattle.cedar_terms.specs.declared.pattern.PatternElem.{PatternElem}
 use Rattle.cedar_terms.specs.declared.var.Var.{Var}
 use Rattle.cedar_terms.specs.Types.{BareType}
-use Rattle.cedar_builders.specs.Bare.{Text}
+use Rattle.cedar_builders.specs.BareExpr.{Text}
 
 -- meanings in M, errors in F: an operation takes the kind's own fields and the meanings of the children, and a call
 -- alone may fail

@@ -1,12 +1,12 @@
 -- Restricted trees (`RestrictedExpr` of Cedar's `restricted_expr.rs`): of literals, unknowns, sets, records and calls.
 use Rattle.std.specs.Prelude.{◌≡◌, Bool, true, false, ◌&&◌, IsTrue, Some}
 use Rattle.cedar_terms.specs.Types.{BareType}
-use Rattle.cedar_builders.specs.Bare.{Text, Bare, Lit, Var, Slot, Unknown, If, And, Or, UnaryApp, BinaryApp, ExtensionFunctionApp, GetAttr, HasAttr, ExtHasAttr, Like, Set, Record, Is, Bares, no_trees, tree, Fields, no_fields, field}
+use Rattle.cedar_builders.specs.BareExpr.{Text, BareExpr, Lit, Var, Slot, Unknown, If, And, Or, UnaryApp, BinaryApp, ExtensionFunctionApp, GetAttr, HasAttr, ExtHasAttr, Like, Set, Record, Is, BareExprs, no_trees, tree, BareFields, no_fields, field}
 use Rattle.cedar_builders.specs.Environment.{Env}
 
 abbrev mutual
   -- whether each node is of one of these five kinds
-  pub is_restricted : Bare → Bool
+  pub is_restricted : BareExpr → Bool
   is_restricted (Lit l) = true
   is_restricted (Var v) = false
   is_restricted (Slot s) = false
@@ -26,19 +26,19 @@ abbrev mutual
   is_restricted (Is a n) = false
 
   -- whether each tree of a list is restricted
-  pub are_restricted : Bares → Bool
+  pub are_restricted : BareExprs → Bool
   are_restricted no_trees = true
   are_restricted (tree e es) = is_restricted e && are_restricted es
 
   -- whether each value of a record is restricted
-  pub fields_are_restricted : Fields → Bool
+  pub fields_are_restricted : BareFields → Bool
   fields_are_restricted no_fields = true
   fields_are_restricted (field k e fs) = is_restricted e && fields_are_restricted fs
 
 -- each node is of one of these five kinds
-abbrev pub IsRestricted : Bare → Type 0
+abbrev pub IsRestricted : BareExpr → Type 0
 IsRestricted e = IsTrue (is_restricted e)
 
 -- the environment binds names to restricted trees alone
 abbrev pub BindsRestricted : Env → Type 0
-BindsRestricted env = (n : Text) (r : BareType × Bare) → env n ≡ Some r → IsRestricted r.1
+BindsRestricted env = (n : Text) (r : BareType × BareExpr) → env n ≡ Some r → IsRestricted r.1

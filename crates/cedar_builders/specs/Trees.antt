@@ -2,7 +2,7 @@
 use Rattle.std.specs.Prelude.{Bool, ◌&&◌, ◌||◌, List, [], ◌∷◌, Option, Some, None, Result, Ok, Err}
 use Rattle.cedar_terms.specs.Literals.{BareLiteral, BoolLit, LongLit, StringLit, EntityLit}
 use Rattle.cedar_terms.specs.Types.{BareType}
-use Rattle.cedar_builders.specs.Bare.{Text, Bare, Lit, Var, Slot, Unknown, If, And, Or, UnaryApp, BinaryApp, ExtensionFunctionApp, GetAttr, HasAttr, ExtHasAttr, Like, Set, Record, Is, Bares, no_trees, tree, trees_of, Fields, no_fields, field, fields_of}
+use Rattle.cedar_builders.specs.BareExpr.{Text, BareExpr, Lit, Var, Slot, Unknown, If, And, Or, UnaryApp, BinaryApp, ExtensionFunctionApp, GetAttr, HasAttr, ExtHasAttr, Like, Set, Record, Is, BareExprs, no_trees, tree, trees_of, BareFields, no_fields, field, fields_of}
 use Rattle.cedar_builders.specs.Ops.{Ops}
 use Rattle.cedar_builders.specs.Environment.{Env, empty, fold}
 
@@ -14,7 +14,7 @@ literal_bool (StringLit s) = None
 literal_bool (EntityLit u) = None
 
 -- the Boolean that a tree is the literal of
-abbrev pub bool_of : Bare → Option Bool
+abbrev pub bool_of : BareExpr → Option Bool
 bool_of (Lit l) = literal_bool l
 bool_of (Var v) = None
 bool_of (Slot s) = None
@@ -34,26 +34,26 @@ bool_of (Record fs) = None
 bool_of (Is a n) = None
 
 -- the literal of f where both sides are Boolean literals, else the node
-abbrev pub folded : (Bool → Bool → Bool) → Option Bool → Option Bool → Bare → Bare
+abbrev pub folded : (Bool → Bool → Bool) → Option Bool → Option Bool → BareExpr → BareExpr
 folded f (Some a) (Some b) node = Lit (BoolLit (f a b))
 folded f (Some a) None node = node
 folded f None b node = node
 
 -- a conjunction, which is a literal where both sides are Boolean literals
-abbrev pub and_made : Bare → Bare → Bare
+abbrev pub and_made : BareExpr → BareExpr → BareExpr
 and_made a b = folded ◌&&◌ (bool_of a) (bool_of b) (And a b)
 
 -- a disjunction, which is a literal where both sides are Boolean literals
-abbrev pub or_made : Bare → Bare → Bare
+abbrev pub or_made : BareExpr → BareExpr → BareExpr
 or_made a b = folded ◌||◌ (bool_of a) (bool_of b) (Or a b)
 
 -- a test for a path of attributes, which is the plain test where the path has one
-abbrev pub ext_has_made : Bare → Text → List Text → Bare
+abbrev pub ext_has_made : BareExpr → Text → List Text → BareExpr
 ext_has_made a k [] = HasAttr a k
 ext_has_made a k (l ∷ ls) = ExtHasAttr a k (l ∷ ls)
 
 -- each kind makes its node, but for these three
-abbrev pub tree_ops : Ops Bare ⊥
+abbrev pub tree_ops : Ops BareExpr ⊥
 tree_ops = record {
   lit_of = Lit;
   var_of = Var;
@@ -80,13 +80,13 @@ sure (Ok a) = a
 sure (Err e) = absurd e
 
 -- the tree that a name is bound to, built with nothing bound, else the unknown itself
-abbrev pub bound_tree : Option (BareType × Bare) → Bare → Bare
+abbrev pub bound_tree : Option (BareType × BareExpr) → BareExpr → BareExpr
 bound_tree None u = u
 bound_tree (Some r) u = sure (fold tree_ops empty r.1)
 
 abbrev mutual
   -- the tree with each bound unknown made its tree: the fold at the builder of trees, which never fails
-  pub substituted : Env → Bare → Bare
+  pub substituted : Env → BareExpr → BareExpr
   substituted env (Lit l) = Lit l
   substituted env (Var v) = Var v
   substituted env (Slot s) = Slot s
@@ -106,11 +106,11 @@ abbrev mutual
   substituted env (Is a n) = Is (substituted env a) n
 
   -- the same of a list of trees
-  pub all_substituted : Env → Bares → Bares
+  pub all_substituted : Env → BareExprs → BareExprs
   all_substituted env no_trees = no_trees
   all_substituted env (tree e es) = tree (substituted env e) (all_substituted env es)
 
   -- the same of the values of a record
-  pub fields_substituted : Env → Fields → Fields
+  pub fields_substituted : Env → BareFields → BareFields
   fields_substituted env no_fields = no_fields
   fields_substituted env (field k e fs) = field k (substituted env e) (fields_substituted env fs)

@@ -3,7 +3,7 @@ ghost use Rattle.std.specs.Prelude.{◌≡◌, None, Option, IfOk, IfErr, map};
 ghost use Rattle.std.specs.Option.{option_copied};
 ghost use Rattle.std.specs.Rc.{rc_str_bytes};
 ghost use Rattle.cedar_names.specs.Place.{Place};
-ghost use Rattle.cedar_names.specs.PlainNames.{bare_of_name};
+ghost use Rattle.cedar_names.specs.PlainNames.{bare_name};
 ghost use Rattle.cedar_terms.specs.Entities.{bare_entity_type};
 ghost use Rattle.cedar_terms.specs.Literals.{bare_literal};
 ghost use Rattle.cedar_terms.specs.declared.ops.UnaryOp.{UnaryOp};
@@ -13,7 +13,7 @@ ghost use Rattle.cedar_builders.specs.Ops.{Ops};
 ghost use Rattle.cedar_builders.specs.Lawful.{Lawful};
 ghost use Rattle.cedar_builders.specs.Keys.{keys_of, meant_pairs, IsRising, HasRepeat};
 ghost use Rattle.cedar_builders.specs.Errors.{OnDuplicateKey};
-ghost use Rattle.cedar_builders.specs.Gives.{Gives};
+ghost use Rattle.cedar_builders.specs.Answers.{Gives};
 ghost use Rattle.cedar_builders.specs.Negated.{MakesNegated};
 ghost use Rattle.cedar_builders.specs.declared.expr_builder.BuildFault.TheVariants.{Memory};
 ghost use Rattle.cedar_builders.specs.declared.expression_construction_errors.ExpressionConstructionError.TheVariants as error;
@@ -186,7 +186,7 @@ pub trait ExprBuilder: Sized + Drop {
         fn_name: Name,
         args: Vec<Self::Expr>,
     ) -> Result<Self::Expr, BuildFault<Self::BuildError>>
-        ensures { is_new self → Gives meaning_of fault_of (ops.call_of (bare_of_name fn_name) (map meaning_of args.items)) result };
+        ensures { is_new self → Gives meaning_of fault_of (ops.call_of (bare_name fn_name) (map meaning_of args.items)) result };
 
     /// `expr.attr`: the attribute of an entity or a record.
     fn get_attr(

@@ -2,7 +2,7 @@
 //!
 //! Each function here does nothing: its contract is the law, over the definitions alone.
 ghost use Rattle.cedar_builders.specs.Laws.{BuiltAfter, RebuiltTwice, SubstitutedTwice, ThenIsBoth, ThenIsNotAlwaysBoth, SubstitutedByFold, RestrictedRebuilt};
-ghost use Rattle.cedar_builders.specs.Clash.{ClashByChildren};
+ghost use Rattle.cedar_builders.specs.TypeClash.{ClashByChildren};
 
 use crate::expr_builder::LawfulExprBuilder;
 

@@ -1,14 +1,14 @@
 // A builder that makes every node as it stands.
 ghost use Rattle.std.specs.Prelude.{◌≡◌, IfOk, IfErr, Ok, ⊤, map};
-ghost use Rattle.cedar_names.specs.PlainNames.{bare_of_name};
-ghost use Rattle.cedar_builders.specs.Bare.{Bare, And, Or, ExtHasAttr, Set};
-ghost use Rattle.cedar_builders.specs.Gives.{Gives};
+ghost use Rattle.cedar_names.specs.PlainNames.{bare_name};
+ghost use Rattle.cedar_builders.specs.BareExpr.{BareExpr, And, Or, ExtHasAttr, Set};
+ghost use Rattle.cedar_builders.specs.Answers.{Gives};
 ghost use Rattle.cedar_builders.specs.Errors.{OnDuplicateKey};
 ghost use Rattle.cedar_builders.specs.Keys.{keys_of, meant_pairs, IsRising, HasRepeat};
 ghost use Rattle.cedar_builders.specs.Trees.{tree_ops};
 ghost use Rattle.cedar_builders.specs.declared.expression_construction_errors.ExpressionConstructionError.TheVariants as error;
-ghost use Rattle.cedar_exprs.specs.Node.{builder_loc, never};
-ghost use Rattle.cedar_exprs.specs.View.{bare, bares};
+ghost use Rattle.cedar_exprs.specs.BuiltNode.{builder_place, never};
+ghost use Rattle.cedar_exprs.specs.BareExpr.{bare_expr, bare_exprs};
 
 use cedar_builders::{BuildFault, ExprBuilder as Builder, ExpressionConstructionError};
 use cedar_exprs::{Expr, ExprBuilder, ExprKind};
@@ -31,7 +31,7 @@ impl Builder for Raw {
 
     type BuildError = Infallible;
 
-    ghost Meaning = { Bare };
+    ghost Meaning = { BareExpr };
 
     ghost Fault = { ⊥ };
 
@@ -55,13 +55,13 @@ impl Builder for Raw {
       is_of = tree_ops.is_of;
     } };
 
-    ghost meaning_of = { bare };
+    ghost meaning_of = { bare_expr };
 
     ghost fault_of = { never };
 
     ghost is_new = { λ _. ⊤ };
 
-    ghost place_of = { λ b. builder_loc b.inner };
+    ghost place_of = { λ b. builder_place b.inner };
 
     ghost kept_place = { λ place. place };
 
@@ -159,7 +159,7 @@ impl Builder for Raw {
         fn_name: Name,
         args: Vec<Expr<()>>,
     ) -> Result<Expr<()>, BuildFault<Infallible>>
-        ensures { Gives bare never (tree_ops.call_of (bare_of_name fn_name) (map bare args.items)) result }
+        ensures { Gives bare_expr never (tree_ops.call_of (bare_name fn_name) (map bare_expr args.items)) result }
     {
         self.inner.call_extension_fn(alloc, fn_name, args)
     }
@@ -200,7 +200,7 @@ impl Builder for Raw {
     }
 
     fn set(self, alloc: Global, members: Vec<Expr<()>>) -> Result<Expr<()>, AllocError>
-        ensures { IfOk result (λ e. bare e ≡ Set (bares members.items)) }
+        ensures { IfOk result (λ e. bare_expr e ≡ Set (bare_exprs members.items)) }
     {
         self.inner.set(alloc, members)
     }
@@ -210,7 +210,7 @@ impl Builder for Raw {
         alloc: Global,
         pairs: Vec<(RcStr, Expr<()>)>,
     ) -> Result<Expr<()>, ExpressionConstructionError>
-        ensures means { IsRising (keys_of pairs.items) → IfOk result (λ e. bare e ≡ tree_ops.record_of (meant_pairs bare pairs.items)) }
+        ensures means { IsRising (keys_of pairs.items) → IfOk result (λ e. bare_expr e ≡ tree_ops.record_of (meant_pairs bare_expr pairs.items)) }
         ensures accepts { IsRising (keys_of pairs.items) → IfErr result (λ e. e ≡ error.Memory) }
         ensures refuses { IfErr result (OnDuplicateKey (λ _. HasRepeat (keys_of pairs.items))) }
     {

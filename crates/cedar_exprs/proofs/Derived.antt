@@ -5,8 +5,8 @@ use mir.Syntax.{Dict}
 use Rattle.std.specs.Bool.{Decides}
 use Rattle.std.specs.declared.cmp.PartialEq as partial_eq
 use Rattle.std.specs.contracts.cmp.PartialEq.TheBound as partial_eq_bound
-use Rattle.cedar_exprs.specs.Data.{held}
-use Rattle.cedar_exprs.specs.View.{bare}
+use Rattle.cedar_exprs.specs.ExprData.{data_tree}
+use Rattle.cedar_exprs.specs.BareExpr.{bare_expr}
 use Rattle.cedar_exprs.specs.declared.expr.Expr.{Expr}
 use Rattle.cedar_exprs.specs.declared.expr.ExprKind.{ExprKind, out-ExprKind}
 use Rattle.cedar_exprs.specs.declared.expr.ExprKind.TheVariants.{Lit, Var, Slot, Unknown, If', And', Or', UnaryApp', BinaryApp', ExtensionFunctionApp', GetAttr', HasAttr', ExtHasAttr', Like', Set', Record', Is'}
@@ -44,7 +44,7 @@ module _ (T : RattleType) (P : partial_eq.Ghosts T.Denot) (P' : Dict) (p : parti
   kinds (Is' _ _ _ _ _) (Is' _ _ _ _ _) = refl
   kinds a b = refl
 
-  pub expr_eq_decides : (a b : Expr T.Denot) → Decides (expr_same a b) (Same P.eq (bare a) (bare b) (held a) (held b))
+  pub expr_eq_decides : (a b : Expr T.Denot) → Decides (expr_same a b) (Same P.eq (bare_expr a) (bare_expr b) (data_tree a) (data_tree b))
   expr_eq_decides = decides_same P.eq kind_same expr_same (record {
     kinds = λ a b. kind_laws.is T P P' p a b ∙ kinds a b;
     exprs = λ a b. expr_laws.is T P P' p a b;

@@ -10,7 +10,7 @@ use Rattle.std.proofs.lemmas.Bool.{false≢true}
 use Rattle.std.proofs.lemmas.List.{map-append}
 use Rattle.std.proofs.lemmas.List.Folds.{list_any-append}
 use Rattle.std.proofs.lemmas.List.Sums.{fold-append}
-use Rattle.cedar_builders.specs.Bare.{Text}
+use Rattle.cedar_builders.specs.BareExpr.{Text}
 use Rattle.cedar_builders.specs.Keys.{keys_of, is_among, are_distinct}
 use Rattle.cedar_exprs.specs.Keys.{in_key_order, keyed, IsFirstRepeat}
 use Rattle.cedar_exprs.proofs.Records.{text_cmp}

@@ -7,22 +7,22 @@ use Rattle.std.specs.Map.{keys_of}
 use Rattle.std.specs.Rc.{rc_str_bytes}
 use Rattle.std.specs.declared.rc.Rc.{Rc}
 use Rattle.std.specs.declared.rc.RcStr.{RcStr}
-use Rattle.cedar_builders.specs.Bare as tree
+use Rattle.cedar_builders.specs.BareExpr as tree
 use Rattle.cedar_builders.specs.Keys.{IsRising}
 use Rattle.cedar_exprs.specs.RisingKeys.{field_keys, KeysRise, AllKeysRise, FieldsKeysRise}
-use Rattle.cedar_exprs.specs.View.{bare, bares, fields, kind_of}
+use Rattle.cedar_exprs.specs.BareExpr.{bare_expr, bare_exprs, bare_fields, kind_of}
 use Rattle.cedar_exprs.specs.declared.expr.Expr.{Expr}
 use Rattle.cedar_exprs.specs.declared.expr.ExprKind.{Record}
 use Rattle.cedar_exprs.proofs.Nodes.{Map}
 use Rattle.cedar_exprs.proofs.Records.{Entry, text_cmp, bare_at_record}
 
 module _ {T : Type 0} where
-  below : (k : RcStr Global) (es : List (Entry T)) → AllByRecursion (λ y. text_cmp k y ≡ Less) (keys_of es) → AllByRecursion (λ y. slice_cmp nat_cmp (rc_str_bytes k) y ≡ Less) (field_keys (fields es))
+  below : (k : RcStr Global) (es : List (Entry T)) → AllByRecursion (λ y. text_cmp k y ≡ Less) (keys_of es) → AllByRecursion (λ y. slice_cmp nat_cmp (rc_str_bytes k) y ≡ Less) (field_keys (bare_fields es))
   below k [] h = tt
   below k (e ∷ es) h = (h.0, below k es h.1)
 
   -- in order in the map, rising in the tree
-  pub keys_rise : (es : List (Entry T)) → IsStrictlySortedBy text_cmp (keys_of es) → IsRising (field_keys (fields es))
+  pub keys_rise : (es : List (Entry T)) → IsStrictlySortedBy text_cmp (keys_of es) → IsRising (field_keys (bare_fields es))
   unfolding IsStrictlySortedBy
   keys_rise [] h = tt
   keys_rise (e ∷ es) h = (below e.0 es h.0, keys_rise es h.1)
@@ -32,11 +32,11 @@ module _ {T : Type 0} where
 
   -- what holds of an item and of what is behind it
   pub rest_rises :
-      (es : List (Expr T)) (i : ℕ) (e : Expr T) → i < length es → e ≡ get_or es i e → KeysRise (bare e) → AllKeysRise (bares (drop (i + 1) es)) → AllKeysRise (bares (drop i es))
-  rest_rises es i e lt is first rest = subst (λ l. AllKeysRise (bares l)) (sym (split es i e lt is)) (first, rest)
+      (es : List (Expr T)) (i : ℕ) (e : Expr T) → i < length es → e ≡ get_or es i e → KeysRise (bare_expr e) → AllKeysRise (bare_exprs (drop (i + 1) es)) → AllKeysRise (bare_exprs (drop i es))
+  rest_rises es i e lt is first rest = subst (λ l. AllKeysRise (bare_exprs l)) (sym (split es i e lt is)) (first, rest)
 
   -- the record of a map whose keys and values rise
   pub record_rises :
-      (e : Expr T) (m : Rc (Map T) Global) (n : Map T) → kind_of e ≡ Record m → n ≡ m.value → IsRising (field_keys (fields n.entries)) → FieldsKeysRise (fields n.entries) → KeysRise (bare e)
+      (e : Expr T) (m : Rc (Map T) Global) (n : Map T) → kind_of e ≡ Record m → n ≡ m.value → IsRising (field_keys (bare_fields n.entries)) → FieldsKeysRise (bare_fields n.entries) → KeysRise (bare_expr e)
   record_rises e m n at same keys values =
-      subst KeysRise (sym (bare_at_record e m at ∙ ap (λ (q : Map T). tree.Record (fields q.entries)) (sym same))) (keys, values)
+      subst KeysRise (sym (bare_at_record e m at ∙ ap (λ (q : Map T). tree.Record (bare_fields q.entries)) (sym same))) (keys, values)

@@ -22,7 +22,7 @@ use Rattle.cedar_terms.specs.declared.var.Var.{Var}
 use Rattle.cedar_terms.specs.declared.var.Var.TheVariants as variable
 use Rattle.cedar_terms.specs.contracts.var.VarPartialEq.TheImpl as var_eq
 use Rattle.cedar_terms.specs.Unknowns.{BareUnknown, unknown_eq, unknown_eq_decides}
-use Rattle.cedar_exprs.specs.View.{further, unknown_tree}
+use Rattle.cedar_exprs.specs.BareExpr.{further, unknown_tree}
 
 pub both : {A B : Type 0} (x y : Bool) → Decides x A → Decides y B → Decides (x && y) (A × B)
 both x y p q = Decides-and x y p q

@@ -6,15 +6,15 @@ use Rattle.std.specs.Global.{Global}
 use Rattle.std.specs.declared.rc.RcStr.{RcStr}
 use Rattle.cedar_names.specs.NameOrder.{name_eq, name_eq_decides}
 use Rattle.cedar_names.specs.NonEmpty.{list_of}
-use Rattle.cedar_names.specs.PlainNames.{bare_of_name}
+use Rattle.cedar_names.specs.PlainNames.{bare_name}
 use Rattle.cedar_terms.specs.Entities.{bare_entity_type}
 use Rattle.cedar_terms.specs.LiteralOrder.{literal_eq, literal_eq_decides}
 use Rattle.cedar_terms.specs.Literals.{bare_literal}
 use Rattle.cedar_terms.specs.PatternOrder.{pattern_eq, pattern_eq_decides}
 use Rattle.cedar_terms.specs.Unknowns.{bare_unknown, unknown_eq}
-use Rattle.cedar_builders.specs.Bare.{Bare}
-use Rattle.cedar_exprs.specs.Data.{Data, holds, Datas, SameData, SameDatas, held_step, holds_step, held_kind, held, helds, held_values}
-use Rattle.cedar_exprs.specs.View.{bare_step, node_step, bare_kind, bare, bares, fields}
+use Rattle.cedar_builders.specs.BareExpr.{BareExpr}
+use Rattle.cedar_exprs.specs.ExprData.{DataTree, holds, DataTrees, SameData, SameDatas, kind_data_step, data_tree_step, kind_data, data_tree, data_trees, values_data}
+use Rattle.cedar_exprs.specs.BareExpr.{bare_step, node_step, bare_expr_kind, bare_expr, bare_exprs, bare_fields}
 use Rattle.cedar_exprs.specs.declared.expr.Expr.{Expr, Expr-F, out-Expr, roll-Expr, out-roll-Expr, fold-roll-Expr, fold_out-Expr, ind-Expr}
 use Rattle.cedar_exprs.specs.declared.expr.ExprKind.{ExprKind, ExprKind-F, out-ExprKind, roll-ExprKind, out-roll-ExprKind, fold-roll-ExprKind, fold_out-ExprKind, map-ExprKind}
 use Rattle.cedar_exprs.proofs.Leaves.{both, exactly, never, same_slot, same_var, same_unary, same_binary, same_text, slots_decide, vars_decide, unaries_decide, binaries_decide, unknowns_decide, texts_decide, paths_decide}
@@ -34,7 +34,7 @@ layer_eq V (ExprKind-F.And a b) (ExprKind-F.And a' b') = V a.value a'.value && V
 layer_eq V (ExprKind-F.Or a b) (ExprKind-F.Or a' b') = V a.value a'.value && V b.value b'.value
 layer_eq V (ExprKind-F.UnaryApp o a) (ExprKind-F.UnaryApp o' a') = same_unary o o' && V a.value a'.value
 layer_eq V (ExprKind-F.BinaryApp o a b) (ExprKind-F.BinaryApp o' a' b') = same_binary o o' && (V a.value a'.value && V b.value b'.value)
-layer_eq V (ExprKind-F.ExtensionFunctionApp n es) (ExprKind-F.ExtensionFunctionApp n' es') = name_eq (bare_of_name n) (bare_of_name n') && pointwise V es.value.items es'.value.items
+layer_eq V (ExprKind-F.ExtensionFunctionApp n es) (ExprKind-F.ExtensionFunctionApp n' es') = name_eq (bare_name n) (bare_name n') && pointwise V es.value.items es'.value.items
 layer_eq V (ExprKind-F.GetAttr a k) (ExprKind-F.GetAttr a' k') = V a.value a'.value && same_text k k'
 layer_eq V (ExprKind-F.HasAttr a k) (ExprKind-F.HasAttr a' k') = V a.value a'.value && same_text k k'
 layer_eq V (ExprKind-F.ExtHasAttr a ks) (ExprKind-F.ExtHasAttr a' ks') = V a.value a'.value && pointwise same_text (list_of ks) (list_of ks')
@@ -45,10 +45,10 @@ layer_eq V (ExprKind-F.Is a n) (ExprKind-F.Is a' n') = V a.value a'.value && nam
 layer_eq V a b = false
 
 module _ {T : Type 0} (E : T → T → Bool) where
-  abbrev KindsSame : Bare → Bare → Datas T → Datas T → Type 0
+  abbrev KindsSame : BareExpr → BareExpr → DataTrees T → DataTrees T → Type 0
   KindsSame a b d e = (a ≡ b) × SameDatas E d e
 
-  abbrev pub Same : Bare → Bare → Data T → Data T → Type 0
+  abbrev pub Same : BareExpr → BareExpr → DataTree T → DataTree T → Type 0
   Same a b d e = (a ≡ b) × SameData E d e
 
   module _ (K : ExprKind T → ExprKind T → Bool) (V : Expr T → Expr T → Bool) where
@@ -58,10 +58,10 @@ module _ {T : Type 0} (E : T → T → Bool) where
       pub exprs : (a b : Expr T) → V a b ≡ (K (out-Expr T a).expr_kind (out-Expr T b).expr_kind && E (out-Expr T a).«data» (out-Expr T b).«data»)
 
     abbrev KindClaim : ExprKind T → Type 0
-    KindClaim a = (b : ExprKind T) → Decides (K a b) (KindsSame (bare_kind a) (bare_kind b) (held_kind a) (held_kind b))
+    KindClaim a = (b : ExprKind T) → Decides (K a b) (KindsSame (bare_expr_kind a) (bare_expr_kind b) (kind_data a) (kind_data b))
 
     abbrev ExprClaim : Expr T → Type 0
-    ExprClaim a = (b : Expr T) → Decides (V a b) (Same (bare a) (bare b) (held a) (held b))
+    ExprClaim a = (b : Expr T) → Decides (V a b) (Same (bare_expr a) (bare_expr b) (data_tree a) (data_tree b))
 
     abbrev Member : Type 0
     Member = (e : Expr T) × ExprClaim e
@@ -76,14 +76,14 @@ module _ {T : Type 0} (E : T → T → Bool) where
     abbrev plain_pairs : List (RcStr Global × Member) → List Pair
     plain_pairs ms = map (λ m. (m.0, m.1.0)) ms
 
-    members : (ms : List Member) (bs : List (Expr T)) → Decides (pointwise V (plain ms) bs) ((bares (plain ms) ≡ bares bs) × SameDatas E (helds (plain ms)) (helds bs))
+    members : (ms : List Member) (bs : List (Expr T)) → Decides (pointwise V (plain ms) bs) ((bare_exprs (plain ms) ≡ bare_exprs bs) × SameDatas E (data_trees (plain ms)) (data_trees bs))
     members [] [] = (λ h. (refl, tt), λ h. refl)
     members [] (b ∷ bs) = never (λ h. h.1)
     members (m ∷ ms) [] = never (λ h. h.1)
     members (m ∷ ms) (b ∷ bs) =
         exactly _ (both _ _ (m.1 b) (members ms bs)) (λ h. (cc (h.0.0, h.1.0), (h.0.1, h.1.1))) (λ h. ((cc (h.0), h.1.0), (cc (h.0), h.1.1)))
 
-    pairs : (ms : List (RcStr Global × Member)) (bs : List Pair) → Decides (pointwise (same_pair V) (plain_pairs ms) bs) ((fields (plain_pairs ms) ≡ fields bs) × SameDatas E (held_values (plain_pairs ms)) (held_values bs))
+    pairs : (ms : List (RcStr Global × Member)) (bs : List Pair) → Decides (pointwise (same_pair V) (plain_pairs ms) bs) ((bare_fields (plain_pairs ms) ≡ bare_fields bs) × SameDatas E (values_data (plain_pairs ms)) (values_data bs))
     pairs [] [] = (λ h. (refl, tt), λ h. refl)
     pairs [] (b ∷ bs) = never (λ h. h.1)
     pairs (m ∷ ms) [] = never (λ h. h.1)
@@ -95,8 +95,8 @@ module _ {T : Type 0} (E : T → T → Bool) where
     abbrev Layer : ExprKind-F T (ExprKind T) (Expr T) → ExprKind-F T (ExprKind T) (Expr T) → Type 0
     Layer a b =
         Decides (layer_eq V a b)
-        (KindsSame (bare_step (map-ExprKind T _ _ _ _ bare_kind bare a)) (bare_step (map-ExprKind T _ _ _ _ bare_kind bare b))
-        (held_step (map-ExprKind T _ _ _ _ held_kind held a)) (held_step (map-ExprKind T _ _ _ _ held_kind held b)))
+        (KindsSame (bare_step (map-ExprKind T _ _ _ _ bare_expr_kind bare_expr a)) (bare_step (map-ExprKind T _ _ _ _ bare_expr_kind bare_expr b))
+        (kind_data_step (map-ExprKind T _ _ _ _ kind_data data_tree a)) (kind_data_step (map-ExprKind T _ _ _ _ kind_data data_tree b)))
 
     -- one level, where each expression inside comes with its claim
     layer : (a : ExprKind-F T ((k : ExprKind T) × KindClaim k) Member) (b : ExprKind-F T (ExprKind T) (Expr T)) → Layer (map-ExprKind T _ _ _ _ (λ e. e.0) (λ e. e.0) a) b
@@ -119,7 +119,7 @@ module _ {T : Type 0} (E : T → T → Bool) where
     layer (ExprKind-F.BinaryApp o a b) (ExprKind-F.BinaryApp o' a' b') =
         exactly _ (both _ _ (binaries_decide o o') (both _ _ (a.value.1 a'.value) (b.value.1 b'.value))) (λ h. (cc (h.0, h.1.0.0, h.1.1.0), (h.1.0.1, (h.1.1.1, tt)))) (λ h. (cc (h.0), ((cc (h.0), h.1.0), (cc (h.0), h.1.1.0))))
     layer (ExprKind-F.ExtensionFunctionApp n es) (ExprKind-F.ExtensionFunctionApp n' es') =
-        exactly _ (both _ _ (name_eq_decides (bare_of_name n) (bare_of_name n')) (members es.value.items es'.value.items)) (λ h. (cc (h.0, h.1.0), h.1.1)) (λ h. (cc (h.0), (cc (h.0), h.1)))
+        exactly _ (both _ _ (name_eq_decides (bare_name n) (bare_name n')) (members es.value.items es'.value.items)) (λ h. (cc (h.0, h.1.0), h.1.1)) (λ h. (cc (h.0), (cc (h.0), h.1)))
     layer (ExprKind-F.GetAttr a k) (ExprKind-F.GetAttr a' k') =
         exactly _ (both _ _ (a.value.1 a'.value) (texts_decide k k')) (λ h. (cc (h.0.0, h.1), (h.0.1, tt))) (λ h. ((cc (h.0), h.1.0), cc (h.0)))
     layer (ExprKind-F.HasAttr a k) (ExprKind-F.HasAttr a' k') =
@@ -136,28 +136,28 @@ module _ {T : Type 0} (E : T → T → Bool) where
         exactly _ (both _ _ (a.value.1 a'.value) (name_eq_decides (bare_entity_type n) (bare_entity_type n'))) (λ h. (cc (h.0.0, h.1), (h.0.1, tt))) (λ h. ((cc (h.0), h.1.0), cc (h.0)))
     layer a b = never (λ h. cc (h.0))
 
-    at_kinds : {x y : Bool} {a b c d : Bare} {p q r s : Datas T} → x ≡ y → a ≡ c → b ≡ d → p ≡ r → q ≡ s → Decides y (KindsSame c d r s) → Decides x (KindsSame a b p q)
+    at_kinds : {x y : Bool} {a b c d : BareExpr} {p q r s : DataTrees T} → x ≡ y → a ≡ c → b ≡ d → p ≡ r → q ≡ s → Decides y (KindsSame c d r s) → Decides x (KindsSame a b p q)
     at_kinds e f g h k l = subst (λ x. x) (λ i. Decides (sym e i) ((sym f i ≡ sym g i) × SameDatas E (sym h i) (sym k i))) l
 
-    at_exprs : {x y : Bool} {a b c d : Bare} {p q r s : Data T} → x ≡ y → a ≡ c → b ≡ d → p ≡ r → q ≡ s → Decides y (Same c d r s) → Decides x (Same a b p q)
+    at_exprs : {x y : Bool} {a b c d : BareExpr} {p q r s : DataTree T} → x ≡ y → a ≡ c → b ≡ d → p ≡ r → q ≡ s → Decides y (Same c d r s) → Decides x (Same a b p q)
     at_exprs e f g h k l = subst (λ x. x) (λ i. Decides (sym e i) ((sym f i ≡ sym g i) × SameData E (sym h i) (sym k i))) l
 
     module _ (h : IsLayered) where
-      pub decides_same : (a b : Expr T) → Decides (V a b) (Same (bare a) (bare b) (held a) (held b))
+      pub decides_same : (a b : Expr T) → Decides (V a b) (Same (bare_expr a) (bare_expr b) (data_tree a) (data_tree b))
       decides_same = ind-Expr T KindClaim ExprClaim
           (λ x y is b.
           at_kinds
           (h.kinds (roll-ExprKind T x) b ∙ ap (λ l. layer_eq V l (out-ExprKind T b)) (out-roll-ExprKind T x))
-          (fold-roll-ExprKind T Bare Bare bare_step node_step x)
-          (fold_out-ExprKind T Bare Bare bare_step node_step b)
-          (fold-roll-ExprKind T (Datas T) (Data T) held_step holds_step x)
-          (fold_out-ExprKind T (Datas T) (Data T) held_step holds_step b)
+          (fold-roll-ExprKind T BareExpr BareExpr bare_step node_step x)
+          (fold_out-ExprKind T BareExpr BareExpr bare_step node_step b)
+          (fold-roll-ExprKind T (DataTrees T) (DataTree T) kind_data_step data_tree_step x)
+          (fold_out-ExprKind T (DataTrees T) (DataTree T) kind_data_step data_tree_step b)
           (subst (λ l. Layer l (out-ExprKind T b)) is (layer y (out-ExprKind T b))))
           (λ x y is b.
           at_exprs
           (h.exprs (roll-Expr T x) b ∙ ap (λ (l : Expr-F T (ExprKind T) (Expr T)). K l.expr_kind (out-Expr T b).expr_kind && E l.«data» (out-Expr T b).«data») (out-roll-Expr T x ∙ sym is))
-          (fold-roll-Expr T Bare Bare bare_step node_step x ∙ ap (λ (l : Expr-F T (ExprKind T) (Expr T)). bare_kind l.expr_kind) (sym is))
-          (fold_out-Expr T Bare Bare bare_step node_step b)
-          (fold-roll-Expr T (Datas T) (Data T) held_step holds_step x ∙ ap (λ (l : Expr-F T (ExprKind T) (Expr T)). holds l.«data» (held_kind l.expr_kind)) (sym is))
-          (fold_out-Expr T (Datas T) (Data T) held_step holds_step b)
+          (fold-roll-Expr T BareExpr BareExpr bare_step node_step x ∙ ap (λ (l : Expr-F T (ExprKind T) (Expr T)). bare_expr_kind l.expr_kind) (sym is))
+          (fold_out-Expr T BareExpr BareExpr bare_step node_step b)
+          (fold-roll-Expr T (DataTrees T) (DataTree T) kind_data_step data_tree_step x ∙ ap (λ (l : Expr-F T (ExprKind T) (Expr T)). holds l.«data» (kind_data l.expr_kind)) (sym is))
+          (fold_out-Expr T (DataTrees T) (DataTree T) kind_data_step data_tree_step b)
           (exactly _ (both _ _ (y.expr_kind.1 (out-Expr T b).expr_kind) ((λ e. e, λ e. e))) (λ g. (g.0.0, (g.1, g.0.1))) (λ g. ((g.0, g.1.1), g.1.0))))

@@ -8,11 +8,11 @@ use Rattle.std.specs.Ordering.{ordering_reverse}
 use Rattle.std.specs.Rc.{rc_str_bytes}
 use Rattle.std.specs.declared.rc.Rc.{Rc}
 use Rattle.std.specs.declared.rc.RcStr.{RcStr}
-use Rattle.cedar_builders.specs.Bare.{Bare, Record, field, fields_of}
-use Rattle.cedar_exprs.specs.View.{bare, bare_kind, bare_step, node_step, fields, kind_of}
-use Rattle.cedar_exprs.specs.Data.{held, held_values, values_of, holds, child}
+use Rattle.cedar_builders.specs.BareExpr.{BareExpr, Record, field, fields_of}
+use Rattle.cedar_exprs.specs.BareExpr.{bare_expr, bare_expr_kind, bare_step, node_step, bare_fields, kind_of}
+use Rattle.cedar_exprs.specs.ExprData.{data_tree, values_data, values_of, holds, child}
 use Rattle.cedar_exprs.specs.Keys.{keyed, in_key_order, record_fields, record_datas}
-use Rattle.cedar_exprs.specs.Node.{builder_data, IsMadeBy}
+use Rattle.cedar_exprs.specs.BuiltNode.{builder_data, IsMadeBy}
 use Rattle.cedar_exprs.specs.declared.builder.ExprBuilder.{ExprBuilder}
 use Rattle.cedar_exprs.specs.declared.expr.Expr.{Expr, fold_out-Expr}
 use Rattle.cedar_exprs.specs.declared.expr.ExprKind.{Record as RecordOf}
@@ -25,12 +25,12 @@ Entry T = RcStr Global × Expr T
 abbrev pub text_cmp : RcStr Global → RcStr Global → Ordering
 text_cmp a b = slice_cmp nat_cmp (rc_str_bytes a) (rc_str_bytes b)
 
-pub bare_kind_of : {T : Type 0} (e : Expr T) → bare e ≡ bare_kind (kind_of e)
-bare_kind_of {T} e = fold_out-Expr T Bare Bare bare_step node_step e
+pub bare_kind_of : {T : Type 0} (e : Expr T) → bare_expr e ≡ bare_expr_kind (kind_of e)
+bare_kind_of {T} e = fold_out-Expr T BareExpr BareExpr bare_step node_step e
 
 -- the bare tree of an expression that is known to be a record
-pub bare_at_record : {T : Type 0} (e : Expr T) (m : Rc (BTreeMap (RcStr Global) (Expr T)) Global) → kind_of e ≡ RecordOf m → bare e ≡ Record (fields m.value.entries)
-bare_at_record e m is = bare_kind_of e ∙ ap bare_kind is ∙ bare_record m
+pub bare_at_record : {T : Type 0} (e : Expr T) (m : Rc (BTreeMap (RcStr Global) (Expr T)) Global) → kind_of e ≡ RecordOf m → bare_expr e ≡ Record (bare_fields m.value.entries)
+bare_at_record e m is = bare_kind_of e ∙ ap bare_expr_kind is ∙ bare_record m
 
 below_later : {T : Type 0} (first : Entry T) (es : List (Entry T)) (e : Entry T) (more : List (Entry T)) → AllByRecursion (λ y. text_cmp first.0 y ≡ Less) (keys_of (es ++ e ∷ more)) → text_cmp first.0 e.0 ≡ Less
 below_later first [] e more h = h.0
@@ -41,21 +41,21 @@ pub above_first : {T : Type 0} (first : Entry T) (es : List (Entry T)) (e : Entr
 above_first first es e more h = nat_list_cmp_total.antisymm (rc_str_bytes e.0) (rc_str_bytes first.0) ∙ ap ordering_reverse (below_later first es e more h)
 
 -- the fields and the data of a map, by its pairs with their keys as texts
-pub fields-keyed : {T : Type 0} (es : List (Entry T)) → fields es ≡ fields_of (map (λ p. (p.0, bare p.1)) (keyed es))
+pub fields-keyed : {T : Type 0} (es : List (Entry T)) → bare_fields es ≡ fields_of (map (λ p. (p.0, bare_expr p.1)) (keyed es))
 fields-keyed [] = refl
-fields-keyed (e ∷ es) = ap (field (rc_str_bytes e.0) (bare e.1)) (fields-keyed es)
+fields-keyed (e ∷ es) = ap (field (rc_str_bytes e.0) (bare_expr e.1)) (fields-keyed es)
 
-pub values-keyed : {T : Type 0} (es : List (Entry T)) → held_values es ≡ values_of (map (λ p. (p.0, held p.1)) (keyed es))
+pub values-keyed : {T : Type 0} (es : List (Entry T)) → values_data es ≡ values_of (map (λ p. (p.0, data_tree p.1)) (keyed es))
 values-keyed [] = refl
-values-keyed (e ∷ es) = ap (child (held e.1)) (values-keyed es)
+values-keyed (e ∷ es) = ap (child (data_tree e.1)) (values-keyed es)
 
 -- the record of a map that was made of pairs
 pub made_of_pairs : {T : Type 0} (b : ExprBuilder T) (m n : BTreeMap (RcStr Global) (Expr T)) (ps : List (Entry T)) (e : Expr T) → n ≡ m → keyed m.entries ≡ in_key_order (keyed ps)
-    → IsMadeBy b (Record (fields n.entries)) (held_values n.entries) e → IsMadeBy b (Record (record_fields ps)) (record_datas ps) e
+    → IsMadeBy b (Record (bare_fields n.entries)) (values_data n.entries) e → IsMadeBy b (Record (record_fields ps)) (record_datas ps) e
 made_of_pairs {T} b m n ps e same made node =
     let entries : keyed n.entries ≡ in_key_order (keyed ps) = ap (λ (q : BTreeMap (RcStr Global) (Expr T)). keyed q.entries) same ∙ made in
     record {
-      tree = node.tree ∙ ap Record (fields-keyed n.entries ∙ ap (λ qs. fields_of (map (λ p. (p.0, bare p.1)) qs)) entries);
+      tree = node.tree ∙ ap Record (fields-keyed n.entries ∙ ap (λ qs. fields_of (map (λ p. (p.0, bare_expr p.1)) qs)) entries);
       loc = node.loc;
-      «data» = node.«data» ∙ ap (holds (builder_data b)) (values-keyed n.entries ∙ ap (λ qs. values_of (map (λ p. (p.0, held p.1)) qs)) entries);
+      «data» = node.«data» ∙ ap (holds (builder_data b)) (values-keyed n.entries ∙ ap (λ qs. values_of (map (λ p. (p.0, data_tree p.1)) qs)) entries);
     }

@@ -6,10 +6,10 @@ use Rattle.std.specs.Rc.{rc_str_bytes}
 use Rattle.std.specs.BTreeMap.{insert_entry}
 use Rattle.std.specs.Cmp.Lexicographic.{slice_cmp}
 use Rattle.std.specs.declared.rc.RcStr.{RcStr}
-use Rattle.cedar_builders.specs.Bare.{Text, Fields, fields_of}
+use Rattle.cedar_builders.specs.BareExpr.{Text, BareFields, fields_of}
 use Rattle.cedar_builders.specs.Keys.{is_among, are_distinct}
-use Rattle.cedar_exprs.specs.View.{bare}
-use Rattle.cedar_exprs.specs.Data.{Datas, held, values_of}
+use Rattle.cedar_exprs.specs.BareExpr.{bare_expr}
+use Rattle.cedar_exprs.specs.ExprData.{DataTrees, data_tree, values_of}
 use Rattle.cedar_exprs.specs.declared.expr.Expr.{Expr}
 
 -- the pairs in the order of their keys: each is put to its place in turn
@@ -29,9 +29,9 @@ pub record IsFirstRepeat (ks : List Text) (k : Text) : Type 0 where
   pub stood : IsTrue (is_among k before)
 
 -- the fields of a record that is made of these pairs
-abbrev pub record_fields : {T : Type 0} → List (RcStr Global × Expr T) → Fields
-record_fields ps = fields_of (map (λ p. (p.0, bare p.1)) (in_key_order (keyed ps)))
+abbrev pub record_fields : {T : Type 0} → List (RcStr Global × Expr T) → BareFields
+record_fields ps = fields_of (map (λ p. (p.0, bare_expr p.1)) (in_key_order (keyed ps)))
 
 -- the data of its values
-abbrev pub record_datas : {T : Type 0} → List (RcStr Global × Expr T) → Datas T
-record_datas ps = values_of (map (λ p. (p.0, held p.1)) (in_key_order (keyed ps)))
+abbrev pub record_datas : {T : Type 0} → List (RcStr Global × Expr T) → DataTrees T
+record_datas ps = values_of (map (λ p. (p.0, data_tree p.1)) (in_key_order (keyed ps)))

@@ -1,9 +1,9 @@
-pub mod View
-pub mod Data
-pub mod Node
+pub mod BareExpr
+pub mod DataTree
+pub mod BuiltNode
 pub mod Keys
 pub mod RisingKeys
 pub mod Walks
-pub mod Outside
-pub mod Restricted
-pub mod Typed
+pub mod NotRestricted
+pub mod RestrictedExprs
+pub mod Refusals

@@ -2,19 +2,19 @@
 ghost use Rattle.std.specs.Prelude.{◌≡◌, None, IfOk, IfErr, OnOk, IsTrue, Ok, map, refl, ⊤};
 ghost use Rattle.std.specs.Option.{option_copied};
 ghost use Rattle.std.specs.Rc.{rc_str_bytes};
-ghost use Rattle.cedar_names.specs.PlainNames.{bare_of_name};
+ghost use Rattle.cedar_names.specs.PlainNames.{bare_name};
 ghost use Rattle.cedar_terms.specs.Entities.{bare_entity_type};
 ghost use Rattle.cedar_terms.specs.Literals.{bare_literal, BoolLit};
 ghost use Rattle.cedar_terms.specs.Unknowns.{bare_unknown};
-ghost use Rattle.cedar_builders.specs.Bare.{Bare, Lit, ExtensionFunctionApp, Set, Record};
+ghost use Rattle.cedar_builders.specs.BareExpr.{BareExpr, Lit, ExtensionFunctionApp, Set, Record};
 ghost use Rattle.cedar_builders.specs.Keys.{keys_of, are_distinct, meant_pairs, IsRising, HasRepeat};
 ghost use Rattle.cedar_builders.specs.Errors.{key_of, OnDuplicateKey};
 ghost use Rattle.cedar_builders.specs.declared.expression_construction_errors.ExpressionConstructionError.TheVariants as error;
 ghost use Rattle.cedar_builders.specs.Trees.{tree_ops};
-ghost use Rattle.cedar_exprs.specs.View.{bare, bare_kind, bares, fields, loc_of, further, unknown_tree};
-ghost use Rattle.cedar_exprs.specs.Data.{held_kind, helds, held_values, no_data, one_child, two_children, three_children, of_connective};
+ghost use Rattle.cedar_exprs.specs.BareExpr.{bare_expr, bare_expr_kind, bare_exprs, bare_fields, expr_place, further, unknown_tree};
+ghost use Rattle.cedar_exprs.specs.ExprData.{kind_data, data_trees, values_data, no_data, one_child, two_children, three_children, of_connective};
 ghost use Rattle.cedar_exprs.specs.Keys.{IsFirstRepeat, record_fields, record_datas};
-ghost use Rattle.cedar_exprs.specs.Node.{builder_loc, builder_data, IsMadeBy, never, IfBuilt};
+ghost use Rattle.cedar_exprs.specs.BuiltNode.{builder_place, builder_data, IsMadeBy, never, IfBuilt};
 
 use crate::expr::{Expr, ExprKind, clone_loc};
 use crate::keys::distinct_keys;
@@ -46,7 +46,7 @@ impl<T: Default + Copy> ExprBuilder<T> {
         alloc: Global,
         expr: &Expr<U>,
     ) -> Result<ExprBuilder<T>, AllocError>
-        ensures loc { IfOk result (λ b. builder_loc b ≡ loc_of expr.now) }
+        ensures loc { IfOk result (λ b. builder_place b ≡ expr_place expr.now) }
         ensures of_node { IfOk result (λ b. builder_data b ≡ builder_data self) }
     {
         Ok(ExprBuilder {
@@ -57,7 +57,7 @@ impl<T: Default + Copy> ExprBuilder<T> {
 
     /// A copy.
     pub fn clone(&self, alloc: Global) -> Result<ExprBuilder<T>, AllocError>
-        ensures loc { IfOk result (λ b. builder_loc b ≡ builder_loc self.now) }
+        ensures loc { IfOk result (λ b. builder_place b ≡ builder_place self.now) }
         ensures of_node { IfOk result (λ b. builder_data b ≡ builder_data self.now) }
     {
         Ok(ExprBuilder {
@@ -68,7 +68,7 @@ impl<T: Default + Copy> ExprBuilder<T> {
 
     /// The node of this kind, as it stands: nothing is simplified.
     pub fn with_expr_kind(self, expr_kind: ExprKind<T>) -> Expr<T>
-        ensures { IsMadeBy self (bare_kind expr_kind) (held_kind expr_kind) result }
+        ensures { IsMadeBy self (bare_expr_kind expr_kind) (kind_data expr_kind) result }
     {
         Expr::new(expr_kind, self.source_loc, self.data)
     }
@@ -87,7 +87,7 @@ impl<T: Default + Copy> ExprBuilder<T> {
         then_expr: Rc<Expr<T>>,
         else_expr: Rc<Expr<T>>,
     ) -> Expr<T>
-        ensures { IsMadeBy self (tree_ops.if_of (bare test_expr.value) (bare then_expr.value) (bare else_expr.value)) (three_children test_expr.value then_expr.value else_expr.value) result }
+        ensures { IsMadeBy self (tree_ops.if_of (bare_expr test_expr.value) (bare_expr then_expr.value) (bare_expr else_expr.value)) (three_children test_expr.value then_expr.value else_expr.value) result }
     {
         self.with_expr_kind(ExprKind::If {
             test_expr,
@@ -98,7 +98,7 @@ impl<T: Default + Copy> ExprBuilder<T> {
 
     // The conjunction of shared expressions: of two Boolean literals their literal, else the node.
     pub(crate) fn and_arc(self, left: Rc<Expr<T>>, right: Rc<Expr<T>>) -> Expr<T>
-        ensures { IsMadeBy self (tree_ops.and_of (bare left.value) (bare right.value)) (of_connective left.value right.value) result }
+        ensures { IsMadeBy self (tree_ops.and_of (bare_expr left.value) (bare_expr right.value)) (of_connective left.value right.value) result }
     {
         match (left.as_bool(), right.as_bool()) {
             (Some(a), Some(b)) => self.bool_literal(a && b),
@@ -108,7 +108,7 @@ impl<T: Default + Copy> ExprBuilder<T> {
 
     // The disjunction of shared expressions: of two Boolean literals their literal, else the node.
     pub(crate) fn or_arc(self, left: Rc<Expr<T>>, right: Rc<Expr<T>>) -> Expr<T>
-        ensures { IsMadeBy self (tree_ops.or_of (bare left.value) (bare right.value)) (of_connective left.value right.value) result }
+        ensures { IsMadeBy self (tree_ops.or_of (bare_expr left.value) (bare_expr right.value)) (of_connective left.value right.value) result }
     {
         match (left.as_bool(), right.as_bool()) {
             (Some(a), Some(b)) => self.bool_literal(a || b),
@@ -118,7 +118,7 @@ impl<T: Default + Copy> ExprBuilder<T> {
 
     /// A record of a shared map.
     pub fn record_arc(self, values: Rc<BTreeMap<RcStr, Expr<T>>>) -> Expr<T>
-        ensures { IsMadeBy self (Record (fields values.value.entries)) (held_values values.value.entries) result }
+        ensures { IsMadeBy self (Record (bare_fields values.value.entries)) (values_data values.value.entries) result }
     {
         self.with_expr_kind(ExprKind::Record(values))
     }
@@ -131,28 +131,28 @@ impl<T: Default + Copy> expr_builder::ExprBuilder for ExprBuilder<T> {
 
     type BuildError = Infallible;
 
-    ghost Meaning = { Bare };
+    ghost Meaning = { BareExpr };
 
     ghost Fault = { ⊥ };
 
     ghost ops = { tree_ops };
 
-    ghost meaning_of = { bare };
+    ghost meaning_of = { bare_expr };
 
     ghost fault_of = { never };
 
     ghost is_new = { λ b. T.is_default (builder_data b) };
 
-    ghost place_of = { builder_loc };
+    ghost place_of = { builder_place };
 
     ghost kept_place = { λ place. place };
 
-    ghost makes_unary = { λ b op arg e. IsMadeBy b (tree_ops.unary_of op (bare arg)) (one_child arg) e };
+    ghost makes_unary = { λ b op arg e. IsMadeBy b (tree_ops.unary_of op (bare_expr arg)) (one_child arg) e };
 
-    ghost makes_binary = { λ b op arg1 arg2 e. IsMadeBy b (tree_ops.binary_of op (bare arg1) (bare arg2)) (two_children arg1 arg2) e };
+    ghost makes_binary = { λ b op arg1 arg2 e. IsMadeBy b (tree_ops.binary_of op (bare_expr arg1) (bare_expr arg2)) (two_children arg1 arg2) e };
 
     fn new() -> ExprBuilder<T>
-        ensures loc { builder_loc result ≡ None }
+        ensures loc { builder_place result ≡ None }
         ensures default { T.is_default (builder_data result) }
     {
         ExprBuilder {
@@ -162,7 +162,7 @@ impl<T: Default + Copy> expr_builder::ExprBuilder for ExprBuilder<T> {
     }
 
     fn with_data(data: T) -> ExprBuilder<T>
-        ensures loc { builder_loc result ≡ None }
+        ensures loc { builder_place result ≡ None }
         ensures of_node { builder_data result ≡ «data» }
     {
         ExprBuilder {
@@ -172,7 +172,7 @@ impl<T: Default + Copy> expr_builder::ExprBuilder for ExprBuilder<T> {
     }
 
     fn loc(&self) -> Option<&Loc>
-        ensures { option_copied result ≡ builder_loc self.now }
+        ensures { option_copied result ≡ builder_place self.now }
     {
         self.source_loc.as_ref()
     }
@@ -184,7 +184,7 @@ impl<T: Default + Copy> expr_builder::ExprBuilder for ExprBuilder<T> {
     }
 
     fn with_maybe_source_loc(self, source_loc: Option<Loc>) -> ExprBuilder<T>
-        ensures loc { builder_loc result ≡ source_loc }
+        ensures loc { builder_place result ≡ source_loc }
         ensures of_node { builder_data result ≡ builder_data self }
     {
         ExprBuilder {
@@ -224,7 +224,7 @@ impl<T: Default + Copy> expr_builder::ExprBuilder for ExprBuilder<T> {
         then_expr: Expr<T>,
         else_expr: Expr<T>,
     ) -> Result<Expr<T>, AllocError>
-        ensures { IfOk result (IsMadeBy self (tree_ops.if_of (bare test_expr) (bare then_expr) (bare else_expr)) (three_children test_expr then_expr else_expr)) }
+        ensures { IfOk result (IsMadeBy self (tree_ops.if_of (bare_expr test_expr) (bare_expr then_expr) (bare_expr else_expr)) (three_children test_expr then_expr else_expr)) }
     {
         Ok(self.ite_arc(
             Rc::new(alloc, test_expr)?,
@@ -234,7 +234,7 @@ impl<T: Default + Copy> expr_builder::ExprBuilder for ExprBuilder<T> {
     }
 
     fn and(self, alloc: Global, left: Expr<T>, right: Expr<T>) -> Result<Expr<T>, AllocError>
-        ensures { IfOk result (IsMadeBy self (tree_ops.and_of (bare left) (bare right)) (of_connective left right)) }
+        ensures { IfOk result (IsMadeBy self (tree_ops.and_of (bare_expr left) (bare_expr right)) (of_connective left right)) }
     {
         match (left.as_bool(), right.as_bool()) {
             (Some(a), Some(b)) => Ok(self.bool_literal(a && b)),
@@ -246,7 +246,7 @@ impl<T: Default + Copy> expr_builder::ExprBuilder for ExprBuilder<T> {
     }
 
     fn or(self, alloc: Global, left: Expr<T>, right: Expr<T>) -> Result<Expr<T>, AllocError>
-        ensures { IfOk result (IsMadeBy self (tree_ops.or_of (bare left) (bare right)) (of_connective left right)) }
+        ensures { IfOk result (IsMadeBy self (tree_ops.or_of (bare_expr left) (bare_expr right)) (of_connective left right)) }
     {
         match (left.as_bool(), right.as_bool()) {
             (Some(a), Some(b)) => Ok(self.bool_literal(a || b)),
@@ -258,7 +258,7 @@ impl<T: Default + Copy> expr_builder::ExprBuilder for ExprBuilder<T> {
     }
 
     fn unary_app(self, alloc: Global, op: UnaryOp, arg: Expr<T>) -> Result<Expr<T>, AllocError>
-        ensures { IfOk result (IsMadeBy self (tree_ops.unary_of op (bare arg)) (one_child arg)) }
+        ensures { IfOk result (IsMadeBy self (tree_ops.unary_of op (bare_expr arg)) (one_child arg)) }
     {
         Ok(self.with_expr_kind(ExprKind::UnaryApp {
             op,
@@ -273,7 +273,7 @@ impl<T: Default + Copy> expr_builder::ExprBuilder for ExprBuilder<T> {
         arg1: Expr<T>,
         arg2: Expr<T>,
     ) -> Result<Expr<T>, AllocError>
-        ensures { IfOk result (IsMadeBy self (tree_ops.binary_of op (bare arg1) (bare arg2)) (two_children arg1 arg2)) }
+        ensures { IfOk result (IsMadeBy self (tree_ops.binary_of op (bare_expr arg1) (bare_expr arg2)) (two_children arg1 arg2)) }
     {
         Ok(self.with_expr_kind(ExprKind::BinaryApp {
             op,
@@ -288,7 +288,7 @@ impl<T: Default + Copy> expr_builder::ExprBuilder for ExprBuilder<T> {
         fn_name: Name,
         args: Vec<Expr<T>>,
     ) -> Result<Expr<T>, BuildFault<Infallible>>
-        ensures { IfBuilt result (IsMadeBy self (ExtensionFunctionApp (bare_of_name fn_name) (bares args.items)) (helds args.items)) }
+        ensures { IfBuilt result (IsMadeBy self (ExtensionFunctionApp (bare_name fn_name) (bare_exprs args.items)) (data_trees args.items)) }
     {
         Ok(self.with_expr_kind(ExprKind::ExtensionFunctionApp {
             fn_name,
@@ -297,7 +297,7 @@ impl<T: Default + Copy> expr_builder::ExprBuilder for ExprBuilder<T> {
     }
 
     fn get_attr(self, alloc: Global, expr: Expr<T>, attr: RcStr) -> Result<Expr<T>, AllocError>
-        ensures { IfOk result (IsMadeBy self (tree_ops.get_of (bare expr) (rc_str_bytes attr)) (one_child expr)) }
+        ensures { IfOk result (IsMadeBy self (tree_ops.get_of (bare_expr expr) (rc_str_bytes attr)) (one_child expr)) }
     {
         Ok(self.with_expr_kind(ExprKind::GetAttr {
             expr: Rc::new(alloc, expr)?,
@@ -306,7 +306,7 @@ impl<T: Default + Copy> expr_builder::ExprBuilder for ExprBuilder<T> {
     }
 
     fn has_attr(self, alloc: Global, expr: Expr<T>, attr: RcStr) -> Result<Expr<T>, AllocError>
-        ensures { IfOk result (IsMadeBy self (tree_ops.has_of (bare expr) (rc_str_bytes attr)) (one_child expr)) }
+        ensures { IfOk result (IsMadeBy self (tree_ops.has_of (bare_expr expr) (rc_str_bytes attr)) (one_child expr)) }
     {
         Ok(self.with_expr_kind(ExprKind::HasAttr {
             expr: Rc::new(alloc, expr)?,
@@ -320,7 +320,7 @@ impl<T: Default + Copy> expr_builder::ExprBuilder for ExprBuilder<T> {
         expr: Expr<T>,
         attrs: NonEmpty<RcStr>,
     ) -> Result<Expr<T>, AllocError>
-        ensures { IfOk result (IsMadeBy self (tree_ops.ext_has_of (bare expr) (rc_str_bytes attrs.head) (further attrs)) (one_child expr)) }
+        ensures { IfOk result (IsMadeBy self (tree_ops.ext_has_of (bare_expr expr) (rc_str_bytes attrs.head) (further attrs)) (one_child expr)) }
     {
         if attrs.tail.is_empty() {
             return self.has_attr(alloc, expr, attrs.head);
@@ -332,7 +332,7 @@ impl<T: Default + Copy> expr_builder::ExprBuilder for ExprBuilder<T> {
     }
 
     fn like(self, alloc: Global, expr: Expr<T>, pattern: Pattern) -> Result<Expr<T>, AllocError>
-        ensures { IfOk result (IsMadeBy self (tree_ops.like_of (bare expr) pattern) (one_child expr)) }
+        ensures { IfOk result (IsMadeBy self (tree_ops.like_of (bare_expr expr) pattern) (one_child expr)) }
     {
         Ok(self.with_expr_kind(ExprKind::Like {
             expr: Rc::new(alloc, expr)?,
@@ -346,7 +346,7 @@ impl<T: Default + Copy> expr_builder::ExprBuilder for ExprBuilder<T> {
         expr: Expr<T>,
         entity_type: EntityType,
     ) -> Result<Expr<T>, AllocError>
-        ensures { IfOk result (IsMadeBy self (tree_ops.is_of (bare expr) (bare_entity_type entity_type)) (one_child expr)) }
+        ensures { IfOk result (IsMadeBy self (tree_ops.is_of (bare_expr expr) (bare_entity_type entity_type)) (one_child expr)) }
     {
         Ok(self.with_expr_kind(ExprKind::Is {
             expr: Rc::new(alloc, expr)?,
@@ -355,7 +355,7 @@ impl<T: Default + Copy> expr_builder::ExprBuilder for ExprBuilder<T> {
     }
 
     fn set(self, alloc: Global, members: Vec<Expr<T>>) -> Result<Expr<T>, AllocError>
-        ensures { IfOk result (IsMadeBy self (Set (bares members.items)) (helds members.items)) }
+        ensures { IfOk result (IsMadeBy self (Set (bare_exprs members.items)) (data_trees members.items)) }
     {
         Ok(self.with_expr_kind(ExprKind::Set(Rc::new(alloc, members)?)))
     }
@@ -370,7 +370,7 @@ impl<T: Default + Copy> expr_builder::ExprBuilder for ExprBuilder<T> {
         ensures refused { IfErr result (OnDuplicateKey (λ e. IsFirstRepeat (keys_of pairs.items) (key_of e))) }
 
         // What the trait asks of every builder.
-        ensures means { IsRising (keys_of pairs.items) → IfOk result (λ e. bare e ≡ tree_ops.record_of (meant_pairs bare pairs.items)) }
+        ensures means { IsRising (keys_of pairs.items) → IfOk result (λ e. bare_expr e ≡ tree_ops.record_of (meant_pairs bare_expr pairs.items)) }
         ensures accepts { IsRising (keys_of pairs.items) → IfErr result (λ e. e ≡ error.Memory) }
         ensures refuses { IfErr result (OnDuplicateKey (λ _. HasRepeat (keys_of pairs.items))) }
     {

@@ -4,15 +4,15 @@
 // many kinds in one function would keep the locals of all of them on the stack at every level.
 ghost use Rattle.std.specs.Prelude.{◌≡◌, Ok, IfOk};
 ghost use Rattle.std.specs.Rc.{rc_str_bytes};
-ghost use Rattle.cedar_names.specs.PlainNames.{bare_of_name};
+ghost use Rattle.cedar_names.specs.PlainNames.{bare_name};
 ghost use Rattle.cedar_terms.specs.Entities.{bare_entity_type};
 ghost use Rattle.cedar_terms.specs.Literals.{bare_literal};
 ghost use Rattle.cedar_terms.specs.Unknowns.{bare_unknown};
 ghost use Rattle.cedar_builders.specs.Environment.{empty, fold, own};
 ghost use Rattle.cedar_builders.specs.Fold.{on_one, and_then, fold_all, fold_fields};
-ghost use Rattle.cedar_builders.specs.Gives.{Gives, GivesAll, GivesPairs};
+ghost use Rattle.cedar_builders.specs.Answers.{Gives, GivesAll, GivesPairs};
 ghost use Rattle.cedar_builders.specs.Keys.{keys_of, IsRising};
-ghost use Rattle.cedar_exprs.specs.View.{bare, bares, fields, further};
+ghost use Rattle.cedar_exprs.specs.BareExpr.{bare_expr, bare_exprs, bare_fields, further};
 
 use crate::expr::{Expr, ExprKind, clone_loc};
 use cedar_builders::{
@@ -31,7 +31,7 @@ impl<T> Expr<T> {
         &self,
         alloc: Global,
     ) -> Result<B::Expr, BuildFault<B::BuildError>>
-        ensures { Gives B.meaning_of B.fault_of (fold B.ops empty (bare self.now)) result }
+        ensures { Gives B.meaning_of B.fault_of (fold B.ops empty (bare_expr self.now)) result }
     {
         built::<B, T>(alloc, self)
     }
@@ -41,7 +41,7 @@ impl<T> Expr<T> {
         &self,
         alloc: Global,
     ) -> Result<B::Expr, AllocError>
-        ensures { IfOk result (λ e. fold B.ops empty (bare self.now) ≡ Ok (B.meaning_of e)) }
+        ensures { IfOk result (λ e. fold B.ops empty (bare_expr self.now) ≡ Ok (B.meaning_of e)) }
     {
         match self.try_into_expr::<B>(alloc) {
             Ok(built) => Ok(built),
@@ -63,7 +63,7 @@ fn built<B: ExprBuilder, T>(
     alloc: Global,
     e: &Expr<T>,
 ) -> Result<B::Expr, BuildFault<B::BuildError>>
-    ensures { Gives B.meaning_of B.fault_of (fold B.ops empty (bare e.now)) result }
+    ensures { Gives B.meaning_of B.fault_of (fold B.ops empty (bare_expr e.now)) result }
 {
     let loc = e.source_loc();
     match e.expr_kind() {
@@ -157,7 +157,7 @@ fn if_with<B: ExprBuilder, T>(
     then_expr: B::Expr,
     loc: Option<&Loc>,
 ) -> Result<B::Expr, BuildFault<B::BuildError>>
-    ensures { Gives B.meaning_of B.fault_of (on_one (B.ops.if_of (B.meaning_of test_expr) (B.meaning_of then_expr)) (fold B.ops empty (bare else_expr.now))) result }
+    ensures { Gives B.meaning_of B.fault_of (on_one (B.ops.if_of (B.meaning_of test_expr) (B.meaning_of then_expr)) (fold B.ops empty (bare_expr else_expr.now))) result }
 {
     let else_expr = built::<B, T>(alloc, else_expr)?;
     Ok(builder_at::<B>(alloc, loc)?.ite(alloc, test_expr, then_expr, else_expr)?)
@@ -171,7 +171,7 @@ fn and_with<B: ExprBuilder, T>(
     left: B::Expr,
     loc: Option<&Loc>,
 ) -> Result<B::Expr, BuildFault<B::BuildError>>
-    ensures { Gives B.meaning_of B.fault_of (on_one (B.ops.and_of (B.meaning_of left)) (fold B.ops empty (bare right.now))) result }
+    ensures { Gives B.meaning_of B.fault_of (on_one (B.ops.and_of (B.meaning_of left)) (fold B.ops empty (bare_expr right.now))) result }
 {
     let right = built::<B, T>(alloc, right)?;
     Ok(builder_at::<B>(alloc, loc)?.and(alloc, left, right)?)
@@ -185,7 +185,7 @@ fn or_with<B: ExprBuilder, T>(
     left: B::Expr,
     loc: Option<&Loc>,
 ) -> Result<B::Expr, BuildFault<B::BuildError>>
-    ensures { Gives B.meaning_of B.fault_of (on_one (B.ops.or_of (B.meaning_of left)) (fold B.ops empty (bare right.now))) result }
+    ensures { Gives B.meaning_of B.fault_of (on_one (B.ops.or_of (B.meaning_of left)) (fold B.ops empty (bare_expr right.now))) result }
 {
     let right = built::<B, T>(alloc, right)?;
     Ok(builder_at::<B>(alloc, loc)?.or(alloc, left, right)?)
@@ -199,7 +199,7 @@ fn unary_with<B: ExprBuilder, T>(
     op: UnaryOp,
     loc: Option<&Loc>,
 ) -> Result<B::Expr, BuildFault<B::BuildError>>
-    ensures { Gives B.meaning_of B.fault_of (on_one (B.ops.unary_of op) (fold B.ops empty (bare arg.now))) result }
+    ensures { Gives B.meaning_of B.fault_of (on_one (B.ops.unary_of op) (fold B.ops empty (bare_expr arg.now))) result }
 {
     let arg = built::<B, T>(alloc, arg)?;
     Ok(builder_at::<B>(alloc, loc)?.unary_app(alloc, op, arg)?)
@@ -214,7 +214,7 @@ fn binary_with<B: ExprBuilder, T>(
     arg1: B::Expr,
     loc: Option<&Loc>,
 ) -> Result<B::Expr, BuildFault<B::BuildError>>
-    ensures { Gives B.meaning_of B.fault_of (on_one (B.ops.binary_of op (B.meaning_of arg1)) (fold B.ops empty (bare arg2.now))) result }
+    ensures { Gives B.meaning_of B.fault_of (on_one (B.ops.binary_of op (B.meaning_of arg1)) (fold B.ops empty (bare_expr arg2.now))) result }
 {
     let arg2 = built::<B, T>(alloc, arg2)?;
     Ok(builder_at::<B>(alloc, loc)?.binary_app(alloc, op, arg1, arg2)?)
@@ -228,7 +228,7 @@ fn call_with<B: ExprBuilder, T>(
     fn_name: &Name,
     loc: Option<&Loc>,
 ) -> Result<B::Expr, BuildFault<B::BuildError>>
-    ensures { Gives B.meaning_of B.fault_of (and_then (B.ops.call_of (bare_of_name fn_name.now)) (fold_all B.ops (own B.ops) (bares args.now.items))) result }
+    ensures { Gives B.meaning_of B.fault_of (and_then (B.ops.call_of (bare_name fn_name.now)) (fold_all B.ops (own B.ops) (bare_exprs args.now.items))) result }
 {
     let args = built_all::<B, T>(alloc, args)?;
     builder_at::<B>(alloc, loc)?.call_extension_fn(alloc, fn_name.clone(alloc)?, args)
@@ -242,7 +242,7 @@ fn get_with<B: ExprBuilder, T>(
     attr: &RcStr,
     loc: Option<&Loc>,
 ) -> Result<B::Expr, BuildFault<B::BuildError>>
-    ensures { Gives B.meaning_of B.fault_of (on_one (λ m. B.ops.get_of m (rc_str_bytes attr.now)) (fold B.ops empty (bare expr.now))) result }
+    ensures { Gives B.meaning_of B.fault_of (on_one (λ m. B.ops.get_of m (rc_str_bytes attr.now)) (fold B.ops empty (bare_expr expr.now))) result }
 {
     let expr = built::<B, T>(alloc, expr)?;
     Ok(builder_at::<B>(alloc, loc)?.get_attr(alloc, expr, attr.clone()?)?)
@@ -256,7 +256,7 @@ fn has_with<B: ExprBuilder, T>(
     attr: &RcStr,
     loc: Option<&Loc>,
 ) -> Result<B::Expr, BuildFault<B::BuildError>>
-    ensures { Gives B.meaning_of B.fault_of (on_one (λ m. B.ops.has_of m (rc_str_bytes attr.now)) (fold B.ops empty (bare expr.now))) result }
+    ensures { Gives B.meaning_of B.fault_of (on_one (λ m. B.ops.has_of m (rc_str_bytes attr.now)) (fold B.ops empty (bare_expr expr.now))) result }
 {
     let expr = built::<B, T>(alloc, expr)?;
     Ok(builder_at::<B>(alloc, loc)?.has_attr(alloc, expr, attr.clone()?)?)
@@ -270,7 +270,7 @@ fn extended_has_with<B: ExprBuilder, T>(
     attrs: &NonEmpty<RcStr>,
     loc: Option<&Loc>,
 ) -> Result<B::Expr, BuildFault<B::BuildError>>
-    ensures { Gives B.meaning_of B.fault_of (on_one (λ m. B.ops.ext_has_of m (rc_str_bytes attrs.now.head) (further attrs.now)) (fold B.ops empty (bare expr.now))) result }
+    ensures { Gives B.meaning_of B.fault_of (on_one (λ m. B.ops.ext_has_of m (rc_str_bytes attrs.now.head) (further attrs.now)) (fold B.ops empty (bare_expr expr.now))) result }
 {
     let expr = built::<B, T>(alloc, expr)?;
     Ok(builder_at::<B>(alloc, loc)?.extended_has_attr(alloc, expr, attrs.clone(alloc)?)?)
@@ -284,7 +284,7 @@ fn like_with<B: ExprBuilder, T>(
     pattern: &Pattern,
     loc: Option<&Loc>,
 ) -> Result<B::Expr, BuildFault<B::BuildError>>
-    ensures { Gives B.meaning_of B.fault_of (on_one (λ m. B.ops.like_of m pattern.now) (fold B.ops empty (bare expr.now))) result }
+    ensures { Gives B.meaning_of B.fault_of (on_one (λ m. B.ops.like_of m pattern.now) (fold B.ops empty (bare_expr expr.now))) result }
 {
     let expr = built::<B, T>(alloc, expr)?;
     Ok(builder_at::<B>(alloc, loc)?.like(alloc, expr, pattern.clone(alloc)?)?)
@@ -297,7 +297,7 @@ fn set_with<B: ExprBuilder, T>(
     members: &Vec<Expr<T>>,
     loc: Option<&Loc>,
 ) -> Result<B::Expr, BuildFault<B::BuildError>>
-    ensures { Gives B.meaning_of B.fault_of (on_one B.ops.set_of (fold_all B.ops (own B.ops) (bares members.now.items))) result }
+    ensures { Gives B.meaning_of B.fault_of (on_one B.ops.set_of (fold_all B.ops (own B.ops) (bare_exprs members.now.items))) result }
 {
     let members = built_all::<B, T>(alloc, members)?;
     Ok(builder_at::<B>(alloc, loc)?.set(alloc, members)?)
@@ -310,7 +310,7 @@ fn record_with<B: ExprBuilder, T>(
     pairs: &BTreeMap<RcStr, Expr<T>>,
     loc: Option<&Loc>,
 ) -> Result<B::Expr, BuildFault<B::BuildError>>
-    ensures { Gives B.meaning_of B.fault_of (on_one B.ops.record_of (fold_fields B.ops (own B.ops) (fields pairs.now.entries))) result }
+    ensures { Gives B.meaning_of B.fault_of (on_one B.ops.record_of (fold_fields B.ops (own B.ops) (bare_fields pairs.now.entries))) result }
 {
     let pairs = built_values::<B, T>(alloc, pairs)?;
     match builder_at::<B>(alloc, loc)?.record(alloc, pairs) {
@@ -329,7 +329,7 @@ fn is_with<B: ExprBuilder, T>(
     entity_type: &EntityType,
     loc: Option<&Loc>,
 ) -> Result<B::Expr, BuildFault<B::BuildError>>
-    ensures { Gives B.meaning_of B.fault_of (on_one (λ m. B.ops.is_of m (bare_entity_type entity_type.now)) (fold B.ops empty (bare expr.now))) result }
+    ensures { Gives B.meaning_of B.fault_of (on_one (λ m. B.ops.is_of m (bare_entity_type entity_type.now)) (fold B.ops empty (bare_expr expr.now))) result }
 {
     let expr = built::<B, T>(alloc, expr)?;
     Ok(builder_at::<B>(alloc, loc)?.is_entity_type(alloc, expr, entity_type.clone(alloc)?)?)
@@ -341,7 +341,7 @@ fn built_all<B: ExprBuilder, T>(
     alloc: Global,
     members: &Vec<Expr<T>>,
 ) -> Result<Vec<B::Expr>, BuildFault<B::BuildError>>
-    ensures { GivesAll B.meaning_of B.fault_of (fold_all B.ops (own B.ops) (bares members.now.items)) result }
+    ensures { GivesAll B.meaning_of B.fault_of (fold_all B.ops (own B.ops) (bare_exprs members.now.items)) result }
 {
     let mut done = Vec::with_capacity(alloc, members.len())?;
     for member in members {
@@ -357,7 +357,7 @@ fn built_values<B: ExprBuilder, T>(
     alloc: Global,
     pairs: &BTreeMap<RcStr, Expr<T>>,
 ) -> Result<Vec<(RcStr, B::Expr)>, BuildFault<B::BuildError>>
-    ensures means { GivesPairs B.meaning_of B.fault_of (fold_fields B.ops (own B.ops) (fields pairs.now.entries)) result }
+    ensures means { GivesPairs B.meaning_of B.fault_of (fold_fields B.ops (own B.ops) (bare_fields pairs.now.entries)) result }
     ensures rising { IfOk result (λ ps. IsRising (keys_of ps.items)) }
 {
     let mut done = Vec::with_capacity(alloc, pairs.len())?;

@@ -1,17 +1,17 @@
 //! The constructors of expressions without data and places (`expr.rs`): what the builder makes that has neither.
 ghost use Rattle.std.specs.Prelude.{◌≡◌, IfOk, IfErr, OnOk, IsTrue};
 ghost use Rattle.std.specs.Rc.{rc_str_bytes};
-ghost use Rattle.cedar_names.specs.PlainNames.{bare_of_name};
+ghost use Rattle.cedar_names.specs.PlainNames.{bare_name};
 ghost use Rattle.cedar_terms.specs.Entities.{bare_entity_type};
 ghost use Rattle.cedar_terms.specs.Literals.{bare_literal};
 ghost use Rattle.cedar_terms.specs.Unknowns.{bare_unknown};
-ghost use Rattle.cedar_builders.specs.Bare.{ExtensionFunctionApp, Set, Record};
+ghost use Rattle.cedar_builders.specs.BareExpr.{ExtensionFunctionApp, Set, Record};
 ghost use Rattle.cedar_builders.specs.Keys.{keys_of, are_distinct};
 ghost use Rattle.cedar_builders.specs.Errors.{key_of, OnDuplicateKey};
 ghost use Rattle.cedar_builders.specs.Trees.{tree_ops};
-ghost use Rattle.cedar_exprs.specs.View.{bare, bares, fields, further, unknown_tree};
+ghost use Rattle.cedar_exprs.specs.BareExpr.{bare_expr, bare_exprs, bare_fields, further, unknown_tree};
 ghost use Rattle.cedar_exprs.specs.Keys.{IsFirstRepeat, record_fields};
-ghost use Rattle.cedar_exprs.specs.Node.{IsPlain};
+ghost use Rattle.cedar_exprs.specs.BuiltNode.{IsPlain};
 
 use crate::builder::ExprBuilder;
 use crate::expr::{Expr, ExprKind};
@@ -58,7 +58,7 @@ impl Expr<()> {
         then_expr: Expr<()>,
         else_expr: Expr<()>,
     ) -> Result<Expr<()>, AllocError>
-        ensures { IfOk result (IsPlain (tree_ops.if_of (bare test_expr) (bare then_expr) (bare else_expr))) }
+        ensures { IfOk result (IsPlain (tree_ops.if_of (bare_expr test_expr) (bare_expr then_expr) (bare_expr else_expr))) }
     {
         ExprBuilder::new().ite(alloc, test_expr, then_expr, else_expr)
     }
@@ -69,28 +69,28 @@ impl Expr<()> {
         then_expr: Rc<Expr<()>>,
         else_expr: Rc<Expr<()>>,
     ) -> Expr<()>
-        ensures { IsPlain (tree_ops.if_of (bare test_expr.value) (bare then_expr.value) (bare else_expr.value)) result }
+        ensures { IsPlain (tree_ops.if_of (bare_expr test_expr.value) (bare_expr then_expr.value) (bare_expr else_expr.value)) result }
     {
         ExprBuilder::new().ite_arc(test_expr, then_expr, else_expr)
     }
 
     /// `left && right`: of two Boolean literals their literal, else the node.
     pub fn and(alloc: Global, left: Expr<()>, right: Expr<()>) -> Result<Expr<()>, AllocError>
-        ensures { IfOk result (IsPlain (tree_ops.and_of (bare left) (bare right))) }
+        ensures { IfOk result (IsPlain (tree_ops.and_of (bare_expr left) (bare_expr right))) }
     {
         ExprBuilder::new().and(alloc, left, right)
     }
 
     /// `left || right`: of two Boolean literals their literal, else the node.
     pub fn or(alloc: Global, left: Expr<()>, right: Expr<()>) -> Result<Expr<()>, AllocError>
-        ensures { IfOk result (IsPlain (tree_ops.or_of (bare left) (bare right))) }
+        ensures { IfOk result (IsPlain (tree_ops.or_of (bare_expr left) (bare_expr right))) }
     {
         ExprBuilder::new().or(alloc, left, right)
     }
 
     /// An operator on one argument.
     pub fn unary_app(alloc: Global, op: UnaryOp, arg: Expr<()>) -> Result<Expr<()>, AllocError>
-        ensures { IfOk result (IsPlain (tree_ops.unary_of op (bare arg))) }
+        ensures { IfOk result (IsPlain (tree_ops.unary_of op (bare_expr arg))) }
     {
         ExprBuilder::new().unary_app(alloc, op, arg)
     }
@@ -102,14 +102,14 @@ impl Expr<()> {
         arg1: Expr<()>,
         arg2: Expr<()>,
     ) -> Result<Expr<()>, AllocError>
-        ensures { IfOk result (IsPlain (tree_ops.binary_of op (bare arg1) (bare arg2))) }
+        ensures { IfOk result (IsPlain (tree_ops.binary_of op (bare_expr arg1) (bare_expr arg2))) }
     {
         ExprBuilder::new().binary_app(alloc, op, arg1, arg2)
     }
 
     /// A set by its members, in this order; repeated ones are kept.
     pub fn set(alloc: Global, members: Vec<Expr<()>>) -> Result<Expr<()>, AllocError>
-        ensures { IfOk result (IsPlain (Set (bares members.items))) }
+        ensures { IfOk result (IsPlain (Set (bare_exprs members.items))) }
     {
         ExprBuilder::new().set(alloc, members)
     }
@@ -120,7 +120,7 @@ impl Expr<()> {
         fn_name: Name,
         args: Vec<Expr<()>>,
     ) -> Result<Expr<()>, AllocError>
-        ensures { IfOk result (IsPlain (ExtensionFunctionApp (bare_of_name fn_name) (bares args.items))) }
+        ensures { IfOk result (IsPlain (ExtensionFunctionApp (bare_name fn_name) (bare_exprs args.items))) }
     {
         match ExprBuilder::new().call_extension_fn(alloc, fn_name, args) {
             Ok(call) => Ok(call),
@@ -131,14 +131,14 @@ impl Expr<()> {
 
     /// `expr.attr`: an attribute of an entity or a field of a record.
     pub fn get_attr(alloc: Global, expr: Expr<()>, attr: RcStr) -> Result<Expr<()>, AllocError>
-        ensures { IfOk result (IsPlain (tree_ops.get_of (bare expr) (rc_str_bytes attr))) }
+        ensures { IfOk result (IsPlain (tree_ops.get_of (bare_expr expr) (rc_str_bytes attr))) }
     {
         ExprBuilder::new().get_attr(alloc, expr, attr)
     }
 
     /// `expr has attr`: whether an entity has the attribute, or a record the field.
     pub fn has_attr(alloc: Global, expr: Expr<()>, attr: RcStr) -> Result<Expr<()>, AllocError>
-        ensures { IfOk result (IsPlain (tree_ops.has_of (bare expr) (rc_str_bytes attr))) }
+        ensures { IfOk result (IsPlain (tree_ops.has_of (bare_expr expr) (rc_str_bytes attr))) }
     {
         ExprBuilder::new().has_attr(alloc, expr, attr)
     }
@@ -149,14 +149,14 @@ impl Expr<()> {
         expr: Expr<()>,
         attrs: NonEmpty<RcStr>,
     ) -> Result<Expr<()>, AllocError>
-        ensures { IfOk result (IsPlain (tree_ops.ext_has_of (bare expr) (rc_str_bytes attrs.head) (further attrs))) }
+        ensures { IfOk result (IsPlain (tree_ops.ext_has_of (bare_expr expr) (rc_str_bytes attrs.head) (further attrs))) }
     {
         ExprBuilder::new().extended_has_attr(alloc, expr, attrs)
     }
 
     /// `expr like pattern`: whether the pattern matches the text.
     pub fn like(alloc: Global, expr: Expr<()>, pattern: Pattern) -> Result<Expr<()>, AllocError>
-        ensures { IfOk result (IsPlain (tree_ops.like_of (bare expr) pattern)) }
+        ensures { IfOk result (IsPlain (tree_ops.like_of (bare_expr expr) pattern)) }
     {
         ExprBuilder::new().like(alloc, expr, pattern)
     }
@@ -167,7 +167,7 @@ impl Expr<()> {
         expr: Expr<()>,
         entity_type: EntityType,
     ) -> Result<Expr<()>, AllocError>
-        ensures { IfOk result (IsPlain (tree_ops.is_of (bare expr) (bare_entity_type entity_type))) }
+        ensures { IfOk result (IsPlain (tree_ops.is_of (bare_expr expr) (bare_entity_type entity_type))) }
     {
         ExprBuilder::new().is_entity_type(alloc, expr, entity_type)
     }
@@ -188,84 +188,84 @@ impl Expr<()> {
 
     /// A record of a shared map.
     pub fn record_arc(values: Rc<BTreeMap<RcStr, Expr<()>>>) -> Expr<()>
-        ensures { IsPlain (Record (fields values.value.entries)) result }
+        ensures { IsPlain (Record (bare_fields values.value.entries)) result }
     {
         ExprBuilder::new().record_arc(values)
     }
 
     /// `!arg`.
     pub fn not(alloc: Global, arg: Expr<()>) -> Result<Expr<()>, AllocError>
-        ensures { IfOk result (IsPlain (tree_ops.unary_of UnaryOp.Not (bare arg))) }
+        ensures { IfOk result (IsPlain (tree_ops.unary_of UnaryOp.Not (bare_expr arg))) }
     {
         Expr::unary_app(alloc, UnaryOp::Not, arg)
     }
 
     /// `-arg`.
     pub fn neg(alloc: Global, arg: Expr<()>) -> Result<Expr<()>, AllocError>
-        ensures { IfOk result (IsPlain (tree_ops.unary_of UnaryOp.Neg (bare arg))) }
+        ensures { IfOk result (IsPlain (tree_ops.unary_of UnaryOp.Neg (bare_expr arg))) }
     {
         Expr::unary_app(alloc, UnaryOp::Neg, arg)
     }
 
     /// `arg.isEmpty()`: whether the set has no member.
     pub fn is_empty(alloc: Global, arg: Expr<()>) -> Result<Expr<()>, AllocError>
-        ensures { IfOk result (IsPlain (tree_ops.unary_of UnaryOp.IsEmpty (bare arg))) }
+        ensures { IfOk result (IsPlain (tree_ops.unary_of UnaryOp.IsEmpty (bare_expr arg))) }
     {
         Expr::unary_app(alloc, UnaryOp::IsEmpty, arg)
     }
 
     /// `arg1 == arg2`.
     pub fn is_eq(alloc: Global, arg1: Expr<()>, arg2: Expr<()>) -> Result<Expr<()>, AllocError>
-        ensures { IfOk result (IsPlain (tree_ops.binary_of BinaryOp.Eq (bare arg1) (bare arg2))) }
+        ensures { IfOk result (IsPlain (tree_ops.binary_of BinaryOp.Eq (bare_expr arg1) (bare_expr arg2))) }
     {
         Expr::binary_app(alloc, BinaryOp::Eq, arg1, arg2)
     }
 
     /// `arg1 < arg2`.
     pub fn less(alloc: Global, arg1: Expr<()>, arg2: Expr<()>) -> Result<Expr<()>, AllocError>
-        ensures { IfOk result (IsPlain (tree_ops.binary_of BinaryOp.Less (bare arg1) (bare arg2))) }
+        ensures { IfOk result (IsPlain (tree_ops.binary_of BinaryOp.Less (bare_expr arg1) (bare_expr arg2))) }
     {
         Expr::binary_app(alloc, BinaryOp::Less, arg1, arg2)
     }
 
     /// `arg1 <= arg2`.
     pub fn lesseq(alloc: Global, arg1: Expr<()>, arg2: Expr<()>) -> Result<Expr<()>, AllocError>
-        ensures { IfOk result (IsPlain (tree_ops.binary_of BinaryOp.LessEq (bare arg1) (bare arg2))) }
+        ensures { IfOk result (IsPlain (tree_ops.binary_of BinaryOp.LessEq (bare_expr arg1) (bare_expr arg2))) }
     {
         Expr::binary_app(alloc, BinaryOp::LessEq, arg1, arg2)
     }
 
     /// `arg1 + arg2`.
     pub fn add(alloc: Global, arg1: Expr<()>, arg2: Expr<()>) -> Result<Expr<()>, AllocError>
-        ensures { IfOk result (IsPlain (tree_ops.binary_of BinaryOp.Add (bare arg1) (bare arg2))) }
+        ensures { IfOk result (IsPlain (tree_ops.binary_of BinaryOp.Add (bare_expr arg1) (bare_expr arg2))) }
     {
         Expr::binary_app(alloc, BinaryOp::Add, arg1, arg2)
     }
 
     /// `arg1 - arg2`.
     pub fn sub(alloc: Global, arg1: Expr<()>, arg2: Expr<()>) -> Result<Expr<()>, AllocError>
-        ensures { IfOk result (IsPlain (tree_ops.binary_of BinaryOp.Sub (bare arg1) (bare arg2))) }
+        ensures { IfOk result (IsPlain (tree_ops.binary_of BinaryOp.Sub (bare_expr arg1) (bare_expr arg2))) }
     {
         Expr::binary_app(alloc, BinaryOp::Sub, arg1, arg2)
     }
 
     /// `arg1 * arg2`.
     pub fn mul(alloc: Global, arg1: Expr<()>, arg2: Expr<()>) -> Result<Expr<()>, AllocError>
-        ensures { IfOk result (IsPlain (tree_ops.binary_of BinaryOp.Mul (bare arg1) (bare arg2))) }
+        ensures { IfOk result (IsPlain (tree_ops.binary_of BinaryOp.Mul (bare_expr arg1) (bare_expr arg2))) }
     {
         Expr::binary_app(alloc, BinaryOp::Mul, arg1, arg2)
     }
 
     /// `arg1 in arg2`: membership in the hierarchy.
     pub fn is_in(alloc: Global, arg1: Expr<()>, arg2: Expr<()>) -> Result<Expr<()>, AllocError>
-        ensures { IfOk result (IsPlain (tree_ops.binary_of BinaryOp.In (bare arg1) (bare arg2))) }
+        ensures { IfOk result (IsPlain (tree_ops.binary_of BinaryOp.In (bare_expr arg1) (bare_expr arg2))) }
     {
         Expr::binary_app(alloc, BinaryOp::In, arg1, arg2)
     }
 
     /// `arg1.contains(arg2)`: whether the set has the member.
     pub fn contains(alloc: Global, arg1: Expr<()>, arg2: Expr<()>) -> Result<Expr<()>, AllocError>
-        ensures { IfOk result (IsPlain (tree_ops.binary_of BinaryOp.Contains (bare arg1) (bare arg2))) }
+        ensures { IfOk result (IsPlain (tree_ops.binary_of BinaryOp.Contains (bare_expr arg1) (bare_expr arg2))) }
     {
         Expr::binary_app(alloc, BinaryOp::Contains, arg1, arg2)
     }
@@ -276,7 +276,7 @@ impl Expr<()> {
         arg1: Expr<()>,
         arg2: Expr<()>,
     ) -> Result<Expr<()>, AllocError>
-        ensures { IfOk result (IsPlain (tree_ops.binary_of BinaryOp.ContainsAll (bare arg1) (bare arg2))) }
+        ensures { IfOk result (IsPlain (tree_ops.binary_of BinaryOp.ContainsAll (bare_expr arg1) (bare_expr arg2))) }
     {
         Expr::binary_app(alloc, BinaryOp::ContainsAll, arg1, arg2)
     }
@@ -287,42 +287,42 @@ impl Expr<()> {
         arg1: Expr<()>,
         arg2: Expr<()>,
     ) -> Result<Expr<()>, AllocError>
-        ensures { IfOk result (IsPlain (tree_ops.binary_of BinaryOp.ContainsAny (bare arg1) (bare arg2))) }
+        ensures { IfOk result (IsPlain (tree_ops.binary_of BinaryOp.ContainsAny (bare_expr arg1) (bare_expr arg2))) }
     {
         Expr::binary_app(alloc, BinaryOp::ContainsAny, arg1, arg2)
     }
 
     /// `arg1.getTag(arg2)`: the tag of an entity.
     pub fn get_tag(alloc: Global, arg1: Expr<()>, arg2: Expr<()>) -> Result<Expr<()>, AllocError>
-        ensures { IfOk result (IsPlain (tree_ops.binary_of BinaryOp.GetTag (bare arg1) (bare arg2))) }
+        ensures { IfOk result (IsPlain (tree_ops.binary_of BinaryOp.GetTag (bare_expr arg1) (bare_expr arg2))) }
     {
         Expr::binary_app(alloc, BinaryOp::GetTag, arg1, arg2)
     }
 
     /// `arg1.hasTag(arg2)`: whether an entity has the tag.
     pub fn has_tag(alloc: Global, arg1: Expr<()>, arg2: Expr<()>) -> Result<Expr<()>, AllocError>
-        ensures { IfOk result (IsPlain (tree_ops.binary_of BinaryOp.HasTag (bare arg1) (bare arg2))) }
+        ensures { IfOk result (IsPlain (tree_ops.binary_of BinaryOp.HasTag (bare_expr arg1) (bare_expr arg2))) }
     {
         Expr::binary_app(alloc, BinaryOp::HasTag, arg1, arg2)
     }
 
     /// `!(arg1 == arg2)`: two nodes.
     pub fn noteq(alloc: Global, arg1: Expr<()>, arg2: Expr<()>) -> Result<Expr<()>, AllocError>
-        ensures { IfOk result (IsPlain (tree_ops.unary_of UnaryOp.Not (tree_ops.binary_of BinaryOp.Eq (bare arg1) (bare arg2)))) }
+        ensures { IfOk result (IsPlain (tree_ops.unary_of UnaryOp.Not (tree_ops.binary_of BinaryOp.Eq (bare_expr arg1) (bare_expr arg2)))) }
     {
         Expr::not(alloc, Expr::is_eq(alloc, arg1, arg2)?)
     }
 
     /// `!(arg1 <= arg2)`: two nodes.
     pub fn greater(alloc: Global, arg1: Expr<()>, arg2: Expr<()>) -> Result<Expr<()>, AllocError>
-        ensures { IfOk result (IsPlain (tree_ops.unary_of UnaryOp.Not (tree_ops.binary_of BinaryOp.LessEq (bare arg1) (bare arg2)))) }
+        ensures { IfOk result (IsPlain (tree_ops.unary_of UnaryOp.Not (tree_ops.binary_of BinaryOp.LessEq (bare_expr arg1) (bare_expr arg2)))) }
     {
         Expr::not(alloc, Expr::lesseq(alloc, arg1, arg2)?)
     }
 
     /// `!(arg1 < arg2)`: two nodes.
     pub fn greatereq(alloc: Global, arg1: Expr<()>, arg2: Expr<()>) -> Result<Expr<()>, AllocError>
-        ensures { IfOk result (IsPlain (tree_ops.unary_of UnaryOp.Not (tree_ops.binary_of BinaryOp.Less (bare arg1) (bare arg2)))) }
+        ensures { IfOk result (IsPlain (tree_ops.unary_of UnaryOp.Not (tree_ops.binary_of BinaryOp.Less (bare_expr arg1) (bare_expr arg2)))) }
     {
         Expr::not(alloc, Expr::less(alloc, arg1, arg2)?)
     }

@@ -3,8 +3,8 @@ ghost use Rattle.std.specs.Prelude.{◌≡◌, IfOk};
 ghost use Rattle.std.specs.Option.{option_copied};
 ghost use Rattle.cedar_terms.specs.Literals.{bare_literal};
 ghost use Rattle.cedar_builders.specs.Trees.{bool_of, literal_bool};
-ghost use Rattle.cedar_exprs.specs.View.{bare, bare_kind, kind_of, loc_of, data_of};
-ghost use Rattle.cedar_exprs.specs.Data.{held, held_kind};
+ghost use Rattle.cedar_exprs.specs.BareExpr.{bare_expr, bare_expr_kind, kind_of, expr_place, data_of};
+ghost use Rattle.cedar_exprs.specs.ExprData.{data_tree, kind_data};
 ghost use Rattle.cedar_exprs.specs.RisingKeys.{KeysRise};
 
 use crate::shape;
@@ -166,7 +166,7 @@ impl<T: Drop> Drop for Expr<T> {
 impl<T> Expr<T> {
     pub(crate) fn new(expr_kind: ExprKind<T>, source_loc: Option<Loc>, data: T) -> Expr<T>
         ensures kind { kind_of result ≡ expr_kind }
-        ensures loc { loc_of result ≡ source_loc }
+        ensures loc { expr_place result ≡ source_loc }
         ensures of_node { data_of result ≡ «data» }
     {
         Expr {
@@ -187,7 +187,7 @@ impl<T> Expr<T> {
     ///
     /// The keys of each record are fed in rising order.
     pub fn hash_shape<H: Hasher>(&self, state: &mut H)
-        ensures keys_rise { KeysRise (bare self.now) }
+        ensures keys_rise { KeysRise (bare_expr self.now) }
     {
         shape::hash_shape(self, state)
     }
@@ -203,7 +203,7 @@ impl<T> Expr<T> {
 
     // The Boolean that the expression is a literal of.
     pub(crate) fn as_bool(&self) -> Option<bool>
-        ensures { result ≡ bool_of (bare self.now) }
+        ensures { result ≡ bool_of (bare_expr self.now) }
     {
         match &self.expr_kind {
             ExprKind::Lit(literal) => literal_bool(literal),
@@ -245,7 +245,7 @@ impl<T> Expr<T> {
     /// The kind, the place and the data of the outermost node.
     pub fn into_parts(self) -> (ExprKind<T>, Option<Loc>, T)
         ensures kind { result.0 ≡ kind_of self }
-        ensures loc { result.1 ≡ loc_of self }
+        ensures loc { result.1 ≡ expr_place self }
         ensures of_node { result.2 ≡ data_of self }
     {
         let Expr {
@@ -258,7 +258,7 @@ impl<T> Expr<T> {
 
     /// The place of the outermost node, if it is known.
     pub fn source_loc(&self) -> Option<&Loc>
-        ensures { option_copied result ≡ loc_of self.now }
+        ensures { option_copied result ≡ expr_place self.now }
     {
         self.source_loc.as_ref()
     }
@@ -266,7 +266,7 @@ impl<T> Expr<T> {
     /// The expression with this place, or none, on its outermost node; the places inside stay.
     pub fn with_maybe_source_loc(self, source_loc: Option<Loc>) -> Expr<T>
         ensures kind { kind_of result ≡ kind_of self }
-        ensures loc { loc_of result ≡ source_loc }
+        ensures loc { expr_place result ≡ source_loc }
         ensures of_node { data_of result ≡ data_of self }
     {
         let (expr_kind, _, data) = self.into_parts();
@@ -278,7 +278,7 @@ impl<T> Expr<T> {
     where
         T: Drop,
         ensures kind { kind_of self.new ≡ kind_of self.old }
-        ensures loc { loc_of self.new ≡ loc_of self.old }
+        ensures loc { expr_place self.new ≡ expr_place self.old }
         ensures of_node { data_of self.new ≡ «data» }
     {
         self.data = data;
@@ -288,9 +288,9 @@ impl<T> Expr<T> {
 impl<T: Copy> Expr<T> {
     /// A copy, which shares the children.
     pub fn clone(&self, alloc: Global) -> Result<Expr<T>, AllocError>
-        ensures tree { IfOk result (λ e. bare e ≡ bare self.now) }
-        ensures loc { IfOk result (λ e. loc_of e ≡ loc_of self.now) }
-        ensures at_each_position { IfOk result (λ e. held e ≡ held self.now) }
+        ensures tree { IfOk result (λ e. bare_expr e ≡ bare_expr self.now) }
+        ensures loc { IfOk result (λ e. expr_place e ≡ expr_place self.now) }
+        ensures at_each_position { IfOk result (λ e. data_tree e ≡ data_tree self.now) }
     {
         Ok(Expr::new(
             self.expr_kind.clone(alloc)?,
@@ -325,8 +325,8 @@ pub(crate) fn clone_loc(alloc: Global, loc: Option<&Loc>) -> Result<Option<Loc>,
 impl<T: Copy> ExprKind<T> {
     /// A copy, which shares the children.
     pub fn clone(&self, alloc: Global) -> Result<ExprKind<T>, AllocError>
-        ensures tree { IfOk result (λ k. bare_kind k ≡ bare_kind self.now) }
-        ensures at_each_position { IfOk result (λ k. held_kind k ≡ held_kind self.now) }
+        ensures tree { IfOk result (λ k. bare_expr_kind k ≡ bare_expr_kind self.now) }
+        ensures at_each_position { IfOk result (λ k. kind_data k ≡ kind_data self.now) }
     {
         match self {
             ExprKind::Lit(l) => Ok(ExprKind::Lit(l.clone(alloc)?)),

@@ -1,7 +1,7 @@
 // The first node of a kind that no restricted expression has.
 ghost use Rattle.std.specs.Prelude.{◌≡◌, map};
 ghost use Rattle.std.specs.Option.{option_copied};
-ghost use Rattle.cedar_exprs.specs.Outside.{first_outside, first_outside_all};
+ghost use Rattle.cedar_exprs.specs.NotRestricted.{first_not_restricted, first_not_restricted_of};
 
 use crate::expr::{Expr, ExprKind};
 use std::collections::BTreeMap;
@@ -11,7 +11,7 @@ use std::rc::RcStr;
 #[cycle(first_fault)]
 #[tactic(auto, using(crate::proofs::Outside::first_at_call, crate::proofs::Outside::first_at_set, crate::proofs::Outside::first_at_record))]
 pub(crate) fn first_fault<T>(expr: &Expr<T>) -> Option<&Expr<T>>
-    ensures { option_copied result ≡ first_outside expr.now }
+    ensures { option_copied result ≡ first_not_restricted expr.now }
 {
     match expr.expr_kind() {
         ExprKind::Lit(_) | ExprKind::Unknown(_) => None,
@@ -37,7 +37,7 @@ pub(crate) fn first_fault<T>(expr: &Expr<T>) -> Option<&Expr<T>>
 #[cycle(first_fault)]
 #[tactic(auto, using(crate::proofs::Outside::found, crate::proofs::Outside::passed))]
 fn first_fault_of_all<T>(exprs: &[Expr<T>]) -> Option<&Expr<T>>
-    ensures { option_copied result ≡ first_outside_all exprs.now }
+    ensures { option_copied result ≡ first_not_restricted_of exprs.now }
 {
     for expr in exprs {
         if let Some(fault) = first_fault(expr) {
@@ -51,7 +51,7 @@ fn first_fault_of_all<T>(exprs: &[Expr<T>]) -> Option<&Expr<T>>
 #[cycle(first_fault)]
 #[tactic(auto, using(crate::proofs::Outside::value_found, crate::proofs::Outside::value_passed))]
 fn first_fault_of_values<T>(values: &BTreeMap<RcStr, Expr<T>>) -> Option<&Expr<T>>
-    ensures { option_copied result ≡ first_outside_all (map (λ e. e.1) values.now.entries) }
+    ensures { option_copied result ≡ first_not_restricted_of (map (λ e. e.1) values.now.entries) }
 {
     for (_key, value) in values.iter() {
         if let Some(fault) = first_fault(value) {

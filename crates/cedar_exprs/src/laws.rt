@@ -2,8 +2,8 @@
 //!
 //! Each function here does nothing: its contract is the law.
 ghost use Rattle.std.specs.Prelude.{◌≡◌, ◌↔◌, IsTrue};
-ghost use Rattle.cedar_exprs.specs.Data.{SameData, held};
-ghost use Rattle.cedar_exprs.specs.View.{bare};
+ghost use Rattle.cedar_exprs.specs.ExprData.{SameData, data_tree};
+ghost use Rattle.cedar_exprs.specs.BareExpr.{bare_expr};
 ghost use Rattle.cedar_exprs.specs.declared.expr.Expr.{Expr};
 
 use crate::expr::Expr;
@@ -15,7 +15,7 @@ use std::hash::Hash;
 
 /// Two expressions are equal exactly where their bare trees are, and the data at each position. Places do not count.
 pub fn equal_expressions<T: Eq>()
-    ensures { (a b : Expr _) → IsTrue (⟦<Expr<T> as PartialEq>⟧.eq a b) ↔ ((bare a ≡ bare b) × SameData T.eq (held a) (held b)) }
+    ensures { (a b : Expr _) → IsTrue (⟦<Expr<T> as PartialEq>⟧.eq a b) ↔ ((bare_expr a ≡ bare_expr b) × SameData T.eq (data_tree a) (data_tree b)) }
 {}
 
 /// Equal expressions hash alike.

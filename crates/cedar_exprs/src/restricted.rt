@@ -2,9 +2,9 @@
 ghost use Rattle.std.specs.Prelude.{◌≡◌, IfOk, MatchResult, IsOk, ◌↔◌};
 ghost use Rattle.cedar_terms.specs.Literals.{bare_literal};
 ghost use Rattle.cedar_terms.specs.Types.{BareType, bare_type, literal_type};
-ghost use Rattle.cedar_builders.specs.Bare.{Bare, Lit};
+ghost use Rattle.cedar_builders.specs.BareExpr.{BareExpr, Lit};
 ghost use Rattle.cedar_builders.specs.Restricted.{IsRestricted};
-ghost use Rattle.cedar_exprs.specs.View.{bare};
+ghost use Rattle.cedar_exprs.specs.BareExpr.{bare_expr};
 
 use crate::expr::{Expr, clone_loc};
 use crate::first_fault::first_fault;
@@ -18,16 +18,16 @@ use thiserror::Error;
 #[derive(Debug, Drop)]
 pub struct RestrictedExpr {
     expr: Expr<()>,
-    ghost restricted: { IsRestricted (bare expr) },
+    ghost restricted: { IsRestricted (bare_expr expr) },
 }
 
 impl RestrictedExpr {
-    ghost use Rattle.cedar_exprs.specs.Restricted.{expr_of, restricted_tree};
+    ghost use Rattle.cedar_exprs.specs.RestrictedExprs.{expr_of, bare_restricted_expr};
 
     /// The expression.
     pub fn as_expr(&self) -> &Expr<()>
         ensures same { result.now ≡ expr_of self.now }
-        ensures restricted { IsRestricted (bare result.now) }
+        ensures restricted { IsRestricted (bare_expr result.now) }
     {
         &self.expr
     }
@@ -35,14 +35,14 @@ impl RestrictedExpr {
     // The expression of one that is given up.
     pub(crate) fn into_expr(self) -> Expr<()>
         ensures same { result ≡ expr_of self }
-        ensures restricted { IsRestricted (bare result) }
+        ensures restricted { IsRestricted (bare_expr result) }
     {
         self.expr
     }
 
     // The literal.
     pub(crate) fn of_literal(literal: Literal) -> RestrictedExpr
-        ensures { restricted_tree result ≡ Lit (bare_literal literal) }
+        ensures { bare_restricted_expr result ≡ Lit (bare_literal literal) }
     {
         RestrictedExpr {
             expr: Expr::val(literal),
@@ -51,7 +51,7 @@ impl RestrictedExpr {
 }
 
 impl From<RestrictedExpr> for Expr<()> {
-    ghost use Rattle.cedar_exprs.specs.Restricted.{expr_of};
+    ghost use Rattle.cedar_exprs.specs.RestrictedExprs.{expr_of};
 
     ghost from_gives = { λ r e. e ≡ expr_of r };
 
@@ -62,13 +62,13 @@ impl From<RestrictedExpr> for Expr<()> {
 
 /// A value that may take an unknown's place.
 pub trait SubstituteValue {
-    ghost use Rattle.cedar_exprs.specs.Restricted.{restricted_tree};
+    ghost use Rattle.cedar_exprs.specs.RestrictedExprs.{bare_restricted_expr};
 
     // The type of the value.
     ghost bare_type_of: { Self → BareType };
 
     // The bare tree of the value.
-    ghost bare_tree_of: { Self → Bare };
+    ghost bare_expr_of: { Self → BareExpr };
 
     /// The type of the value.
     fn value_type(&self, alloc: Global) -> Result<Type, AllocError>
@@ -76,13 +76,13 @@ pub trait SubstituteValue {
 
     /// The expression of the value, with the value's places.
     fn value_expr(&self, alloc: Global) -> Result<RestrictedExpr, AllocError>
-        ensures { IfOk result (λ r. restricted_tree r ≡ bare_tree_of self.now) };
+        ensures { IfOk result (λ r. bare_restricted_expr r ≡ bare_expr_of self.now) };
 }
 
 impl SubstituteValue for Literal {
     ghost bare_type_of = { λ literal. literal_type (bare_literal literal) };
 
-    ghost bare_tree_of = { λ literal. Lit (bare_literal literal) };
+    ghost bare_expr_of = { λ literal. Lit (bare_literal literal) };
 
     fn value_type(&self, alloc: Global) -> Result<Type, AllocError> {
         self.type_of(alloc)
@@ -116,13 +116,13 @@ impl From<AllocError> for RestrictedExprError {
 }
 
 impl RestrictedExpr {
-    ghost use Rattle.cedar_exprs.specs.Restricted.{expr_of};
-    ghost use Rattle.cedar_exprs.specs.Outside.{first_outside, IsRefusalOf};
+    ghost use Rattle.cedar_exprs.specs.RestrictedExprs.{expr_of};
+    ghost use Rattle.cedar_exprs.specs.NotRestricted.{first_not_restricted, IsRefusalOf};
 
     /// The same expression, known to be restricted. Memory is taken only to copy the place of a refusal.
     pub fn new(alloc: Global, expr: Expr<()>) -> Result<RestrictedExpr, RestrictedExprError>
-        ensures outcome { MatchResult result (λ r. expr_of r ≡ expr) (IsRefusalOf (first_outside expr)) }
-        ensures succeeds { IsOk result ↔ IsRestricted (bare expr) }
+        ensures outcome { MatchResult result (λ r. expr_of r ≡ expr) (IsRefusalOf (first_not_restricted expr)) }
+        ensures succeeds { IsOk result ↔ IsRestricted (bare_expr expr) }
     {
         match first_fault(&expr) {
             Some(fault) => Err(RestrictedExprError::NotRestricted {

@@ -6,18 +6,18 @@
 ghost use Rattle.std.specs.Prelude.{◌≡◌, None, Ok, IfOk};
 ghost use Rattle.std.specs.Option.{option_copied};
 ghost use Rattle.std.specs.Rc.{rc_str_bytes};
-ghost use Rattle.cedar_names.specs.PlainNames.{bare_of_name};
+ghost use Rattle.cedar_names.specs.PlainNames.{bare_name};
 ghost use Rattle.cedar_terms.specs.Entities.{bare_entity_type};
 ghost use Rattle.cedar_terms.specs.Literals.{bare_literal};
 ghost use Rattle.cedar_terms.specs.Unknowns.{bare_unknown};
-ghost use Rattle.cedar_builders.specs.Bare.{Lit, ExtensionFunctionApp, Set, Record};
-ghost use Rattle.cedar_builders.specs.Clash.{refused_binding, first_refusal, first_refusal_of_all, first_refusal_of_fields};
+ghost use Rattle.cedar_builders.specs.BareExpr.{Lit, ExtensionFunctionApp, Set, Record};
+ghost use Rattle.cedar_builders.specs.TypeClash.{refused_binding, first_refusal, first_refusal_of_all, first_refusal_of_fields};
 ghost use Rattle.cedar_builders.specs.Environment.{fold};
-ghost use Rattle.cedar_builders.specs.Gives.{Gives};
+ghost use Rattle.cedar_builders.specs.Answers.{Gives};
 ghost use Rattle.cedar_builders.specs.Trees.{tree_ops, bound_tree, substituted, all_substituted, fields_substituted};
-ghost use Rattle.cedar_exprs.specs.View.{bare, bare_kind, bares, fields, loc_of, further, unknown_tree};
-ghost use Rattle.cedar_exprs.specs.Restricted.{env_of};
-ghost use Rattle.cedar_exprs.specs.Typed.{Refuses};
+ghost use Rattle.cedar_exprs.specs.BareExpr.{bare_expr, bare_expr_kind, bare_exprs, bare_fields, expr_place, further, unknown_tree};
+ghost use Rattle.cedar_exprs.specs.RestrictedExprs.{env_of};
+ghost use Rattle.cedar_exprs.specs.Refusals.{Refuses};
 
 use crate::builder::ExprBuilder;
 use crate::expr::{Expr, ExprKind, clone_loc};
@@ -42,7 +42,7 @@ impl Expr<()> {
         alloc: Global,
         values: &HashMap<RcStr, V>,
     ) -> Result<Expr<()>, AllocError>
-        ensures { IfOk result (λ e. fold tree_ops (env_of V.bare_type_of V.bare_tree_of values.now) (bare self.now) ≡ Ok (bare e)) }
+        ensures { IfOk result (λ e. fold tree_ops (env_of V.bare_type_of V.bare_expr_of values.now) (bare_expr self.now) ≡ Ok (bare_expr e)) }
     {
         substituted_by_fold();
         match rebuilt::<Unchecked, V>(alloc, self, values) {
@@ -59,7 +59,7 @@ impl Expr<()> {
         alloc: Global,
         values: &HashMap<RcStr, V>,
     ) -> Result<B::Expr, BuildFault<B::BuildError>>
-        ensures { Gives B.meaning_of B.fault_of (fold B.ops (env_of V.bare_type_of V.bare_tree_of values.now) (bare self.now)) result }
+        ensures { Gives B.meaning_of B.fault_of (fold B.ops (env_of V.bare_type_of V.bare_expr_of values.now) (bare_expr self.now)) result }
     {
         built_after::<B>();
         let substituted = self.substitute(alloc, values)?;
@@ -74,8 +74,8 @@ pub(crate) fn rebuilt<C: TypeCheck, V: SubstituteValue>(
     e: &Expr<()>,
     values: &HashMap<RcStr, V>,
 ) -> Result<Expr<()>, BuildFault<C::Refusal>>
-    ensures tree { IfOk result (λ r. bare r ≡ substituted (env_of V.bare_type_of V.bare_tree_of values.now) (bare e.now)) }
-    ensures refused { Refuses C.types_of (first_refusal C.refuses (env_of V.bare_type_of V.bare_tree_of values.now) (bare e.now)) result }
+    ensures tree { IfOk result (λ r. bare_expr r ≡ substituted (env_of V.bare_type_of V.bare_expr_of values.now) (bare_expr e.now)) }
+    ensures refused { Refuses C.types_of (first_refusal C.refuses (env_of V.bare_type_of V.bare_expr_of values.now) (bare_expr e.now)) result }
 {
     match e.expr_kind() {
         ExprKind::Lit(literal) => literal_at::<C>(alloc, literal, e.source_loc()),
@@ -126,8 +126,8 @@ fn rebuilt_child<C: TypeCheck, V: SubstituteValue>(
     child: &Rc<Expr<()>>,
     values: &HashMap<RcStr, V>,
 ) -> Result<Rc<Expr<()>>, BuildFault<C::Refusal>>
-    ensures tree { IfOk result (λ r. bare r.value ≡ substituted (env_of V.bare_type_of V.bare_tree_of values.now) (bare child.now.value)) }
-    ensures refused { Refuses C.types_of (first_refusal C.refuses (env_of V.bare_type_of V.bare_tree_of values.now) (bare child.now.value)) result }
+    ensures tree { IfOk result (λ r. bare_expr r.value ≡ substituted (env_of V.bare_type_of V.bare_expr_of values.now) (bare_expr child.now.value)) }
+    ensures refused { Refuses C.types_of (first_refusal C.refuses (env_of V.bare_type_of V.bare_expr_of values.now) (bare_expr child.now.value)) result }
 {
     match child.expr_kind() {
         ExprKind::Lit(_) | ExprKind::Var(_) | ExprKind::Slot(_) => Ok(child.clone()?),
@@ -142,8 +142,8 @@ fn literal_at<C: TypeCheck>(
     literal: &Literal,
     loc: Option<&Loc>,
 ) -> Result<Expr<()>, BuildFault<C::Refusal>>
-    ensures tree { IfOk result (λ r. bare r ≡ Lit (bare_literal literal.now)) }
-    ensures loc { IfOk result (λ r. loc_of r ≡ option_copied loc.entry) }
+    ensures tree { IfOk result (λ r. bare_expr r ≡ Lit (bare_literal literal.now)) }
+    ensures loc { IfOk result (λ r. expr_place r ≡ option_copied loc.entry) }
     ensures refused { Refuses C.types_of None result }
 {
     let literal = literal.clone(alloc)?;
@@ -153,8 +153,8 @@ fn literal_at<C: TypeCheck>(
 // A copy of another leaf that stays as it is.
 #[inline(never)]
 fn copied<C: TypeCheck>(alloc: Global, leaf: &Expr<()>) -> Result<Expr<()>, BuildFault<C::Refusal>>
-    ensures tree { IfOk result (λ r. bare r ≡ bare leaf.now) }
-    ensures loc { IfOk result (λ r. loc_of r ≡ loc_of leaf.now) }
+    ensures tree { IfOk result (λ r. bare_expr r ≡ bare_expr leaf.now) }
+    ensures loc { IfOk result (λ r. expr_place r ≡ expr_place leaf.now) }
     ensures refused { Refuses C.types_of None result }
 {
     Ok(leaf.clone(alloc)?)
@@ -167,8 +167,8 @@ fn replaced<C: TypeCheck, V: SubstituteValue>(
     unknown: &Unknown,
     values: &HashMap<RcStr, V>,
 ) -> Result<Expr<()>, BuildFault<C::Refusal>>
-    ensures tree { IfOk result (λ r. bare r ≡ bound_tree (env_of V.bare_type_of V.bare_tree_of values.now (rc_str_bytes unknown.now.name)) (unknown_tree (bare_unknown unknown.now))) }
-    ensures refused { Refuses C.types_of (refused_binding C.refuses (bare_unknown unknown.now).annotation (env_of V.bare_type_of V.bare_tree_of values.now (rc_str_bytes unknown.now.name))) result }
+    ensures tree { IfOk result (λ r. bare_expr r ≡ bound_tree (env_of V.bare_type_of V.bare_expr_of values.now (rc_str_bytes unknown.now.name)) (unknown_tree (bare_unknown unknown.now))) }
+    ensures refused { Refuses C.types_of (refused_binding C.refuses (bare_unknown unknown.now).annotation (env_of V.bare_type_of V.bare_expr_of values.now (rc_str_bytes unknown.now.name))) result }
 {
     match values.get(unknown.name.as_str()) {
         Some(value) => {
@@ -182,7 +182,7 @@ fn replaced<C: TypeCheck, V: SubstituteValue>(
 
 // A node with no place.
 fn node(expr_kind: ExprKind<()>) -> Expr<()>
-    ensures { bare result ≡ bare_kind expr_kind }
+    ensures { bare_expr result ≡ bare_expr_kind expr_kind }
 {
     ExprBuilder::new().with_expr_kind(expr_kind)
 }
@@ -196,8 +196,8 @@ fn if_with<C: TypeCheck, V: SubstituteValue>(
     then_expr: Rc<Expr<()>>,
     values: &HashMap<RcStr, V>,
 ) -> Result<Expr<()>, BuildFault<C::Refusal>>
-    ensures tree { IfOk result (λ r. bare r ≡ tree_ops.if_of (bare test_expr.value) (bare then_expr.value) (substituted (env_of V.bare_type_of V.bare_tree_of values.now) (bare else_expr.now.value))) }
-    ensures refused { Refuses C.types_of (first_refusal C.refuses (env_of V.bare_type_of V.bare_tree_of values.now) (bare else_expr.now.value)) result }
+    ensures tree { IfOk result (λ r. bare_expr r ≡ tree_ops.if_of (bare_expr test_expr.value) (bare_expr then_expr.value) (substituted (env_of V.bare_type_of V.bare_expr_of values.now) (bare_expr else_expr.now.value))) }
+    ensures refused { Refuses C.types_of (first_refusal C.refuses (env_of V.bare_type_of V.bare_expr_of values.now) (bare_expr else_expr.now.value)) result }
 {
     let else_expr = rebuilt_child::<C, V>(alloc, else_expr, values)?;
     Ok(Expr::ite_arc(test_expr, then_expr, else_expr))
@@ -211,8 +211,8 @@ fn and_with<C: TypeCheck, V: SubstituteValue>(
     left: Rc<Expr<()>>,
     values: &HashMap<RcStr, V>,
 ) -> Result<Expr<()>, BuildFault<C::Refusal>>
-    ensures tree { IfOk result (λ r. bare r ≡ tree_ops.and_of (bare left.value) (substituted (env_of V.bare_type_of V.bare_tree_of values.now) (bare right.now.value))) }
-    ensures refused { Refuses C.types_of (first_refusal C.refuses (env_of V.bare_type_of V.bare_tree_of values.now) (bare right.now.value)) result }
+    ensures tree { IfOk result (λ r. bare_expr r ≡ tree_ops.and_of (bare_expr left.value) (substituted (env_of V.bare_type_of V.bare_expr_of values.now) (bare_expr right.now.value))) }
+    ensures refused { Refuses C.types_of (first_refusal C.refuses (env_of V.bare_type_of V.bare_expr_of values.now) (bare_expr right.now.value)) result }
 {
     let right = rebuilt_child::<C, V>(alloc, right, values)?;
     Ok(ExprBuilder::new().and_arc(left, right))
@@ -226,8 +226,8 @@ fn or_with<C: TypeCheck, V: SubstituteValue>(
     left: Rc<Expr<()>>,
     values: &HashMap<RcStr, V>,
 ) -> Result<Expr<()>, BuildFault<C::Refusal>>
-    ensures tree { IfOk result (λ r. bare r ≡ tree_ops.or_of (bare left.value) (substituted (env_of V.bare_type_of V.bare_tree_of values.now) (bare right.now.value))) }
-    ensures refused { Refuses C.types_of (first_refusal C.refuses (env_of V.bare_type_of V.bare_tree_of values.now) (bare right.now.value)) result }
+    ensures tree { IfOk result (λ r. bare_expr r ≡ tree_ops.or_of (bare_expr left.value) (substituted (env_of V.bare_type_of V.bare_expr_of values.now) (bare_expr right.now.value))) }
+    ensures refused { Refuses C.types_of (first_refusal C.refuses (env_of V.bare_type_of V.bare_expr_of values.now) (bare_expr right.now.value)) result }
 {
     let right = rebuilt_child::<C, V>(alloc, right, values)?;
     Ok(ExprBuilder::new().or_arc(left, right))
@@ -241,8 +241,8 @@ fn unary_with<C: TypeCheck, V: SubstituteValue>(
     op: UnaryOp,
     values: &HashMap<RcStr, V>,
 ) -> Result<Expr<()>, BuildFault<C::Refusal>>
-    ensures tree { IfOk result (λ r. bare r ≡ tree_ops.unary_of op (substituted (env_of V.bare_type_of V.bare_tree_of values.now) (bare arg.now.value))) }
-    ensures refused { Refuses C.types_of (first_refusal C.refuses (env_of V.bare_type_of V.bare_tree_of values.now) (bare arg.now.value)) result }
+    ensures tree { IfOk result (λ r. bare_expr r ≡ tree_ops.unary_of op (substituted (env_of V.bare_type_of V.bare_expr_of values.now) (bare_expr arg.now.value))) }
+    ensures refused { Refuses C.types_of (first_refusal C.refuses (env_of V.bare_type_of V.bare_expr_of values.now) (bare_expr arg.now.value)) result }
 {
     let arg = rebuilt_child::<C, V>(alloc, arg, values)?;
     Ok(node(ExprKind::UnaryApp { op, arg }))
@@ -257,8 +257,8 @@ fn binary_with<C: TypeCheck, V: SubstituteValue>(
     arg1: Rc<Expr<()>>,
     values: &HashMap<RcStr, V>,
 ) -> Result<Expr<()>, BuildFault<C::Refusal>>
-    ensures tree { IfOk result (λ r. bare r ≡ tree_ops.binary_of op (bare arg1.value) (substituted (env_of V.bare_type_of V.bare_tree_of values.now) (bare arg2.now.value))) }
-    ensures refused { Refuses C.types_of (first_refusal C.refuses (env_of V.bare_type_of V.bare_tree_of values.now) (bare arg2.now.value)) result }
+    ensures tree { IfOk result (λ r. bare_expr r ≡ tree_ops.binary_of op (bare_expr arg1.value) (substituted (env_of V.bare_type_of V.bare_expr_of values.now) (bare_expr arg2.now.value))) }
+    ensures refused { Refuses C.types_of (first_refusal C.refuses (env_of V.bare_type_of V.bare_expr_of values.now) (bare_expr arg2.now.value)) result }
 {
     let arg2 = rebuilt_child::<C, V>(alloc, arg2, values)?;
     Ok(node(ExprKind::BinaryApp { op, arg1, arg2 }))
@@ -272,8 +272,8 @@ fn call_with<C: TypeCheck, V: SubstituteValue>(
     fn_name: &Name,
     values: &HashMap<RcStr, V>,
 ) -> Result<Expr<()>, BuildFault<C::Refusal>>
-    ensures tree { IfOk result (λ r. bare r ≡ ExtensionFunctionApp (bare_of_name fn_name.now) (all_substituted (env_of V.bare_type_of V.bare_tree_of values.now) (bares args.now.items))) }
-    ensures refused { Refuses C.types_of (first_refusal_of_all C.refuses (env_of V.bare_type_of V.bare_tree_of values.now) (bares args.now.items)) result }
+    ensures tree { IfOk result (λ r. bare_expr r ≡ ExtensionFunctionApp (bare_name fn_name.now) (all_substituted (env_of V.bare_type_of V.bare_expr_of values.now) (bare_exprs args.now.items))) }
+    ensures refused { Refuses C.types_of (first_refusal_of_all C.refuses (env_of V.bare_type_of V.bare_expr_of values.now) (bare_exprs args.now.items)) result }
 {
     let args = rebuilt_all::<C, V>(alloc, args, values)?;
     Ok(Expr::call_extension_fn(alloc, fn_name.clone(alloc)?, args)?)
@@ -287,8 +287,8 @@ fn get_with<C: TypeCheck, V: SubstituteValue>(
     attr: &RcStr,
     values: &HashMap<RcStr, V>,
 ) -> Result<Expr<()>, BuildFault<C::Refusal>>
-    ensures tree { IfOk result (λ r. bare r ≡ tree_ops.get_of (substituted (env_of V.bare_type_of V.bare_tree_of values.now) (bare expr.now.value)) (rc_str_bytes attr.now)) }
-    ensures refused { Refuses C.types_of (first_refusal C.refuses (env_of V.bare_type_of V.bare_tree_of values.now) (bare expr.now.value)) result }
+    ensures tree { IfOk result (λ r. bare_expr r ≡ tree_ops.get_of (substituted (env_of V.bare_type_of V.bare_expr_of values.now) (bare_expr expr.now.value)) (rc_str_bytes attr.now)) }
+    ensures refused { Refuses C.types_of (first_refusal C.refuses (env_of V.bare_type_of V.bare_expr_of values.now) (bare_expr expr.now.value)) result }
 {
     let expr = rebuilt_child::<C, V>(alloc, expr, values)?;
     let attr = attr.clone()?;
@@ -303,8 +303,8 @@ fn has_with<C: TypeCheck, V: SubstituteValue>(
     attr: &RcStr,
     values: &HashMap<RcStr, V>,
 ) -> Result<Expr<()>, BuildFault<C::Refusal>>
-    ensures tree { IfOk result (λ r. bare r ≡ tree_ops.has_of (substituted (env_of V.bare_type_of V.bare_tree_of values.now) (bare expr.now.value)) (rc_str_bytes attr.now)) }
-    ensures refused { Refuses C.types_of (first_refusal C.refuses (env_of V.bare_type_of V.bare_tree_of values.now) (bare expr.now.value)) result }
+    ensures tree { IfOk result (λ r. bare_expr r ≡ tree_ops.has_of (substituted (env_of V.bare_type_of V.bare_expr_of values.now) (bare_expr expr.now.value)) (rc_str_bytes attr.now)) }
+    ensures refused { Refuses C.types_of (first_refusal C.refuses (env_of V.bare_type_of V.bare_expr_of values.now) (bare_expr expr.now.value)) result }
 {
     let expr = rebuilt_child::<C, V>(alloc, expr, values)?;
     let attr = attr.clone()?;
@@ -319,8 +319,8 @@ fn extended_has_with<C: TypeCheck, V: SubstituteValue>(
     attrs: &NonEmpty<RcStr>,
     values: &HashMap<RcStr, V>,
 ) -> Result<Expr<()>, BuildFault<C::Refusal>>
-    ensures tree { IfOk result (λ r. bare r ≡ tree_ops.ext_has_of (substituted (env_of V.bare_type_of V.bare_tree_of values.now) (bare expr.now)) (rc_str_bytes attrs.now.head) (further attrs.now)) }
-    ensures refused { Refuses C.types_of (first_refusal C.refuses (env_of V.bare_type_of V.bare_tree_of values.now) (bare expr.now)) result }
+    ensures tree { IfOk result (λ r. bare_expr r ≡ tree_ops.ext_has_of (substituted (env_of V.bare_type_of V.bare_expr_of values.now) (bare_expr expr.now)) (rc_str_bytes attrs.now.head) (further attrs.now)) }
+    ensures refused { Refuses C.types_of (first_refusal C.refuses (env_of V.bare_type_of V.bare_expr_of values.now) (bare_expr expr.now)) result }
 {
     let expr = rebuilt::<C, V>(alloc, expr, values)?;
     Ok(Expr::extended_has_attr(alloc, expr, attrs.clone(alloc)?)?)
@@ -334,8 +334,8 @@ fn like_with<C: TypeCheck, V: SubstituteValue>(
     pattern: &Pattern,
     values: &HashMap<RcStr, V>,
 ) -> Result<Expr<()>, BuildFault<C::Refusal>>
-    ensures tree { IfOk result (λ r. bare r ≡ tree_ops.like_of (substituted (env_of V.bare_type_of V.bare_tree_of values.now) (bare expr.now.value)) pattern.now) }
-    ensures refused { Refuses C.types_of (first_refusal C.refuses (env_of V.bare_type_of V.bare_tree_of values.now) (bare expr.now.value)) result }
+    ensures tree { IfOk result (λ r. bare_expr r ≡ tree_ops.like_of (substituted (env_of V.bare_type_of V.bare_expr_of values.now) (bare_expr expr.now.value)) pattern.now) }
+    ensures refused { Refuses C.types_of (first_refusal C.refuses (env_of V.bare_type_of V.bare_expr_of values.now) (bare_expr expr.now.value)) result }
 {
     let expr = rebuilt_child::<C, V>(alloc, expr, values)?;
     let pattern = pattern.clone(alloc)?;
@@ -350,8 +350,8 @@ fn is_with<C: TypeCheck, V: SubstituteValue>(
     entity_type: &EntityType,
     values: &HashMap<RcStr, V>,
 ) -> Result<Expr<()>, BuildFault<C::Refusal>>
-    ensures tree { IfOk result (λ r. bare r ≡ tree_ops.is_of (substituted (env_of V.bare_type_of V.bare_tree_of values.now) (bare expr.now.value)) (bare_entity_type entity_type.now)) }
-    ensures refused { Refuses C.types_of (first_refusal C.refuses (env_of V.bare_type_of V.bare_tree_of values.now) (bare expr.now.value)) result }
+    ensures tree { IfOk result (λ r. bare_expr r ≡ tree_ops.is_of (substituted (env_of V.bare_type_of V.bare_expr_of values.now) (bare_expr expr.now.value)) (bare_entity_type entity_type.now)) }
+    ensures refused { Refuses C.types_of (first_refusal C.refuses (env_of V.bare_type_of V.bare_expr_of values.now) (bare_expr expr.now.value)) result }
 {
     let expr = rebuilt_child::<C, V>(alloc, expr, values)?;
     let entity_type = entity_type.clone(alloc)?;
@@ -365,8 +365,8 @@ fn set_with<C: TypeCheck, V: SubstituteValue>(
     members: &Vec<Expr<()>>,
     values: &HashMap<RcStr, V>,
 ) -> Result<Expr<()>, BuildFault<C::Refusal>>
-    ensures tree { IfOk result (λ r. bare r ≡ Set (all_substituted (env_of V.bare_type_of V.bare_tree_of values.now) (bares members.now.items))) }
-    ensures refused { Refuses C.types_of (first_refusal_of_all C.refuses (env_of V.bare_type_of V.bare_tree_of values.now) (bares members.now.items)) result }
+    ensures tree { IfOk result (λ r. bare_expr r ≡ Set (all_substituted (env_of V.bare_type_of V.bare_expr_of values.now) (bare_exprs members.now.items))) }
+    ensures refused { Refuses C.types_of (first_refusal_of_all C.refuses (env_of V.bare_type_of V.bare_expr_of values.now) (bare_exprs members.now.items)) result }
 {
     let members = rebuilt_all::<C, V>(alloc, members, values)?;
     Ok(Expr::set(alloc, members)?)
@@ -379,8 +379,8 @@ fn record_with<C: TypeCheck, V: SubstituteValue>(
     pairs: &BTreeMap<RcStr, Expr<()>>,
     values: &HashMap<RcStr, V>,
 ) -> Result<Expr<()>, BuildFault<C::Refusal>>
-    ensures tree { IfOk result (λ r. bare r ≡ Record (fields_substituted (env_of V.bare_type_of V.bare_tree_of values.now) (fields pairs.now.entries))) }
-    ensures refused { Refuses C.types_of (first_refusal_of_fields C.refuses (env_of V.bare_type_of V.bare_tree_of values.now) (fields pairs.now.entries)) result }
+    ensures tree { IfOk result (λ r. bare_expr r ≡ Record (fields_substituted (env_of V.bare_type_of V.bare_expr_of values.now) (bare_fields pairs.now.entries))) }
+    ensures refused { Refuses C.types_of (first_refusal_of_fields C.refuses (env_of V.bare_type_of V.bare_expr_of values.now) (bare_fields pairs.now.entries)) result }
 {
     let pairs = rebuilt_values::<C, V>(alloc, pairs, values)?;
     Ok(Expr::record_arc(Rc::new(alloc, pairs)?))
@@ -392,8 +392,8 @@ fn rebuilt_all<C: TypeCheck, V: SubstituteValue>(
     members: &Vec<Expr<()>>,
     values: &HashMap<RcStr, V>,
 ) -> Result<Vec<Expr<()>>, BuildFault<C::Refusal>>
-    ensures tree { IfOk result (λ r. bares r.items ≡ all_substituted (env_of V.bare_type_of V.bare_tree_of values.now) (bares members.now.items)) }
-    ensures refused { Refuses C.types_of (first_refusal_of_all C.refuses (env_of V.bare_type_of V.bare_tree_of values.now) (bares members.now.items)) result }
+    ensures tree { IfOk result (λ r. bare_exprs r.items ≡ all_substituted (env_of V.bare_type_of V.bare_expr_of values.now) (bare_exprs members.now.items)) }
+    ensures refused { Refuses C.types_of (first_refusal_of_all C.refuses (env_of V.bare_type_of V.bare_expr_of values.now) (bare_exprs members.now.items)) result }
 {
     let mut done = Vec::with_capacity(alloc, members.len())?;
     for member in members {
@@ -408,8 +408,8 @@ fn rebuilt_values<C: TypeCheck, V: SubstituteValue>(
     pairs: &BTreeMap<RcStr, Expr<()>>,
     values: &HashMap<RcStr, V>,
 ) -> Result<BTreeMap<RcStr, Expr<()>>, BuildFault<C::Refusal>>
-    ensures tree { IfOk result (λ r. fields r.entries ≡ fields_substituted (env_of V.bare_type_of V.bare_tree_of values.now) (fields pairs.now.entries)) }
-    ensures refused { Refuses C.types_of (first_refusal_of_fields C.refuses (env_of V.bare_type_of V.bare_tree_of values.now) (fields pairs.now.entries)) result }
+    ensures tree { IfOk result (λ r. bare_fields r.entries ≡ fields_substituted (env_of V.bare_type_of V.bare_expr_of values.now) (bare_fields pairs.now.entries)) }
+    ensures refused { Refuses C.types_of (first_refusal_of_fields C.refuses (env_of V.bare_type_of V.bare_expr_of values.now) (bare_fields pairs.now.entries)) result }
 {
     let mut done = BTreeMap::new(alloc);
     for (key, value) in pairs.iter() {

@@ -2,8 +2,8 @@
 ghost use Rattle.std.specs.Prelude.{None};
 ghost use Rattle.cedar_terms.specs.Types.{bare_type};
 ghost use Rattle.cedar_terms.specs.Unknowns.{bare_unknown};
-ghost use Rattle.cedar_builders.specs.Clash.{TwoTypes, Refusals, difference, mismatch};
-ghost use Rattle.cedar_exprs.specs.Typed.{clash_types, no_clash, Refuses};
+ghost use Rattle.cedar_builders.specs.TypeClash.{TwoTypes, Refusals, difference, mismatch};
+ghost use Rattle.cedar_exprs.specs.Refusals.{clash_types, no_clash, Refuses};
 
 use crate::restricted::SubstituteValue;
 use cedar_builders::BuildFault;

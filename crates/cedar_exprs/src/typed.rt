@@ -1,11 +1,11 @@
 //! Substitution that compares the type of each value with the annotation of the unknown that it replaces.
 ghost use Rattle.std.specs.Prelude.{◌≡◌, None, Ok, IfOk, IfErr, OnOk};
-ghost use Rattle.cedar_builders.specs.Clash.{clash};
+ghost use Rattle.cedar_builders.specs.TypeClash.{clash};
 ghost use Rattle.cedar_builders.specs.Environment.{fold};
 ghost use Rattle.cedar_builders.specs.Trees.{tree_ops};
-ghost use Rattle.cedar_exprs.specs.View.{bare};
-ghost use Rattle.cedar_exprs.specs.Restricted.{env_of};
-ghost use Rattle.cedar_exprs.specs.Typed.{types_of, IsClashError};
+ghost use Rattle.cedar_exprs.specs.BareExpr.{bare_expr};
+ghost use Rattle.cedar_exprs.specs.RestrictedExprs.{env_of};
+ghost use Rattle.cedar_exprs.specs.Refusals.{types_of, IsClashError};
 
 use crate::expr::Expr;
 use crate::restricted::SubstituteValue;
@@ -67,9 +67,9 @@ impl Expr<()> {
         alloc: Global,
         values: &HashMap<RcStr, V>,
     ) -> Result<Expr<()>, SubstitutionError>
-        ensures substituted { IfOk result (λ e. fold tree_ops (env_of V.bare_type_of V.bare_tree_of values.now) (bare self.now) ≡ Ok (bare e)) }
-        ensures passed { OnOk result (clash (env_of V.bare_type_of V.bare_tree_of values.now) (bare self.now) ≡ None) }
-        ensures refused { IfErr result (IsClashError (clash (env_of V.bare_type_of V.bare_tree_of values.now) (bare self.now))) }
+        ensures substituted { IfOk result (λ e. fold tree_ops (env_of V.bare_type_of V.bare_expr_of values.now) (bare_expr self.now) ≡ Ok (bare_expr e)) }
+        ensures passed { OnOk result (clash (env_of V.bare_type_of V.bare_expr_of values.now) (bare_expr self.now) ≡ None) }
+        ensures refused { IfErr result (IsClashError (clash (env_of V.bare_type_of V.bare_expr_of values.now) (bare_expr self.now))) }
     {
         clash_by_children();
         substituted_by_fold();

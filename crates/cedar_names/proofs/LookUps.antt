@@ -6,14 +6,14 @@ use Rattle.std.specs.List.{list_any, find, position_or_len}
 use Rattle.cedar_names.specs.declared.name.InternalName.{InternalName}
 use Rattle.cedar_names.specs.Names.{BareName}
 use Rattle.cedar_names.specs.NameOrder.{name_cmp, name_ties}
-use Rattle.cedar_names.specs.Bare.{bare}
+use Rattle.cedar_names.specs.InternalNames.{bare_internal_name}
 use Rattle.cedar_names.specs.Resolution.{has_name}
 use Rattle.std.proofs.lemmas.List.Quantifiers.{position-Some}
 use Rattle.std.proofs.lemmas.Bool.Decides.{nat_tests}
 
-pub has_name-looked_up : (ks : List InternalName) (n : BareName) → list_any (λ k. is_eq (name_cmp n (bare k))) ks ≡ has_name ks n
+pub has_name-looked_up : (ks : List InternalName) (n : BareName) → list_any (λ k. is_eq (name_cmp n (bare_internal_name k))) ks ≡ has_name ks n
 has_name-looked_up [] n = refl
-has_name-looked_up (k ∷ ks) n = λ i. sym (name_ties n (bare k)) i || has_name-looked_up ks n i
+has_name-looked_up (k ∷ ks) n = λ i. sym (name_ties n (bare_internal_name k)) i || has_name-looked_up ks n i
 
 test_failed : (b : Bool) (x : ℕ) → cond b (Some x) None ≡ None → b ≡ false
 test_failed true x e = cc

@@ -3,7 +3,7 @@ pub mod Names
 pub mod NameOrder
 pub mod Place
 pub mod Texts
-pub mod Bare
+pub mod InternalNames
 pub mod Readers
 pub mod PlainNames
 pub mod Slots

@@ -6,19 +6,19 @@ use Rattle.cedar_names.specs.declared.raw_name.ConditionalName.{ConditionalName}
 use Rattle.cedar_names.specs.declared.raw_name.ReferenceType.{ReferenceType}
 use Rattle.cedar_names.specs.Place.{Place}
 use Rattle.cedar_names.specs.Names.{BareName, within, unqualified}
-use Rattle.cedar_names.specs.Bare.{bare, place_of}
+use Rattle.cedar_names.specs.InternalNames.{bare_internal_name, internal_name_place}
 
 -- the raw name as it is written
 abbrev pub written : RawName → InternalName
 written r = r.0
 
 -- a raw name without its place
-abbrev pub bare_of_raw : RawName → BareName
-bare_of_raw r = bare (written r)
+abbrev pub bare_raw_name : RawName → BareName
+bare_raw_name r = bare_internal_name (written r)
 
 -- its place, if it has one
-abbrev pub place_of_raw : RawName → Option Place
-place_of_raw r = place_of (written r)
+abbrev pub raw_name_place : RawName → Option Place
+raw_name_place r = internal_name_place (written r)
 
 -- the possibilities of a path and a basename in a namespace: within it and as written, or as written where the path is not empty
 abbrev pub possible_within : List (List ℕ) → List ℕ → BareName → List BareName
@@ -45,6 +45,6 @@ kind_of c = c.reference_type
 
 -- two references have the same raw name, possibilities in order and kind (`ConditionalName` in `raw_name.rs`)
 pub record IsSameReference (c d : ConditionalName) : Type 0 where
-  pub raw : bare_of_raw (raw_of c) ≡ bare_of_raw (raw_of d)
-  pub possibilities : map bare (possibilities_of c) ≡ map bare (possibilities_of d)
+  pub raw : bare_raw_name (raw_of c) ≡ bare_raw_name (raw_of d)
+  pub possibilities : map bare_internal_name (possibilities_of c) ≡ map bare_internal_name (possibilities_of d)
   pub kind : kind_of c ≡ kind_of d

@@ -3,18 +3,18 @@ use Rattle.std.specs.Prelude.{◌≡◌, ℕ, List, Option, None, IsTrue, ⊤}
 use Rattle.cedar_names.specs.Place.{Place}
 use Rattle.cedar_names.specs.Grammar.{is_reserved}
 use Rattle.cedar_names.specs.Names.{BareName, IsNameOf, has_reserved, unqualified}
-use Rattle.cedar_names.specs.Bare.{bare, place_of, IsWholeOf}
+use Rattle.cedar_names.specs.InternalNames.{bare_internal_name, internal_name_place, IsWholeOf}
 use Rattle.cedar_names.specs.declared.err.ParseErrors.{ParseErrors}
 use Rattle.cedar_names.specs.declared.err.ParseErrors.TheVariants.{NotNormalized, Reserved, Memory}
 use Rattle.cedar_names.specs.declared.err.ReservedNameError.{ReservedNameError}
 
 -- the name that the error holds
 abbrev pub refused_name : ReservedNameError → BareName
-refused_name e = bare e.name
+refused_name e = bare_internal_name e.name
 
 -- the place of that name
 abbrev pub refused_place : ReservedNameError → Option Place
-refused_place e = place_of e.name
+refused_place e = internal_name_place e.name
 
 -- the error holds the name with this text, which has the component `__cedar`, and the place of the whole text
 -- (`ReservedNameError` in `name.rs`, after RFC 52)

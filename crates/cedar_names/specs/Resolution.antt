@@ -7,11 +7,11 @@ use Rattle.cedar_names.specs.declared.raw_name.ReferenceType.{ReferenceType}
 use Rattle.cedar_names.specs.declared.raw_name.ReferenceType.TheVariants.{Common, Entity, CommonOrEntity}
 use Rattle.cedar_names.specs.Names.{BareName}
 use Rattle.cedar_names.specs.NameOrder.{name_eq}
-use Rattle.cedar_names.specs.Bare.{bare}
+use Rattle.cedar_names.specs.InternalNames.{bare_internal_name}
 
 -- one of the names is this one, whatever its place
 abbrev pub has_name : List InternalName → BareName → Bool
-has_name names n = list_any (λ m. name_eq n (bare m)) names
+has_name names n = list_any (λ m. name_eq n (bare_internal_name m)) names
 
 -- the name is declared as a common type
 abbrev pub is_common : AllDefs → BareName → Bool
@@ -29,4 +29,4 @@ is_declared d CommonOrEntity n = is_common d n || is_entity d n
 
 -- the first possibility that is declared: an earlier one wins, also as an entity type over a later common type
 abbrev pub resolved : AllDefs → ReferenceType → List InternalName → Option InternalName
-resolved d kind possibilities = find (λ n. is_declared d kind (bare n)) possibilities
+resolved d kind possibilities = find (λ n. is_declared d kind (bare_internal_name n)) possibilities

@@ -14,7 +14,7 @@ pub struct AllDefs {
 
 impl AllDefs {
     ghost use Rattle.cedar_names.specs.Names.{BareName};
-    ghost use Rattle.cedar_names.specs.Bare.{bare};
+    ghost use Rattle.cedar_names.specs.InternalNames.{bare_internal_name};
     ghost use Rattle.cedar_names.specs.Resolution.{has_name, is_common, is_entity};
 
     /// The declarations of these names.
@@ -27,14 +27,14 @@ impl AllDefs {
 
     /// Whether the name is declared as a common type.
     pub fn is_defined_as_common(&self, name: &InternalName) -> bool
-        ensures { result ≡ is_common self.now (bare name.now) }
+        ensures { result ≡ is_common self.now (bare_internal_name name.now) }
     {
         self.common.contains(name)
     }
 
     /// Whether the name is declared as an entity type.
     pub fn is_defined_as_entity(&self, name: &InternalName) -> bool
-        ensures { result ≡ is_entity self.now (bare name.now) }
+        ensures { result ≡ is_entity self.now (bare_internal_name name.now) }
     {
         self.entity.contains(name)
     }

@@ -14,13 +14,13 @@ pub struct ReservedNameError {
 }
 
 impl ReservedNameError {
-    ghost use Rattle.cedar_names.specs.Bare.{bare, place_of};
+    ghost use Rattle.cedar_names.specs.InternalNames.{bare_internal_name, internal_name_place};
     ghost use Rattle.cedar_names.specs.Readers.{refused_name, refused_place};
 
     /// The name that was refused.
     pub fn name(&self) -> &InternalName
-        ensures name { bare result.now ≡ refused_name self.now }
-        ensures place { place_of result.now ≡ refused_place self.now }
+        ensures name { bare_internal_name result.now ≡ refused_name self.now }
+        ensures place { internal_name_place result.now ≡ refused_place self.now }
     {
         &self.name
     }

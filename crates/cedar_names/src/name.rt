@@ -64,14 +64,14 @@ pub struct InternalName {
 }
 
 impl InternalName {
-    ghost use Rattle.cedar_names.specs.Bare.{bare, bare_now, place_of};
+    ghost use Rattle.cedar_names.specs.InternalNames.{bare_internal_name, bare_internal_name_now, internal_name_place};
     ghost use Rattle.cedar_names.specs.PlainNames.{bare_name_now};
     ghost use Rattle.cedar_names.specs.Names.{has_reserved, qualified, unqualified, within, joined_text};
 
     /// The name with this basename, path and place.
     pub fn new(basename: Id, path: Vec<Id>, loc: Option<Loc>) -> InternalName
-        ensures name { bare result ≡ record { path = path.items; basename = basename } }
-        ensures loc { place_of result ≡ loc }
+        ensures name { bare_internal_name result ≡ record { path = path.items; basename = basename } }
+        ensures loc { internal_name_place result ≡ loc }
     {
         let path = if path.is_empty() { None } else { Some(path) };
         InternalName {
@@ -83,8 +83,8 @@ impl InternalName {
 
     /// The name with no namespace.
     pub fn unqualified_name(id: Id, loc: Option<Loc>) -> InternalName
-        ensures name { bare result ≡ unqualified id }
-        ensures loc { place_of result ≡ loc }
+        ensures name { bare_internal_name result ≡ unqualified id }
+        ensures loc { internal_name_place result ≡ loc }
     {
         InternalName {
             basename: id,
@@ -95,8 +95,8 @@ impl InternalName {
 
     /// The namespace `__cedar`, with no place.
     pub fn cedar(alloc: Global) -> Result<InternalName, AllocError>
-        ensures name { IfOk result (λ n. bare n ≡ unqualified (codes "__cedar")) }
-        ensures loc { IfOk result (λ n. place_of n ≡ None) }
+        ensures name { IfOk result (λ n. bare_internal_name n ≡ unqualified (codes "__cedar")) }
+        ensures loc { IfOk result (λ n. internal_name_place n ≡ None) }
     {
         Ok(InternalName::unqualified_name(Id::reserved(alloc)?, None))
     }
@@ -105,8 +105,8 @@ impl InternalName {
     ///
     /// Any other text is refused as no `Id`.
     pub fn parse_unqualified_name(alloc: Global, s: &str) -> Result<InternalName, ParseErrors>
-        ensures name { IfOk result (λ n. (bare n ≡ unqualified s.now) × IsTrue (is_id s.now)) }
-        ensures loc { IfOk result (λ n. place_of n ≡ None) }
+        ensures name { IfOk result (λ n. (bare_internal_name n ≡ unqualified s.now) × IsTrue (is_id s.now)) }
+        ensures loc { IfOk result (λ n. internal_name_place n ≡ None) }
         ensures refused { IfErr result (λ e. OnReadError e (codes "Id") (is_id s.now ≡ false) (IsNeverReserved s.now)) }
     {
         let id = read_id(alloc, s, "Id")?;
@@ -120,8 +120,8 @@ impl InternalName {
         namespace: InternalName,
         loc: Option<Loc>,
     ) -> Result<InternalName, AllocError>
-        ensures name { IfOk result (λ n. bare n ≡ within (bare namespace) basename) }
-        ensures loc { IfOk result (λ n. place_of n ≡ loc) }
+        ensures name { IfOk result (λ n. bare_internal_name n ≡ within (bare_internal_name namespace) basename) }
+        ensures loc { IfOk result (λ n. internal_name_place n ≡ loc) }
     {
         let InternalName {
             basename: last,
@@ -135,28 +135,28 @@ impl InternalName {
 
     /// Its place, if it has one.
     pub fn loc(&self) -> Option<&Loc>
-        ensures { option_copied result ≡ place_of self.now }
+        ensures { option_copied result ≡ internal_name_place self.now }
     {
         self.loc.as_ref()
     }
 
     /// Its last identifier.
     pub fn basename(&self) -> &Id
-        ensures { result.now ≡ (bare self.now).basename }
+        ensures { result.now ≡ (bare_internal_name self.now).basename }
     {
         &self.basename
     }
 
     /// The identifiers before the last, from the first on.
     pub fn namespace_components(&self) -> slice::Iter<'_, Id>
-        ensures { iter_rest result ≡ (bare self.now).path }
+        ensures { iter_rest result ≡ (bare_internal_name self.now).path }
     {
         self.path().iter()
     }
 
     /// The text of its namespace: `foo::bar` for `foo::bar::baz`, and no text for `baz`.
     pub fn namespace(&self, alloc: Global) -> Result<String, AllocError>
-        ensures { IfOk result (λ text. string_bytes text ≡ joined_text (bare self.now).path) }
+        ensures { IfOk result (λ text. string_bytes text ≡ joined_text (bare_internal_name self.now).path) }
     {
         match self.path().split_first() {
             None => Ok(String::new(alloc)),
@@ -173,8 +173,8 @@ impl InternalName {
         alloc: Global,
         namespace: Option<&InternalName>,
     ) -> Result<InternalName, AllocError>
-        ensures name { IfOk result (λ n. bare n ≡ qualified (bare self.now) (bare_now namespace.entry)) }
-        ensures loc { IfOk result (λ n. place_of n ≡ place_of self.now) }
+        ensures name { IfOk result (λ n. bare_internal_name n ≡ qualified (bare_internal_name self.now) (bare_internal_name_now namespace.entry)) }
+        ensures loc { IfOk result (λ n. internal_name_place n ≡ internal_name_place self.now) }
     {
         match namespace {
             Some(namespace) if self.is_unqualified() => {
@@ -194,8 +194,8 @@ impl InternalName {
         alloc: Global,
         namespace: Option<&Name>,
     ) -> Result<InternalName, AllocError>
-        ensures name { IfOk result (λ n. bare n ≡ qualified (bare self.now) (bare_name_now namespace.entry)) }
-        ensures loc { IfOk result (λ n. place_of n ≡ place_of self.now) }
+        ensures name { IfOk result (λ n. bare_internal_name n ≡ qualified (bare_internal_name self.now) (bare_name_now namespace.entry)) }
+        ensures loc { IfOk result (λ n. internal_name_place n ≡ internal_name_place self.now) }
     {
         match namespace {
             Some(namespace) => self.qualify_with(alloc, Some(namespace.as_ref())),
@@ -205,22 +205,22 @@ impl InternalName {
 
     /// Whether it has no namespace.
     pub fn is_unqualified(&self) -> bool
-        ensures { IsTrue result ↔ ((bare self.now).path ≡ []) }
+        ensures { IsTrue result ↔ ((bare_internal_name self.now).path ≡ []) }
     {
         self.path().is_empty()
     }
 
     /// Whether some component is `__cedar` (RFC 52).
     pub fn is_reserved(&self) -> bool
-        ensures { result ≡ has_reserved (bare self.now) }
+        ensures { result ≡ has_reserved (bare_internal_name self.now) }
     {
         any_reserved(self.path()) || self.basename.is_reserved()
     }
 
     /// A copy.
     pub fn clone(&self, alloc: Global) -> Result<InternalName, AllocError>
-        ensures name { IfOk result (λ n. bare n ≡ bare self.now) }
-        ensures loc { IfOk result (λ n. place_of n ≡ place_of self.now) }
+        ensures name { IfOk result (λ n. bare_internal_name n ≡ bare_internal_name self.now) }
+        ensures loc { IfOk result (λ n. internal_name_place n ≡ internal_name_place self.now) }
     {
         let basename = self.basename.clone(alloc)?;
         let path = clone_path(alloc, self.path())?;
@@ -229,7 +229,7 @@ impl InternalName {
     }
 
     fn path(&self) -> &[Id]
-        ensures { result.now ≡ (bare self.now).path }
+        ensures { result.now ≡ (bare_internal_name self.now).path }
     {
         match &self.path {
             None => &[],
@@ -239,7 +239,7 @@ impl InternalName {
 }
 
 impl FromNormalizedStr for InternalName {
-    ghost use Rattle.cedar_names.specs.Bare.{bare, place_of, IsWholeOf};
+    ghost use Rattle.cedar_names.specs.InternalNames.{bare_internal_name, internal_name_place, IsWholeOf};
     ghost use Rattle.cedar_names.specs.Names.{IsNameOf, IsNameText};
 
     ghost kind = { codes "internal name" };
@@ -248,7 +248,7 @@ impl FromNormalizedStr for InternalName {
 
     ghost forbids = { IsNeverReserved };
 
-    ghost reads = { λ s n. IsNameOf s (bare n) × IsWholeOf s (place_of n) };
+    ghost reads = { λ s n. IsNameOf s (bare_internal_name n) × IsWholeOf s (internal_name_place n) };
 
     fn describe_self() -> &'static str {
         "internal name"
@@ -269,10 +269,10 @@ impl FromNormalizedStr for InternalName {
 }
 
 impl From<Id> for InternalName {
-    ghost use Rattle.cedar_names.specs.Bare.{bare, place_of};
+    ghost use Rattle.cedar_names.specs.InternalNames.{bare_internal_name, internal_name_place};
     ghost use Rattle.cedar_names.specs.Names.{unqualified};
 
-    ghost from_gives = { λ id n. (bare n ≡ unqualified id) × (place_of n ≡ None) };
+    ghost from_gives = { λ id n. (bare_internal_name n ≡ unqualified id) × (internal_name_place n ≡ None) };
 
     fn from(value: Id) -> InternalName {
         InternalName::unqualified_name(value, None)
@@ -282,10 +282,10 @@ impl From<Id> for InternalName {
 impl TryFrom<InternalName> for Id {
     type Error = ();
 
-    ghost use Rattle.cedar_names.specs.Bare.{bare};
+    ghost use Rattle.cedar_names.specs.InternalNames.{bare_internal_name};
     ghost use Rattle.cedar_names.specs.Names.{unqualified};
 
-    ghost try_from_gives = { λ n r. MatchResult r (λ id. bare n ≡ unqualified id) (λ _. (bare n).path ≢ []) };
+    ghost try_from_gives = { λ n r. MatchResult r (λ id. bare_internal_name n ≡ unqualified id) (λ _. (bare_internal_name n).path ≢ []) };
 
     fn try_from(value: InternalName) -> Result<Id, ()> {
         if value.is_unqualified() {
@@ -297,12 +297,12 @@ impl TryFrom<InternalName> for Id {
 }
 
 impl PartialEq for InternalName {
-    ghost use Rattle.cedar_names.specs.Bare.{bare};
+    ghost use Rattle.cedar_names.specs.InternalNames.{bare_internal_name};
     ghost use Rattle.cedar_names.specs.NameOrder.{name_eq, name_eq_equiv};
 
-    ghost eq = { on bare name_eq };
+    ghost eq = { on bare_internal_name name_eq };
 
-    ghost laws = { partial_equiv_from_equiv (on_equiv bare name_eq_equiv) };
+    ghost laws = { partial_equiv_from_equiv (on_equiv bare_internal_name name_eq_equiv) };
 
     fn eq(&self, other: &InternalName) -> bool {
         self.basename == other.basename && self.path() == other.path()
@@ -310,19 +310,19 @@ impl PartialEq for InternalName {
 }
 
 impl Eq for InternalName {
-    ghost use Rattle.cedar_names.specs.Bare.{bare};
+    ghost use Rattle.cedar_names.specs.InternalNames.{bare_internal_name};
     ghost use Rattle.cedar_names.specs.NameOrder.{name_eq_equiv};
 
-    ghost laws = { on_equiv bare name_eq_equiv };
+    ghost laws = { on_equiv bare_internal_name name_eq_equiv };
 }
 
 impl PartialOrd for InternalName {
-    ghost use Rattle.cedar_names.specs.Bare.{bare};
+    ghost use Rattle.cedar_names.specs.InternalNames.{bare_internal_name};
     ghost use Rattle.cedar_names.specs.NameOrder.{name_cmp, name_po};
 
-    ghost partial_cmp = { as_partial_cmp (on bare name_cmp) };
+    ghost partial_cmp = { as_partial_cmp (on bare_internal_name name_cmp) };
 
-    ghost laws = { on_po bare name_po };
+    ghost laws = { on_po bare_internal_name name_po };
 
     fn partial_cmp(&self, other: &InternalName) -> Option<Ordering> {
         Some(self.cmp(other))
@@ -330,16 +330,16 @@ impl PartialOrd for InternalName {
 }
 
 impl Ord for InternalName {
-    ghost use Rattle.cedar_names.specs.Bare.{bare};
+    ghost use Rattle.cedar_names.specs.InternalNames.{bare_internal_name};
     ghost use Rattle.cedar_names.specs.NameOrder.{name_cmp, name_cmp_total, name_ties};
 
-    ghost cmp = { on bare name_cmp };
+    ghost cmp = { on bare_internal_name name_cmp };
 
-    ghost total = { on_total bare name_cmp_total };
+    ghost total = { on_total bare_internal_name name_cmp_total };
 
     ghost matches_partial_cmp = { λ _ _. refl };
 
-    ghost matches_eq = { λ m n. name_ties (bare m) (bare n) };
+    ghost matches_eq = { λ m n. name_ties (bare_internal_name m) (bare_internal_name n) };
 
     fn cmp(&self, other: &InternalName) -> Ordering {
         self.basename
@@ -349,12 +349,12 @@ impl Ord for InternalName {
 }
 
 impl Hash for InternalName {
-    ghost use Rattle.cedar_names.specs.Bare.{bare};
+    ghost use Rattle.cedar_names.specs.InternalNames.{bare_internal_name};
     ghost use Rattle.cedar_names.specs.NameOrder.{name_fed, name_fed-alike};
 
-    ghost hash_input = { λ n. name_fed (bare n) };
+    ghost hash_input = { λ n. name_fed (bare_internal_name n) };
 
-    ghost respects_eq = { λ m n h. name_fed-alike (bare m) (bare n) h };
+    ghost respects_eq = { λ m n h. name_fed-alike (bare_internal_name m) (bare_internal_name n) h };
 
     fn hash<H: Hasher>(&self, state: &mut H) {
         self.basename.hash(state);
@@ -363,10 +363,10 @@ impl Hash for InternalName {
 }
 
 impl fmt::Display for InternalName {
-    ghost use Rattle.cedar_names.specs.Bare.{bare};
+    ghost use Rattle.cedar_names.specs.InternalNames.{bare_internal_name};
     ghost use Rattle.cedar_names.specs.Names.{name_text};
 
-    ghost output = { λ n. Some (name_text (bare n)) };
+    ghost output = { λ n. Some (name_text (bare_internal_name n)) };
 
     fn fmt<W: fmt::Write>(&self, f: &mut fmt::Formatter<W>) -> fmt::Result {
         for part in self.path() {

@@ -1,6 +1,6 @@
 // Names without the component `__cedar`.
 ghost use Rattle.std.specs.Prelude.{◌≡◌, false};
-ghost use Rattle.cedar_names.specs.Bare.{bare};
+ghost use Rattle.cedar_names.specs.InternalNames.{bare_internal_name};
 ghost use Rattle.cedar_names.specs.Names.{has_reserved};
 
 use crate::err::{ParseErrors, ReservedNameError};
@@ -21,25 +21,25 @@ use std::hash::{Hash, Hasher};
 #[derive(Debug, Drop)]
 pub struct Name {
     name: InternalName,
-    ghost not_reserved: { has_reserved (bare name) ≡ false },
+    ghost not_reserved: { has_reserved (bare_internal_name name) ≡ false },
 }
 
 impl Name {
     ghost use Rattle.std.specs.Prelude.{[], IfOk, IfErr, IsTrue, None, codes, ◌↔◌};
     ghost use Rattle.std.specs.Option.{option_copied};
-    ghost use Rattle.cedar_names.specs.Bare.{bare_now, place_of};
+    ghost use Rattle.cedar_names.specs.InternalNames.{bare_internal_name_now, internal_name_place};
     ghost use Rattle.cedar_names.specs.Grammar.{is_id};
     ghost use Rattle.cedar_names.specs.Names.{qualified, unqualified};
-    ghost use Rattle.cedar_names.specs.PlainNames.{bare_of_name, place_of_name, bare_name_now};
+    ghost use Rattle.cedar_names.specs.PlainNames.{bare_name, name_place, bare_name_now};
     ghost use Rattle.cedar_names.specs.Readers.{OnReadError, IsReservedId};
 
     /// The name of one identifier with this text, with no place.
     ///
     /// Any other text is refused as no `Id`, and `__cedar` as reserved.
     pub fn parse_unqualified_name(alloc: Global, s: &str) -> Result<Name, ParseErrors>
-        ensures name { IfOk result (λ n. (bare_of_name n ≡ unqualified s.now) × IsTrue (is_id s.now)) }
-        ensures allowed { IfOk result (λ n. has_reserved (bare_of_name n) ≡ false) }
-        ensures loc { IfOk result (λ n. place_of_name n ≡ None) }
+        ensures name { IfOk result (λ n. (bare_name n ≡ unqualified s.now) × IsTrue (is_id s.now)) }
+        ensures allowed { IfOk result (λ n. has_reserved (bare_name n) ≡ false) }
+        ensures loc { IfOk result (λ n. name_place n ≡ None) }
         ensures refused { IfErr result (λ e. OnReadError e (codes "Id") (is_id s.now ≡ false) (IsReservedId s.now)) }
     {
         let name = InternalName::parse_unqualified_name(alloc, s)?;
@@ -48,8 +48,8 @@ impl Name {
 
     /// The name with no namespace and no place.
     pub fn unqualified_name(id: UnreservedId) -> Name
-        ensures name { bare_of_name result ≡ unqualified id }
-        ensures loc { place_of_name result ≡ None }
+        ensures name { bare_name result ≡ unqualified id }
+        ensures loc { name_place result ≡ None }
     {
         Name {
             name: InternalName::unqualified_name(Id::from(id), None),
@@ -58,14 +58,14 @@ impl Name {
 
     /// Its last identifier, borrowed.
     pub fn basename_as_ref(&self) -> &Id
-        ensures { result.now ≡ (bare_of_name self.now).basename }
+        ensures { result.now ≡ (bare_name self.now).basename }
     {
         self.name.basename()
     }
 
     /// A copy of its last identifier.
     pub fn basename(&self, alloc: Global) -> Result<UnreservedId, AllocError>
-        ensures { IfOk result (λ id. id ≡ (bare_of_name self.now).basename) }
+        ensures { IfOk result (λ id. id ≡ (bare_name self.now).basename) }
     {
         let id = self.basename_as_ref().clone(alloc)?;
         Ok(UnreservedId::from_unreserved(id))
@@ -73,7 +73,7 @@ impl Name {
 
     /// Whether it has no namespace.
     pub fn is_unqualified(&self) -> bool
-        ensures { IsTrue result ↔ ((bare_of_name self.now).path ≡ []) }
+        ensures { IsTrue result ↔ ((bare_name self.now).path ≡ []) }
     {
         self.name.is_unqualified()
     }
@@ -85,8 +85,8 @@ impl Name {
         alloc: Global,
         namespace: Option<&InternalName>,
     ) -> Result<InternalName, AllocError>
-        ensures name { IfOk result (λ n. bare n ≡ qualified (bare_of_name self.now) (bare_now namespace.entry)) }
-        ensures loc { IfOk result (λ n. place_of n ≡ place_of_name self.now) }
+        ensures name { IfOk result (λ n. bare_internal_name n ≡ qualified (bare_name self.now) (bare_internal_name_now namespace.entry)) }
+        ensures loc { IfOk result (λ n. internal_name_place n ≡ name_place self.now) }
     {
         self.name.qualify_with(alloc, namespace)
     }
@@ -98,8 +98,8 @@ impl Name {
         alloc: Global,
         namespace: Option<&Name>,
     ) -> Result<Name, AllocError>
-        ensures name { IfOk result (λ n. bare_of_name n ≡ qualified (bare_of_name self.now) (bare_name_now namespace.entry)) }
-        ensures loc { IfOk result (λ n. place_of_name n ≡ place_of_name self.now) }
+        ensures name { IfOk result (λ n. bare_name n ≡ qualified (bare_name self.now) (bare_name_now namespace.entry)) }
+        ensures loc { IfOk result (λ n. name_place n ≡ name_place self.now) }
     {
         let name = self.name.qualify_with_name(alloc, namespace)?;
         Ok(Name { name })
@@ -107,15 +107,15 @@ impl Name {
 
     /// Its place, if it has one.
     pub fn loc(&self) -> Option<&Loc>
-        ensures { option_copied result ≡ place_of_name self.now }
+        ensures { option_copied result ≡ name_place self.now }
     {
         self.name.loc()
     }
 
     /// A copy.
     pub fn clone(&self, alloc: Global) -> Result<Name, AllocError>
-        ensures name { IfOk result (λ n. bare_of_name n ≡ bare_of_name self.now) }
-        ensures loc { IfOk result (λ n. place_of_name n ≡ place_of_name self.now) }
+        ensures name { IfOk result (λ n. bare_name n ≡ bare_name self.now) }
+        ensures loc { IfOk result (λ n. name_place n ≡ name_place self.now) }
     {
         let name = self.name.clone(alloc)?;
         Ok(Name { name })
@@ -124,9 +124,9 @@ impl Name {
 
 impl FromNormalizedStr for Name {
     ghost use Rattle.std.specs.Prelude.{codes};
-    ghost use Rattle.cedar_names.specs.Bare.{IsWholeOf};
+    ghost use Rattle.cedar_names.specs.InternalNames.{IsWholeOf};
     ghost use Rattle.cedar_names.specs.Names.{IsNameOf, IsNameText};
-    ghost use Rattle.cedar_names.specs.PlainNames.{bare_of_name, place_of_name};
+    ghost use Rattle.cedar_names.specs.PlainNames.{bare_name, name_place};
     ghost use Rattle.cedar_names.specs.Readers.{IsReservedName};
 
     ghost kind = { codes "Name" };
@@ -135,7 +135,7 @@ impl FromNormalizedStr for Name {
 
     ghost forbids = { IsReservedName };
 
-    ghost reads = { λ s n. IsNameOf s (bare_of_name n) × (has_reserved (bare_of_name n) ≡ false) × IsWholeOf s (place_of_name n) };
+    ghost reads = { λ s n. IsNameOf s (bare_name n) × (has_reserved (bare_name n) ≡ false) × IsWholeOf s (name_place n) };
 
     fn describe_self() -> &'static str {
         "Name"
@@ -165,9 +165,9 @@ impl AsRef<InternalName> for Name {
 impl From<UnreservedId> for Name {
     ghost use Rattle.std.specs.Prelude.{None};
     ghost use Rattle.cedar_names.specs.Names.{unqualified};
-    ghost use Rattle.cedar_names.specs.PlainNames.{bare_of_name, place_of_name};
+    ghost use Rattle.cedar_names.specs.PlainNames.{bare_name, name_place};
 
-    ghost from_gives = { λ id n. (bare_of_name n ≡ unqualified id) × (place_of_name n ≡ None) };
+    ghost from_gives = { λ id n. (bare_name n ≡ unqualified id) × (name_place n ≡ None) };
 
     fn from(value: UnreservedId) -> Name {
         Name::unqualified_name(value)
@@ -178,11 +178,11 @@ impl TryFrom<InternalName> for Name {
     type Error = ReservedNameError;
 
     ghost use Rattle.std.specs.Prelude.{MatchResult, true};
-    ghost use Rattle.cedar_names.specs.Bare.{place_of};
+    ghost use Rattle.cedar_names.specs.InternalNames.{internal_name_place};
     ghost use Rattle.cedar_names.specs.PlainNames.{internal};
     ghost use Rattle.cedar_names.specs.Readers.{refused_name, refused_place};
 
-    ghost try_from_gives = { λ n r. MatchResult r (λ m. (has_reserved (bare n) ≡ false) × (internal m ≡ n)) (λ e. (has_reserved (bare n) ≡ true) × (refused_name e ≡ bare n) × (refused_place e ≡ place_of n)) };
+    ghost try_from_gives = { λ n r. MatchResult r (λ m. (has_reserved (bare_internal_name n) ≡ false) × (internal m ≡ n)) (λ e. (has_reserved (bare_internal_name n) ≡ true) × (refused_name e ≡ bare_internal_name n) × (refused_place e ≡ internal_name_place n)) };
 
     fn try_from(name: InternalName) -> Result<Name, ReservedNameError> {
         if name.is_reserved() {
@@ -207,9 +207,9 @@ impl TryFrom<Name> for UnreservedId {
 
     ghost use Rattle.std.specs.Prelude.{MatchResult, [], ◌≢◌};
     ghost use Rattle.cedar_names.specs.Names.{unqualified};
-    ghost use Rattle.cedar_names.specs.PlainNames.{bare_of_name};
+    ghost use Rattle.cedar_names.specs.PlainNames.{bare_name};
 
-    ghost try_from_gives = { λ n r. MatchResult r (λ id. bare_of_name n ≡ unqualified id) (λ _. (bare_of_name n).path ≢ []) };
+    ghost try_from_gives = { λ n r. MatchResult r (λ id. bare_name n ≡ unqualified id) (λ _. (bare_name n).path ≢ []) };
 
     fn try_from(value: Name) -> Result<UnreservedId, ()> {
         let id = Id::try_from(value.name)?;
@@ -221,11 +221,11 @@ impl PartialEq for Name {
     ghost use Rattle.std.specs.Ordering.{on};
     ghost use Rattle.std.specs.Cmp.{partial_equiv_from_equiv, on_equiv};
     ghost use Rattle.cedar_names.specs.NameOrder.{name_eq, name_eq_equiv};
-    ghost use Rattle.cedar_names.specs.PlainNames.{bare_of_name};
+    ghost use Rattle.cedar_names.specs.PlainNames.{bare_name};
 
-    ghost eq = { on bare_of_name name_eq };
+    ghost eq = { on bare_name name_eq };
 
-    ghost laws = { partial_equiv_from_equiv (on_equiv bare_of_name name_eq_equiv) };
+    ghost laws = { partial_equiv_from_equiv (on_equiv bare_name name_eq_equiv) };
 
     fn eq(&self, other: &Name) -> bool {
         self.name == other.name
@@ -235,20 +235,20 @@ impl PartialEq for Name {
 impl Eq for Name {
     ghost use Rattle.std.specs.Cmp.{on_equiv};
     ghost use Rattle.cedar_names.specs.NameOrder.{name_eq_equiv};
-    ghost use Rattle.cedar_names.specs.PlainNames.{bare_of_name};
+    ghost use Rattle.cedar_names.specs.PlainNames.{bare_name};
 
-    ghost laws = { on_equiv bare_of_name name_eq_equiv };
+    ghost laws = { on_equiv bare_name name_eq_equiv };
 }
 
 impl PartialOrd for Name {
     ghost use Rattle.std.specs.Ordering.{on, as_partial_cmp};
     ghost use Rattle.std.specs.Cmp.{on_po};
     ghost use Rattle.cedar_names.specs.NameOrder.{name_cmp, name_po};
-    ghost use Rattle.cedar_names.specs.PlainNames.{bare_of_name};
+    ghost use Rattle.cedar_names.specs.PlainNames.{bare_name};
 
-    ghost partial_cmp = { as_partial_cmp (on bare_of_name name_cmp) };
+    ghost partial_cmp = { as_partial_cmp (on bare_name name_cmp) };
 
-    ghost laws = { on_po bare_of_name name_po };
+    ghost laws = { on_po bare_name name_po };
 
     fn partial_cmp(&self, other: &Name) -> Option<Ordering> {
         Some(self.cmp(other))
@@ -260,15 +260,15 @@ impl Ord for Name {
     ghost use Rattle.std.specs.Ordering.{on};
     ghost use Rattle.std.specs.Cmp.{on_total};
     ghost use Rattle.cedar_names.specs.NameOrder.{name_cmp, name_cmp_total, name_ties};
-    ghost use Rattle.cedar_names.specs.PlainNames.{bare_of_name};
+    ghost use Rattle.cedar_names.specs.PlainNames.{bare_name};
 
-    ghost cmp = { on bare_of_name name_cmp };
+    ghost cmp = { on bare_name name_cmp };
 
-    ghost total = { on_total bare_of_name name_cmp_total };
+    ghost total = { on_total bare_name name_cmp_total };
 
     ghost matches_partial_cmp = { λ _ _. refl };
 
-    ghost matches_eq = { λ m n. name_ties (bare_of_name m) (bare_of_name n) };
+    ghost matches_eq = { λ m n. name_ties (bare_name m) (bare_name n) };
 
     fn cmp(&self, other: &Name) -> Ordering {
         self.name.cmp(&other.name)
@@ -277,11 +277,11 @@ impl Ord for Name {
 
 impl Hash for Name {
     ghost use Rattle.cedar_names.specs.NameOrder.{name_fed, name_fed-alike};
-    ghost use Rattle.cedar_names.specs.PlainNames.{bare_of_name};
+    ghost use Rattle.cedar_names.specs.PlainNames.{bare_name};
 
-    ghost hash_input = { λ n. name_fed (bare_of_name n) };
+    ghost hash_input = { λ n. name_fed (bare_name n) };
 
-    ghost respects_eq = { λ m n h. name_fed-alike (bare_of_name m) (bare_of_name n) h };
+    ghost respects_eq = { λ m n h. name_fed-alike (bare_name m) (bare_name n) h };
 
     fn hash<H: Hasher>(&self, state: &mut H) {
         self.name.hash(state);
@@ -291,9 +291,9 @@ impl Hash for Name {
 impl fmt::Display for Name {
     ghost use Rattle.std.specs.Prelude.{Some};
     ghost use Rattle.cedar_names.specs.Names.{name_text};
-    ghost use Rattle.cedar_names.specs.PlainNames.{bare_of_name};
+    ghost use Rattle.cedar_names.specs.PlainNames.{bare_name};
 
-    ghost output = { λ n. Some (name_text (bare_of_name n)) };
+    ghost output = { λ n. Some (name_text (bare_name n)) };
 
     fn fmt<W: fmt::Write>(&self, f: &mut fmt::Formatter<W>) -> fmt::Result {
         self.name.fmt(f)

@@ -3,10 +3,10 @@ ghost use Rattle.std.specs.Prelude.{◌≡◌, ◌↔◌, [], ◌∷◌, All, Is
 ghost use Rattle.std.specs.Option.{option_copied};
 ghost use Rattle.cedar_names.specs.Grammar.{is_id};
 ghost use Rattle.cedar_names.specs.Names.{unqualified, qualified, name_text, IsNameOf, IsNameText};
-ghost use Rattle.cedar_names.specs.Bare.{bare, place_of, bare_now, IsWholeOf};
+ghost use Rattle.cedar_names.specs.InternalNames.{bare_internal_name, internal_name_place, bare_internal_name_now, IsWholeOf};
 ghost use Rattle.cedar_names.specs.PlainNames.{bare_name_now};
 ghost use Rattle.cedar_names.specs.Readers.{OnReadError, IsNeverReserved};
-ghost use Rattle.cedar_names.specs.RawNames.{written, bare_of_raw, place_of_raw, possible_names, raw_of, possibilities_of, kind_of};
+ghost use Rattle.cedar_names.specs.RawNames.{written, bare_raw_name, raw_name_place, possible_names, raw_of, possibilities_of, kind_of};
 ghost use Rattle.cedar_names.specs.Resolution.{is_declared, resolved};
 
 use crate::all_defs::AllDefs;
@@ -30,16 +30,16 @@ pub struct RawName(InternalName);
 impl RawName {
     /// The raw name of one identifier.
     pub fn new(id: Id, loc: Option<Loc>) -> RawName
-        ensures name { bare_of_raw result ≡ unqualified id }
-        ensures loc { place_of_raw result ≡ loc }
+        ensures name { bare_raw_name result ≡ unqualified id }
+        ensures loc { raw_name_place result ≡ loc }
     {
         RawName(InternalName::unqualified_name(id, loc))
     }
 
     /// The raw name of one identifier that is not reserved.
     pub fn new_from_unreserved(id: UnreservedId, loc: Option<Loc>) -> RawName
-        ensures name { bare_of_raw result ≡ unqualified id }
-        ensures loc { place_of_raw result ≡ loc }
+        ensures name { bare_raw_name result ≡ unqualified id }
+        ensures loc { raw_name_place result ≡ loc }
     {
         RawName::new(Id::from(id), loc)
     }
@@ -55,8 +55,8 @@ impl RawName {
     ///
     /// Any other text is refused as no `Id`.
     pub fn parse_unqualified_name(alloc: Global, s: &str) -> Result<RawName, ParseErrors>
-        ensures name { IfOk result (λ r. (bare_of_raw r ≡ unqualified s.now) × IsTrue (is_id s.now)) }
-        ensures loc { IfOk result (λ r. place_of_raw r ≡ None) }
+        ensures name { IfOk result (λ r. (bare_raw_name r ≡ unqualified s.now) × IsTrue (is_id s.now)) }
+        ensures loc { IfOk result (λ r. raw_name_place r ≡ None) }
         ensures refused { IfErr result (λ e. OnReadError e (codes "Id") (is_id s.now ≡ false) (IsNeverReserved s.now)) }
     {
         let name = InternalName::parse_unqualified_name(alloc, s)?;
@@ -65,8 +65,8 @@ impl RawName {
 
     /// The raw name with this text. Any other text is refused as no internal name.
     pub fn from_normalized_str(alloc: Global, s: &str) -> Result<RawName, ParseErrors>
-        ensures name { IfOk result (λ r. IsNameOf s.now (bare_of_raw r)) }
-        ensures loc { IfOk result (λ r. IsWholeOf s.now (place_of_raw r)) }
+        ensures name { IfOk result (λ r. IsNameOf s.now (bare_raw_name r)) }
+        ensures loc { IfOk result (λ r. IsWholeOf s.now (raw_name_place r)) }
         ensures refused { IfErr result (λ e. OnReadError e (codes "internal name") (IsNameText s.now → ⊥) (IsNeverReserved s.now)) }
     {
         let name = InternalName::from_normalized_str(alloc, s)?;
@@ -75,14 +75,14 @@ impl RawName {
 
     /// Whether it is written without a namespace.
     pub fn is_unqualified(&self) -> bool
-        ensures { IsTrue result ↔ ((bare_of_raw self.now).path ≡ []) }
+        ensures { IsTrue result ↔ ((bare_raw_name self.now).path ≡ []) }
     {
         self.0.is_unqualified()
     }
 
     /// Its place, if it has one.
     pub fn loc(&self) -> Option<&Loc>
-        ensures { option_copied result ≡ place_of_raw self.now }
+        ensures { option_copied result ≡ raw_name_place self.now }
     {
         self.0.loc()
     }
@@ -94,8 +94,8 @@ impl RawName {
         alloc: Global,
         ns: Option<&InternalName>,
     ) -> Result<InternalName, AllocError>
-        ensures name { IfOk result (λ n. bare n ≡ qualified (bare_of_raw self.now) (bare_now ns.entry)) }
-        ensures loc { IfOk result (λ n. place_of n ≡ place_of_raw self.now) }
+        ensures name { IfOk result (λ n. bare_internal_name n ≡ qualified (bare_raw_name self.now) (bare_internal_name_now ns.entry)) }
+        ensures loc { IfOk result (λ n. internal_name_place n ≡ raw_name_place self.now) }
     {
         self.0.qualify_with(alloc, ns)
     }
@@ -106,8 +106,8 @@ impl RawName {
         alloc: Global,
         ns: Option<&Name>,
     ) -> Result<InternalName, AllocError>
-        ensures name { IfOk result (λ n. bare n ≡ qualified (bare_of_raw self.now) (bare_name_now ns.entry)) }
-        ensures loc { IfOk result (λ n. place_of n ≡ place_of_raw self.now) }
+        ensures name { IfOk result (λ n. bare_internal_name n ≡ qualified (bare_raw_name self.now) (bare_name_now ns.entry)) }
+        ensures loc { IfOk result (λ n. internal_name_place n ≡ raw_name_place self.now) }
     {
         self.0.qualify_with_name(alloc, ns)
     }
@@ -121,8 +121,8 @@ impl RawName {
         ns: Option<&InternalName>,
         reference_type: ReferenceType,
     ) -> Result<ConditionalName, AllocError>
-        ensures possibilities { IfOk result (λ c. map bare (possibilities_of c) ≡ possible_names (bare_of_raw self) (bare_now ns.entry)) }
-        ensures places { IfOk result (λ c. All (λ n. place_of n ≡ place_of_raw self) (possibilities_of c)) }
+        ensures possibilities { IfOk result (λ c. map bare_internal_name (possibilities_of c) ≡ possible_names (bare_raw_name self) (bare_internal_name_now ns.entry)) }
+        ensures places { IfOk result (λ c. All (λ n. internal_name_place n ≡ raw_name_place self) (possibilities_of c)) }
         ensures raw { IfOk result (λ c. raw_of c ≡ self) }
         ensures kind { IfOk result (λ c. kind_of c ≡ reference_type) }
     {
@@ -140,8 +140,8 @@ impl RawName {
 
     /// A copy.
     pub fn clone(&self, alloc: Global) -> Result<RawName, AllocError>
-        ensures name { IfOk result (λ r. bare_of_raw r ≡ bare_of_raw self.now) }
-        ensures loc { IfOk result (λ r. place_of_raw r ≡ place_of_raw self.now) }
+        ensures name { IfOk result (λ r. bare_raw_name r ≡ bare_raw_name self.now) }
+        ensures loc { IfOk result (λ r. raw_name_place r ≡ raw_name_place self.now) }
     {
         let name = self.0.clone(alloc)?;
         Ok(RawName(name))
@@ -149,7 +149,7 @@ impl RawName {
 }
 
 impl fmt::Display for RawName {
-    ghost output = { λ r. Some (name_text (bare_of_raw r)) };
+    ghost output = { λ r. Some (name_text (bare_raw_name r)) };
 
     fn fmt<W: fmt::Write>(&self, f: &mut fmt::Formatter<W>) -> fmt::Result {
         self.0.fmt(f)
@@ -183,8 +183,8 @@ impl ConditionalName {
         name: InternalName,
         reference_type: ReferenceType,
     ) -> Result<ConditionalName, AllocError>
-        ensures possibilities { IfOk result (λ c. map bare (possibilities_of c) ≡ bare name ∷ []) }
-        ensures places { IfOk result (λ c. All (λ n. place_of n ≡ place_of name) (possibilities_of c)) }
+        ensures possibilities { IfOk result (λ c. map bare_internal_name (possibilities_of c) ≡ bare_internal_name name ∷ []) }
+        ensures places { IfOk result (λ c. All (λ n. internal_name_place n ≡ internal_name_place name) (possibilities_of c)) }
         ensures raw { IfOk result (λ c. written (raw_of c) ≡ name) }
         ensures kind { IfOk result (λ c. kind_of c ≡ reference_type) }
     {
@@ -206,7 +206,7 @@ impl ConditionalName {
 
     /// The place of the raw name, if it has one.
     pub fn loc(&self) -> Option<&Loc>
-        ensures { option_copied result ≡ place_of_raw (raw_of self.now) }
+        ensures { option_copied result ≡ raw_name_place (raw_of self.now) }
     {
         self.raw.loc()
     }
@@ -229,10 +229,10 @@ impl ConditionalName {
 
     /// A copy.
     pub fn clone(&self, alloc: Global) -> Result<ConditionalName, AllocError>
-        ensures possibilities { IfOk result (λ c. map bare (possibilities_of c) ≡ map bare (possibilities_of self.now)) }
-        ensures places { IfOk result (λ c. map place_of (possibilities_of c) ≡ map place_of (possibilities_of self.now)) }
-        ensures raw { IfOk result (λ c. bare_of_raw (raw_of c) ≡ bare_of_raw (raw_of self.now)) }
-        ensures raw_place { IfOk result (λ c. place_of_raw (raw_of c) ≡ place_of_raw (raw_of self.now)) }
+        ensures possibilities { IfOk result (λ c. map bare_internal_name (possibilities_of c) ≡ map bare_internal_name (possibilities_of self.now)) }
+        ensures places { IfOk result (λ c. map internal_name_place (possibilities_of c) ≡ map internal_name_place (possibilities_of self.now)) }
+        ensures raw { IfOk result (λ c. bare_raw_name (raw_of c) ≡ bare_raw_name (raw_of self.now)) }
+        ensures raw_place { IfOk result (λ c. raw_name_place (raw_of c) ≡ raw_name_place (raw_of self.now)) }
         ensures kind { IfOk result (λ c. kind_of c ≡ kind_of self.now) }
     {
         let possibilities = clone_names(alloc, &self.possibilities)?;
@@ -245,7 +245,7 @@ impl ConditionalName {
     }
 
     fn first_declared(&self, all_defs: &AllDefs) -> Option<usize>
-        ensures { result ≡ position (λ n. is_declared all_defs.now (kind_of self.now) (bare n)) (possibilities_of self.now) }
+        ensures { result ≡ position (λ n. is_declared all_defs.now (kind_of self.now) (bare_internal_name n)) (possibilities_of self.now) }
     {
         let kind = self.reference_type;
         self.possibilities
@@ -256,7 +256,7 @@ impl ConditionalName {
 
 // Whether the name is declared as what the reference may be.
 fn is_declared_as(all_defs: &AllDefs, kind: ReferenceType, name: &InternalName) -> bool
-    ensures { result ≡ is_declared all_defs.now kind (bare name.now) }
+    ensures { result ≡ is_declared all_defs.now kind (bare_internal_name name.now) }
 {
     match kind {
         ReferenceType::Common => all_defs.is_defined_as_common(name),
@@ -267,8 +267,8 @@ fn is_declared_as(all_defs: &AllDefs, kind: ReferenceType, name: &InternalName) 
 }
 
 fn clone_names(alloc: Global, names: &[InternalName]) -> Result<Vec<InternalName>, AllocError>
-    ensures names { IfOk result (λ copy. map bare copy.items ≡ map bare names.now) }
-    ensures places { IfOk result (λ copy. map place_of copy.items ≡ map place_of names.now) }
+    ensures names { IfOk result (λ copy. map bare_internal_name copy.items ≡ map bare_internal_name names.now) }
+    ensures places { IfOk result (λ copy. map internal_name_place copy.items ≡ map internal_name_place names.now) }
 {
     let mut copy = Vec::new(alloc);
     for name in names {

@@ -2,7 +2,7 @@
 use Rattle.std.proofs.Common.{◌≡◌, List, [], ◌∷◌, ◌++◌, ◌⊎◌, inl, inr, refl, sym, ap, ◌∙◌, length, arith}
 use Rattle.std.specs.Borrow.{Bor}
 use Rattle.std.proofs.lemmas.List.{append-nil}
-use Rattle.cedar_builders.specs.Bare.{Text}
+use Rattle.cedar_builders.specs.BareExpr.{Text}
 use Rattle.cedar_exprs.specs.declared.expr.Expr.{Expr}
 use Rattle.cedar_script.specs.Commands.{key_pairs}
 

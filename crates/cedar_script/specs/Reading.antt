@@ -2,7 +2,7 @@
 use Rattle.std.specs.Prelude.{◌≡◌, ℕ, List, [], ◌∷◌, None, Some, codes}
 use Rattle.std.specs.Str.Parse.{IsNumeral, digits_value, signed_digits_value}
 use Rattle.cedar_names.specs.Names.{IsNameOf}
-use Rattle.cedar_names.specs.PlainNames.{bare_of_name}
+use Rattle.cedar_names.specs.PlainNames.{bare_name}
 use Rattle.cedar_names.specs.Slots.{slot_text}
 use Rattle.cedar_terms.specs.Entities.{bare_entity_type}
 use Rattle.cedar_terms.specs.Literals.{BoolLit, literal_text}
@@ -10,7 +10,7 @@ use Rattle.cedar_terms.specs.Ops.{binary_op_text, var_text}
 use Rattle.cedar_terms.specs.Types.{bare_type, type_text}
 use Rattle.cedar_terms.specs.declared.ops.UnaryOp.{UnaryOp}
 use Rattle.cedar_terms.specs.declared.ops.UnaryOp.TheVariants.{Not, Neg, IsEmpty}
-use Rattle.cedar_builders.specs.Bare.{Text}
+use Rattle.cedar_builders.specs.BareExpr.{Text}
 use Rattle.cedar_script.specs.Commands.{texts_now}
 use Rattle.cedar_script.specs.Words.{WritesLong}
 use Rattle.cedar_script.specs.declared.line.Command.{Command}
@@ -62,7 +62,7 @@ Spells RawAnd ws = Alone (codes "raw-and") ws
 Spells RawOr ws = Alone (codes "raw-or") ws
 Spells (Unary op) ws = Alone (unary_word op) ws
 Spells (Binary op) ws = Alone (binary_op_text op) ws
-Spells (Call name n) ws = WithTwo (codes "call") (λ x y. IsNameOf x (bare_of_name name) × Writes y n) ws
+Spells (Call name n) ws = WithTwo (codes "call") (λ x y. IsNameOf x (bare_name name) × Writes y n) ws
 Spells (Get k) ws = WithOne (codes "get") (λ x. x ≡ k.now) ws
 Spells (Has k) ws = WithOne (codes "has") (λ x. x ≡ k.now) ws
 Spells (ExtHas ks) ws = WithThese (codes "exthas") (ks.head.now ∷ texts_now ks.tail.items) ws

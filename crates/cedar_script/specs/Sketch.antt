@@ -9,7 +9,7 @@ use Rattle.cedar_terms.specs.Ops.{unary_op_text, binary_op_text, var_text}
 use Rattle.cedar_terms.specs.Patterns.{pattern_text}
 use Rattle.cedar_terms.specs.Types.{BareType, type_text}
 use Rattle.cedar_terms.specs.declared.pattern.PatternElem.{PatternElem}
-use Rattle.cedar_builders.specs.Bare.{Text}
+use Rattle.cedar_builders.specs.BareExpr.{Text}
 use Rattle.cedar_builders.specs.Ops.{Ops}
 use Rattle.cedar_script.specs.declared.sketch.SExpression.{SExpression, SExpression-F, fold-SExpression}
 

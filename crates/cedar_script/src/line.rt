@@ -3,7 +3,7 @@ ghost use Rattle.std.specs.Prelude.{◌≡◌, ◌≢◌, ◌^◌, ◌<◌, ◌=
 ghost use Rattle.std.specs.Result.{OkIff};
 ghost use Rattle.std.specs.Str.Parse.{IsNumeral, digits_value, signed_digits_value};
 ghost use Rattle.cedar_names.specs.Names.{IsNameOf, has_reserved};
-ghost use Rattle.cedar_names.specs.PlainNames.{bare_of_name};
+ghost use Rattle.cedar_names.specs.PlainNames.{bare_name};
 ghost use Rattle.cedar_names.specs.Slots.{slot_text};
 ghost use Rattle.cedar_names.specs.declared.slot.SlotId.{SlotId};
 ghost use Rattle.cedar_terms.specs.Ops.{binary_op_text, var_text};
@@ -197,8 +197,8 @@ fn slot(word: &str) -> Result<SlotId, Refusal>
 
 // The name that a word writes in its normalized form.
 fn read_name(alloc: Global, word: &str) -> Result<Name, Refusal>
-    ensures read { IfOk result (λ name. IsNameOf word.now (bare_of_name name)) }
-    ensures allowed { IfOk result (λ name. has_reserved (bare_of_name name) ≡ false) }
+    ensures read { IfOk result (λ name. IsNameOf word.now (bare_name name)) }
+    ensures allowed { IfOk result (λ name. has_reserved (bare_name name) ≡ false) }
     ensures refused { IfErr result (λ e. (e ≡ Refusal.BadLine) ⊎ (e ≡ Refusal.Memory)) }
     ensures bad { IfErr result (λ e. e ≡ Refusal.BadLine → IsNoName word.now) }
 {

@@ -1,15 +1,15 @@
 //! The texts of expressions, in prefix form.
 ghost use Rattle.std.specs.Prelude.{◌≡◌, ◌∷◌, ◌++◌, List, ℕ, IfOk, IfErr, OnOk, None, map, string_bytes, ⊤};
 ghost use Rattle.std.specs.Rc.{rc_str_bytes};
-ghost use Rattle.cedar_names.specs.PlainNames.{bare_of_name};
+ghost use Rattle.cedar_names.specs.PlainNames.{bare_name};
 ghost use Rattle.cedar_names.specs.Names.{name_text};
 ghost use Rattle.cedar_terms.specs.Escape.{quoted};
 ghost use Rattle.cedar_terms.specs.Unknowns.{bare_unknown};
 ghost use Rattle.cedar_builders.specs.Errors.{OnDuplicateKey};
-ghost use Rattle.cedar_builders.specs.Gives.{Gives};
+ghost use Rattle.cedar_builders.specs.Answers.{Gives};
 ghost use Rattle.cedar_builders.specs.Keys.{keys_of, meant_pairs, IsRising, HasRepeat};
 ghost use Rattle.cedar_builders.specs.declared.expression_construction_errors.ExpressionConstructionError.TheVariants as error;
-ghost use Rattle.cedar_exprs.specs.Node.{never};
+ghost use Rattle.cedar_exprs.specs.BuiltNode.{never};
 ghost use Rattle.cedar_script.specs.Sketch.{annotation_texts, listed, pair_text, sketch_ops, spaced, text_of};
 
 use cedar_builders::{
@@ -87,7 +87,7 @@ fn quote(alloc: Global, text: &str) -> Result<SExpression, AllocError>
 
 // The name of a function or a type.
 fn name_atom(alloc: Global, name: &Name) -> Result<SExpression, AllocError>
-    ensures { IfOk result (λ e. text_of e ≡ name_text (bare_of_name name.now)) }
+    ensures { IfOk result (λ e. text_of e ≡ name_text (bare_name name.now)) }
 {
     Ok(SExpression::Atom(format!(in alloc; "{name}")?))
 }
@@ -272,7 +272,7 @@ impl ExprBuilder for Sketch {
         fn_name: Name,
         mut args: Vec<SExpression>,
     ) -> Result<SExpression, BuildFault<Infallible>>
-        ensures { Gives text_of never (sketch_ops.call_of (bare_of_name fn_name) (map text_of args.items)) result }
+        ensures { Gives text_of never (sketch_ops.call_of (bare_name fn_name) (map text_of args.items)) result }
     {
         let mut parts = vec![in alloc; name_atom(alloc, &fn_name)?]?;
         parts.append(&mut args)?;

@@ -1,16 +1,16 @@
 //! The state of a script: a stack of expressions and the bindings of names, and what each command does to them.
 ghost use Rattle.std.specs.Prelude.{◌≡◌, ◌≢◌, ◌∷◌, Ok, None, drop, take, reverse, ◌+◌, ◌<◌, ◌↔◌, OnOk, IfOk, IsErrOf, IfErr, map, string_bytes, vec_len};
 ghost use Rattle.std.specs.Rc.{rc_str_bytes};
-ghost use Rattle.cedar_names.specs.PlainNames.{bare_of_name};
+ghost use Rattle.cedar_names.specs.PlainNames.{bare_name};
 ghost use Rattle.cedar_terms.specs.Literals.{BareLiteral, StringLit, bare_literal};
 ghost use Rattle.cedar_terms.specs.Unknowns.{bare_annotation};
-ghost use Rattle.cedar_builders.specs.Bare.{Lit, Unknown as unknown_tree, And, Or, ExtensionFunctionApp as call_tree, Set as members};
-ghost use Rattle.cedar_builders.specs.Clash.{clash};
+ghost use Rattle.cedar_builders.specs.BareExpr.{Lit, Unknown as unknown_tree, And, Or, ExtensionFunctionApp as call_tree, Set as members};
+ghost use Rattle.cedar_builders.specs.TypeClash.{clash};
 ghost use Rattle.cedar_builders.specs.Environment.{empty, fold};
 ghost use Rattle.cedar_builders.specs.Trees.{tree_ops};
-ghost use Rattle.cedar_exprs.specs.View.{bare, bares};
+ghost use Rattle.cedar_exprs.specs.BareExpr.{bare_expr, bare_exprs};
 ghost use Rattle.cedar_exprs.specs.Keys.{keyed};
-ghost use Rattle.cedar_exprs.specs.Typed.{IsClashError};
+ghost use Rattle.cedar_exprs.specs.Refusals.{IsClashError};
 ghost use Rattle.cedar_script.specs.Commands.{key_pairs, record_made, bound_in, bound_as, texts_now};
 ghost use Rattle.cedar_script.specs.Sketch.{sketch_ops};
 ghost use Rattle.cedar_script.specs.declared.line.Command.{Command};
@@ -177,7 +177,7 @@ impl State {
     fn conditional(&mut self, alloc: Global) -> Shown
         ensures shows { IfOk result (λ shown. shown ≡ None) }
         ensures bindings { bindings_of self.new ≡ bindings_of self.old }
-        ensures made { OnOk result (OfThree (λ a b c e. bare e ≡ tree_ops.if_of (bare a) (bare b) (bare c)) (tops self.old) (tops self.new)) }
+        ensures made { OnOk result (OfThree (λ a b c e. bare_expr e ≡ tree_ops.if_of (bare_expr a) (bare_expr b) (bare_expr c)) (tops self.old) (tops self.new)) }
         ensures depth { OnOk result (depth self.new + 2 ≡ depth self.old) }
         ensures too_few { IsErrOf result Refusal.TooFewExpressions ↔ (depth self.old < 3) }
     {
@@ -191,7 +191,7 @@ impl State {
     fn call(&mut self, alloc: Global, name: Name, count: usize) -> Shown
         ensures shows { IfOk result (λ shown. shown ≡ None) }
         ensures bindings { bindings_of self.new ≡ bindings_of self.old }
-        ensures made { OnOk result (Pushes (λ e. bare e ≡ call_tree (bare_of_name name) (bares (reverse (take count (tops self.old))))) (drop count (tops self.old)) (tops self.new)) }
+        ensures made { OnOk result (Pushes (λ e. bare_expr e ≡ call_tree (bare_name name) (bare_exprs (reverse (take count (tops self.old))))) (drop count (tops self.old)) (tops self.new)) }
         ensures depth { OnOk result (depth self.new + count ≡ depth self.old + 1) }
         ensures too_few { IsErrOf result Refusal.TooFewExpressions ↔ (depth self.old < count) }
     {
@@ -203,7 +203,7 @@ impl State {
     fn set(&mut self, alloc: Global, count: usize) -> Shown
         ensures shows { IfOk result (λ shown. shown ≡ None) }
         ensures bindings { bindings_of self.new ≡ bindings_of self.old }
-        ensures made { OnOk result (Pushes (λ e. bare e ≡ members (bares (reverse (take count (tops self.old))))) (drop count (tops self.old)) (tops self.new)) }
+        ensures made { OnOk result (Pushes (λ e. bare_expr e ≡ members (bare_exprs (reverse (take count (tops self.old))))) (drop count (tops self.old)) (tops self.new)) }
         ensures depth { OnOk result (depth self.new + count ≡ depth self.old + 1) }
         ensures too_few { IsErrOf result Refusal.TooFewExpressions ↔ (depth self.old < count) }
     {
@@ -215,7 +215,7 @@ impl State {
     fn record(&mut self, alloc: Global, keys: Vec<&str>) -> Shown
         ensures shows { IfOk result (λ shown. shown ≡ None) }
         ensures bindings { bindings_of self.new ≡ bindings_of self.old }
-        ensures made { OnOk result (Pushes (λ e. bare e ≡ record_made keys.entry.items (reverse (take (vec_len keys.entry) (tops self.old)))) (drop (vec_len keys.entry) (tops self.old)) (tops self.new)) }
+        ensures made { OnOk result (Pushes (λ e. bare_expr e ≡ record_made keys.entry.items (reverse (take (vec_len keys.entry) (tops self.old)))) (drop (vec_len keys.entry) (tops self.old)) (tops self.new)) }
         ensures depth { OnOk result (depth self.new + vec_len keys.entry ≡ depth self.old + 1) }
         ensures too_few { IsErrOf result Refusal.TooFewExpressions ↔ (depth self.old < vec_len keys.entry) }
     {
@@ -226,7 +226,7 @@ impl State {
     // Takes the top as a value, and binds the name to it.
     fn bind(&mut self, alloc: Global, name: &str) -> Shown
         ensures shows { IfOk result (λ shown. shown ≡ None) }
-        ensures bound { OnOk result (OfTop (λ top. bound_in (bindings_of self.new) name.now ≡ bound_as (bare top)) (tops self.old)) }
+        ensures bound { OnOk result (OfTop (λ top. bound_in (bindings_of self.new) name.now ≡ bound_as (bare_expr top)) (tops self.old)) }
         ensures below { OnOk result (tops self.new ≡ drop 1 (tops self.old)) }
         ensures depth { OnOk result (depth self.new + 1 ≡ depth self.old) }
         ensures too_few { IsErrOf result Refusal.TooFewExpressions ↔ (depth self.old < 1) }
@@ -252,7 +252,7 @@ impl State {
     fn substitute(&mut self, alloc: Global) -> Shown
         ensures shows { IfOk result (λ shown. shown ≡ None) }
         ensures bindings { bindings_of self.new ≡ bindings_of self.old }
-        ensures made { OnOk result (OfOne (λ a e. fold tree_ops (bound_in (bindings_of self.old)) (bare a) ≡ Ok (bare e)) (tops self.old) (tops self.new)) }
+        ensures made { OnOk result (OfOne (λ a e. fold tree_ops (bound_in (bindings_of self.old)) (bare_expr a) ≡ Ok (bare_expr e)) (tops self.old) (tops self.new)) }
         ensures depth { OnOk result (depth self.new ≡ depth self.old) }
         ensures too_few { IsErrOf result Refusal.TooFewExpressions ↔ (depth self.old < 1) }
     {
@@ -265,7 +265,7 @@ impl State {
     fn substitute_typed(&mut self, alloc: Global) -> Shown
         ensures shows { IfOk result (λ shown. shown ≡ None) }
         ensures bindings { bindings_of self.new ≡ bindings_of self.old }
-        ensures made { OnOk result (OfOne (λ a e. (fold tree_ops (bound_in (bindings_of self.old)) (bare a) ≡ Ok (bare e)) × (clash (bound_in (bindings_of self.old)) (bare a) ≡ None)) (tops self.old) (tops self.new)) }
+        ensures made { OnOk result (OfOne (λ a e. (fold tree_ops (bound_in (bindings_of self.old)) (bare_expr a) ≡ Ok (bare_expr e)) × (clash (bound_in (bindings_of self.old)) (bare_expr a) ≡ None)) (tops self.old) (tops self.new)) }
         ensures depth { OnOk result (depth self.new ≡ depth self.old) }
         ensures too_few { IsErrOf result Refusal.TooFewExpressions ↔ (depth self.old < 1) }
     {
@@ -276,16 +276,16 @@ impl State {
 
     // The expression with each name that is bound replaced.
     fn substituted(&self, alloc: Global, expr: &Expr) -> Result<Expr, AllocError>
-        ensures { IfOk result (λ e. fold tree_ops (bound_in (bindings_of self.now)) (bare expr.now) ≡ Ok (bare e)) }
+        ensures { IfOk result (λ e. fold tree_ops (bound_in (bindings_of self.now)) (bare_expr expr.now) ≡ Ok (bare_expr e)) }
     {
         expr.substitute(alloc, &self.bindings)
     }
 
     // The same, if no value has another type than is expected of it.
     fn substituted_typed(&self, alloc: Global, expr: &Expr) -> Result<Expr, SubstitutionError>
-        ensures made { IfOk result (λ e. fold tree_ops (bound_in (bindings_of self.now)) (bare expr.now) ≡ Ok (bare e)) }
-        ensures passed { OnOk result (clash (bound_in (bindings_of self.now)) (bare expr.now) ≡ None) }
-        ensures refused { IfErr result (IsClashError (clash (bound_in (bindings_of self.now)) (bare expr.now))) }
+        ensures made { IfOk result (λ e. fold tree_ops (bound_in (bindings_of self.now)) (bare_expr expr.now) ≡ Ok (bare_expr e)) }
+        ensures passed { OnOk result (clash (bound_in (bindings_of self.now)) (bare_expr expr.now) ≡ None) }
+        ensures refused { IfErr result (IsClashError (clash (bound_in (bindings_of self.now)) (bare_expr expr.now))) }
     {
         expr.substitute_typed(alloc, &self.bindings)
     }
@@ -302,20 +302,20 @@ impl State {
 
 // The text of an expression.
 fn written(alloc: Global, expr: &Expr) -> Result<String, AllocError>
-    ensures { IfOk result (λ text. fold sketch_ops empty (bare expr.now) ≡ Ok (string_bytes text)) }
+    ensures { IfOk result (λ text. fold sketch_ops empty (bare_expr expr.now) ≡ Ok (string_bytes text)) }
 {
     expr.into_expr::<Sketch>(alloc)?.to_text(alloc)
 }
 
 fn string(alloc: Global, text: &str) -> Result<Expr, AllocError>
-    ensures { IfOk result (λ e. bare e ≡ Lit (StringLit text.now)) }
+    ensures { IfOk result (λ e. bare_expr e ≡ Lit (StringLit text.now)) }
 {
     let text = RcStr::from_str(alloc, text)?;
     Ok(Expr::val(Literal::String(text)))
 }
 
 fn unknown(alloc: Global, name: &str, annotation: Option<Type>) -> Result<Expr, AllocError>
-    ensures { IfOk result (λ e. bare e ≡ unknown_tree name.now (bare_annotation annotation)) }
+    ensures { IfOk result (λ e. bare_expr e ≡ unknown_tree name.now (bare_annotation annotation)) }
 {
     let name = RcStr::from_str(alloc, name)?;
     Ok(Expr::unknown(match annotation {
@@ -326,7 +326,7 @@ fn unknown(alloc: Global, name: &str, annotation: Option<Type>) -> Result<Expr, 
 
 // The attribute of an expression.
 fn get(alloc: Global, expr: Expr, attribute: &str) -> Result<Expr, AllocError>
-    ensures { IfOk result (λ e. bare e ≡ tree_ops.get_of (bare expr) attribute.now) }
+    ensures { IfOk result (λ e. bare_expr e ≡ tree_ops.get_of (bare_expr expr) attribute.now) }
 {
     let attribute = RcStr::from_str(alloc, attribute)?;
     Expr::get_attr(alloc, expr, attribute)
@@ -334,7 +334,7 @@ fn get(alloc: Global, expr: Expr, attribute: &str) -> Result<Expr, AllocError>
 
 // The test for an attribute of an expression.
 fn has(alloc: Global, expr: Expr, attribute: &str) -> Result<Expr, AllocError>
-    ensures { IfOk result (λ e. bare e ≡ tree_ops.has_of (bare expr) attribute.now) }
+    ensures { IfOk result (λ e. bare_expr e ≡ tree_ops.has_of (bare_expr expr) attribute.now) }
 {
     let attribute = RcStr::from_str(alloc, attribute)?;
     Expr::has_attr(alloc, expr, attribute)
@@ -342,7 +342,7 @@ fn has(alloc: Global, expr: Expr, attribute: &str) -> Result<Expr, AllocError>
 
 // The test for each attribute in turn.
 fn extended_has(alloc: Global, expr: Expr, attributes: NonEmpty<&str>) -> Result<Expr, AllocError>
-    ensures { IfOk result (λ e. bare e ≡ tree_ops.ext_has_of (bare expr) attributes.entry.head.now (texts_now attributes.entry.tail.items)) }
+    ensures { IfOk result (λ e. bare_expr e ≡ tree_ops.ext_has_of (bare_expr expr) attributes.entry.head.now (texts_now attributes.entry.tail.items)) }
 {
     let head = RcStr::from_str(alloc, attributes.head)?;
     let tail = shared_texts(alloc, &attributes.tail)?;
@@ -361,8 +361,8 @@ fn shared_texts(alloc: Global, texts: &[&str]) -> Result<Vec<RcStr>, AllocError>
 
 // The value that an expression is: a literal.
 fn value_of(expr: Expr) -> Result<Literal, Refusal>
-    ensures value { IfOk result (λ literal. bare expr ≡ Lit (bare_literal literal)) }
-    ensures refused { IfErr result (λ e. (e ≡ Refusal.NotAValue) × ((l : BareLiteral) → bare expr ≢ Lit l)) }
+    ensures value { IfOk result (λ literal. bare_expr expr ≡ Lit (bare_literal literal)) }
+    ensures refused { IfErr result (λ e. (e ≡ Refusal.NotAValue) × ((l : BareLiteral) → bare_expr expr ≢ Lit l)) }
 {
     match expr.into_expr_kind() {
         ExprKind::Lit(literal) => Ok(literal),
@@ -387,7 +387,7 @@ fn value_of(expr: Expr) -> Result<Literal, Refusal>
 
 // The record of keys, each with the value at its place.
 fn record_of(alloc: Global, keys: Vec<&str>, values: Vec<Expr>) -> Result<Expr, Refusal>
-    ensures made { IfOk result (λ e. bare e ≡ record_made keys.entry.items values.items) }
+    ensures made { IfOk result (λ e. bare_expr e ≡ record_made keys.entry.items values.items) }
     ensures refused { IfErr result (λ e. e ≢ Refusal.TooFewExpressions) }
 {
     let pairs = pairs_of(alloc, keys, values)?;
@@ -411,7 +411,7 @@ fn pairs_of(
 
 // The node of a conjunction, as it stands.
 fn raw_and(alloc: Global, left: Expr, right: Expr) -> Result<Expr, AllocError>
-    ensures { IfOk result (λ e. bare e ≡ And (bare left) (bare right)) }
+    ensures { IfOk result (λ e. bare_expr e ≡ And (bare_expr left) (bare_expr right)) }
 {
     Ok(ExprBuilder::new().with_expr_kind(ExprKind::And {
         left: Rc::new(alloc, left)?,
@@ -421,7 +421,7 @@ fn raw_and(alloc: Global, left: Expr, right: Expr) -> Result<Expr, AllocError>
 
 // The node of a disjunction, as it stands.
 fn raw_or(alloc: Global, left: Expr, right: Expr) -> Result<Expr, AllocError>
-    ensures { IfOk result (λ e. bare e ≡ Or (bare left) (bare right)) }
+    ensures { IfOk result (λ e. bare_expr e ≡ Or (bare_expr left) (bare_expr right)) }
 {
     Ok(ExprBuilder::new().with_expr_kind(ExprKind::Or {
         left: Rc::new(alloc, left)?,

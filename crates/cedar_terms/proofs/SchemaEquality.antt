@@ -6,7 +6,7 @@ use Rattle.std.specs.Rc.{rc_str_bytes}
 use Rattle.std.specs.Cmp.Lexicographic.{pointwise, bytes_decides}
 use Rattle.std.specs.declared.rc.RcStr.{RcStr}
 use Rattle.cedar_names.specs.NameOrder.{name_eq, name_eq_decides}
-use Rattle.cedar_names.specs.PlainNames.{bare_of_name}
+use Rattle.cedar_names.specs.PlainNames.{bare_name}
 use Rattle.cedar_terms.specs.Entities.{bare_entity_type}
 use Rattle.cedar_terms.specs.SchemaTypes.{BareSchemaType, SchemaSet, SchemaRecord, SchemaEntity, SchemaExtension, attributes_of, bare_schema_step, bare_schema_type}
 use Rattle.cedar_terms.specs.declared.schema_type.SchemaType.{SchemaType, SchemaType-F, out-SchemaType, roll-SchemaType, out-roll-SchemaType, fold-roll-SchemaType, fold_out-SchemaType, map-SchemaType, ind-SchemaType}
@@ -34,7 +34,7 @@ layer_eq V (SchemaType-F.Set s) (SchemaType-F.Set t) = V s.value t.value
 layer_eq V SchemaType-F.EmptySet SchemaType-F.EmptySet = true
 layer_eq V (SchemaType-F.Record m) (SchemaType-F.Record n) = pointwise (λ x y. pointwise nat_eq (rc_str_bytes x.0) (rc_str_bytes y.0) && V x.1 y.1) m.entries n.entries
 layer_eq V (SchemaType-F.Entity s) (SchemaType-F.Entity t) = name_eq (bare_entity_type s) (bare_entity_type t)
-layer_eq V (SchemaType-F.Extension m) (SchemaType-F.Extension n) = name_eq (bare_of_name m) (bare_of_name n)
+layer_eq V (SchemaType-F.Extension m) (SchemaType-F.Extension n) = name_eq (bare_name m) (bare_name n)
 layer_eq V s t = false
 
 module _ (V : SchemaType → SchemaType → Bool) where
@@ -72,7 +72,7 @@ module _ (V : SchemaType → SchemaType → Bool) where
   layer SchemaType-F.EmptySet SchemaType-F.EmptySet = always refl
   layer (SchemaType-F.Record m) (SchemaType-F.Record n) = exactly _ (pairs m.entries n.entries) (λ h. ap SchemaRecord h) (λ h. cc (h))
   layer (SchemaType-F.Entity s) (SchemaType-F.Entity t) = exactly _ (name_eq_decides (bare_entity_type s) (bare_entity_type t)) (λ h. ap SchemaEntity h) (λ h. cc (h))
-  layer (SchemaType-F.Extension m) (SchemaType-F.Extension n) = exactly _ (name_eq_decides (bare_of_name m) (bare_of_name n)) (λ h. ap SchemaExtension h) (λ h. cc (h))
+  layer (SchemaType-F.Extension m) (SchemaType-F.Extension n) = exactly _ (name_eq_decides (bare_name m) (bare_name n)) (λ h. ap SchemaExtension h) (λ h. cc (h))
   layer a b = never (λ h. cc (h))
 
   at_types : {x y : Bool} {a b c d : BareSchemaType} → x ≡ y → a ≡ c → b ≡ d → Decides y (c ≡ d) → Decides x (a ≡ b)

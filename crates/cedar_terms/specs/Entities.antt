@@ -2,7 +2,7 @@
 use Rattle.std.specs.Prelude.{ℕ, List, ◌++◌, codes}
 use Rattle.std.specs.Rc.{rc_str_bytes}
 use Rattle.cedar_names.specs.Names.{BareName, name_text}
-use Rattle.cedar_names.specs.PlainNames.{bare_of_name}
+use Rattle.cedar_names.specs.PlainNames.{bare_name}
 use Rattle.cedar_names.specs.declared.plain_name.Name.{Name}
 use Rattle.cedar_terms.specs.declared.entity.EntityType.{EntityType}
 use Rattle.cedar_terms.specs.declared.entity.EntityUID.{EntityUID}
@@ -14,7 +14,7 @@ entity_type_name t = t.name
 
 -- an entity type without places is the bare name of its name
 abbrev pub bare_entity_type : EntityType → BareName
-bare_entity_type t = bare_of_name t.name
+bare_entity_type t = bare_name t.name
 
 -- an entity without places: the bare name of its type, and the bytes of its identifier
 pub record BareEntityUID : Type 0 where

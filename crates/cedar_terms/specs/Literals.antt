@@ -3,7 +3,7 @@ use Rattle.std.specs.Prelude.{ℕ, ℤ, Bool, true, false, List, Option, None, c
 use Rattle.std.specs.Fmt.{signed_decimal}
 use Rattle.std.specs.Rc.{rc_str_bytes}
 use Rattle.cedar_names.specs.Place.{Place}
-use Rattle.cedar_names.specs.PlainNames.{place_of_name}
+use Rattle.cedar_names.specs.PlainNames.{name_place}
 use Rattle.cedar_terms.specs.declared.literal.Literal.{Literal}
 use Rattle.cedar_terms.specs.declared.literal.Literal.TheVariants as Variant
 use Rattle.cedar_terms.specs.Entities.{BareEntityUID, bare_entity_uid, entity_type_of, entity_uid_text, entity_type_name}
@@ -36,5 +36,5 @@ is_entity_literal x = false
 
 -- the place of the name of its type, if the literal is an entity that has one
 abbrev pub literal_place : Literal → Option Place
-literal_place (Variant.EntityUID u) = place_of_name (entity_type_name (entity_type_of u.value))
+literal_place (Variant.EntityUID u) = name_place (entity_type_name (entity_type_of u.value))
 literal_place other = None

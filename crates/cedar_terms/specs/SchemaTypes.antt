@@ -4,7 +4,7 @@ use Rattle.std.specs.Global.{Global}
 use Rattle.std.specs.Rc.{rc_str_bytes}
 use Rattle.std.specs.declared.rc.RcStr.{RcStr}
 use Rattle.cedar_names.specs.Names.{BareName}
-use Rattle.cedar_names.specs.PlainNames.{bare_of_name}
+use Rattle.cedar_names.specs.PlainNames.{bare_name}
 use Rattle.cedar_names.specs.declared.plain_name.Name.{Name}
 use Rattle.cedar_terms.specs.declared.schema_type.SchemaType.{SchemaType, SchemaType-F, fold-SchemaType}
 use Rattle.cedar_terms.specs.Entities.{bare_entity_type}
@@ -40,7 +40,7 @@ bare_schema_step (SchemaType-F.Set t) = SchemaSet t.value
 bare_schema_step SchemaType-F.EmptySet = SchemaEmptySet
 bare_schema_step (SchemaType-F.Record m) = SchemaRecord (attributes_of m.entries)
 bare_schema_step (SchemaType-F.Entity ty) = SchemaEntity (bare_entity_type ty)
-bare_schema_step (SchemaType-F.Extension name) = SchemaExtension (bare_of_name name)
+bare_schema_step (SchemaType-F.Extension name) = SchemaExtension (bare_name name)
 
 abbrev pub bare_schema_type : SchemaType → BareSchemaType
 bare_schema_type = fold-SchemaType BareSchemaType bare_schema_step
@@ -78,4 +78,4 @@ abbrev mutual
 
 -- names without their places
 abbrev pub bare_names : List Name → List BareName
-bare_names ns = map bare_of_name ns
+bare_names ns = map bare_name ns

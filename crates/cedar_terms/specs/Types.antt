@@ -2,7 +2,7 @@
 use Rattle.std.specs.Prelude.{ℕ, List, ◌++◌, Option, None, codes}
 use Rattle.cedar_names.specs.Names.{BareName, name_text}
 use Rattle.cedar_names.specs.Place.{Place}
-use Rattle.cedar_names.specs.PlainNames.{bare_of_name, place_of_name}
+use Rattle.cedar_names.specs.PlainNames.{bare_name, name_place}
 use Rattle.cedar_terms.specs.declared.types.«Type».{«Type»}
 use Rattle.cedar_terms.specs.declared.types.«Type».TheVariants as Variant
 use Rattle.cedar_terms.specs.Entities.{BareEntityUID, entity_type_name, bare_entity_type}
@@ -25,12 +25,12 @@ bare_type Variant.String = StringType
 bare_type Variant.Set = SetType
 bare_type Variant.Record = RecordType
 bare_type (Variant.Entity ty) = EntityOfType (bare_entity_type ty)
-bare_type (Variant.Extension name) = ExtensionType (bare_of_name name)
+bare_type (Variant.Extension name) = ExtensionType (bare_name name)
 
 -- the place of the name within, if there is one
 abbrev pub type_place : «Type» → Option Place
-type_place (Variant.Entity ty) = place_of_name (entity_type_name ty)
-type_place (Variant.Extension name) = place_of_name name
+type_place (Variant.Entity ty) = name_place (entity_type_name ty)
+type_place (Variant.Extension name) = name_place name
 type_place other = None
 
 -- the text of a type

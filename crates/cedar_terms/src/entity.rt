@@ -5,7 +5,7 @@ ghost use Rattle.std.specs.Ordering.{as_partial_cmp, on};
 ghost use Rattle.std.specs.Rc.{rc_str_bytes};
 ghost use Rattle.cedar_names.specs.Names.{name_text, unqualified};
 ghost use Rattle.cedar_names.specs.NameOrder.{name_eq, name_eq_equiv, name_cmp, name_cmp_total, name_ties, name_po, name_fed, name_fed-alike};
-ghost use Rattle.cedar_names.specs.PlainNames.{place_of_name};
+ghost use Rattle.cedar_names.specs.PlainNames.{name_place};
 ghost use Rattle.cedar_terms.specs.Entities.{entity_type_name, bare_entity_type, bare_entity_uid, entity_type_of, entity_uid_text};
 ghost use Rattle.cedar_terms.specs.EntityOrder.{entity_uid_eq, entity_uid_eq_equiv, entity_uid_cmp, entity_uid_cmp_total, entity_uid_ties, entity_uid_po, entity_uid_fed, entity_uid_fed-alike};
 
@@ -43,7 +43,7 @@ impl EntityType {
     /// A copy, with the place of its name.
     pub fn clone(&self, alloc: Global) -> Result<EntityType, AllocError>
         ensures bare { IfOk result (λ ty. bare_entity_type ty ≡ bare_entity_type self.now) }
-        ensures place { IfOk result (λ ty. place_of_name (entity_type_name ty) ≡ place_of_name (entity_type_name self.now)) }
+        ensures place { IfOk result (λ ty. name_place (entity_type_name ty) ≡ name_place (entity_type_name self.now)) }
     {
         let name = self.name.clone(alloc)?;
         Ok(EntityType { name })
@@ -149,7 +149,7 @@ impl EntityUID {
     /// A copy, with the place of its type.
     pub fn clone(&self, alloc: Global) -> Result<EntityUID, AllocError>
         ensures bare { IfOk result (λ uid. bare_entity_uid uid ≡ bare_entity_uid self.now) }
-        ensures place { IfOk result (λ uid. place_of_name (entity_type_name (entity_type_of uid)) ≡ place_of_name (entity_type_name (entity_type_of self.now))) }
+        ensures place { IfOk result (λ uid. name_place (entity_type_name (entity_type_of uid)) ≡ name_place (entity_type_name (entity_type_of self.now))) }
     {
         let ty = self.ty.clone(alloc)?;
         let eid = self.eid.clone()?;

@@ -2,7 +2,7 @@
 ghost use Rattle.std.specs.Prelude.{◌≡◌, IfOk, Some, refl};
 ghost use Rattle.std.specs.Cmp.{partial_equiv_from_equiv, on_equiv, on_po, on_total};
 ghost use Rattle.std.specs.Ordering.{as_partial_cmp, on};
-ghost use Rattle.cedar_names.specs.PlainNames.{bare_of_name, place_of_name};
+ghost use Rattle.cedar_names.specs.PlainNames.{bare_name, name_place};
 ghost use Rattle.cedar_terms.specs.Entities.{bare_entity_uid};
 ghost use Rattle.cedar_terms.specs.Literals.{bare_literal};
 ghost use Rattle.cedar_terms.specs.Types.{BareType, EntityOfType, bare_type, entity_uid_type, literal_type, type_place, type_text};
@@ -45,8 +45,8 @@ pub enum Type {
 impl Type {
     /// The type of the entities of the type with this name.
     pub fn entity_type(name: Name) -> Type
-        ensures bare { bare_type result ≡ EntityOfType (bare_of_name name) }
-        ensures place { type_place result ≡ place_of_name name }
+        ensures bare { bare_type result ≡ EntityOfType (bare_name name) }
+        ensures place { type_place result ≡ name_place name }
     {
         let ty = EntityType::from(name);
         Type::Entity { ty }

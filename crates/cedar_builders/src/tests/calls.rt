@@ -2,8 +2,8 @@
 ghost use Rattle.std.specs.Prelude.{◌≡◌, ◌||◌, ◌==◌, Bool, false, true, IfOk, IfErr, Ok, Err, length, map, refl, if◌then◌else◌, ⊤};
 ghost use Rattle.std.specs.List.{list_any};
 ghost use Rattle.cedar_names.specs.Names.{BareName};
-ghost use Rattle.cedar_names.specs.PlainNames.{bare_of_name};
-ghost use Rattle.cedar_builders.specs.Gives.{Gives};
+ghost use Rattle.cedar_names.specs.PlainNames.{bare_name};
+ghost use Rattle.cedar_builders.specs.Answers.{Gives};
 ghost use Rattle.cedar_builders.specs.Errors.{OnDuplicateKey};
 ghost use Rattle.cedar_builders.specs.Keys.{keys_of, meant_pairs, IsRising, HasRepeat};
 ghost use Rattle.cedar_builders.specs.declared.expression_construction_errors.ExpressionConstructionError.TheVariants as error;
@@ -61,7 +61,7 @@ impl ExprBuilder for Calls {
 
     ghost meaning_of = { λ e. e };
 
-    ghost fault_of = { λ e. bare_of_name e.name };
+    ghost fault_of = { λ e. bare_name e.name };
 
     ghost is_new = { λ _. ⊤ };
 
@@ -144,7 +144,7 @@ impl ExprBuilder for Calls {
         fn_name: Name,
         args: Vec<bool>,
     ) -> Result<bool, BuildFault<Refused>>
-        ensures { Gives (λ (e : Bool). e) (λ e. bare_of_name e.name) (if length args.items == 0 then Err (bare_of_name fn_name) else Ok true) result }
+        ensures { Gives (λ (e : Bool). e) (λ e. bare_name e.name) (if length args.items == 0 then Err (bare_name fn_name) else Ok true) result }
     {
         if args.is_empty() {
             Err(BuildFault::Build(Refused { name: fn_name }))

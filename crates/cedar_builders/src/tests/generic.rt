@@ -1,8 +1,8 @@
 // Generic callers of builders.
 ghost use Rattle.std.specs.Prelude.{◌≡◌, ◌∷◌, [], IfOk, Ok, map};
 ghost use Rattle.std.specs.Rc.{rc_str_bytes};
-ghost use Rattle.cedar_names.specs.PlainNames.{bare_of_name};
-ghost use Rattle.cedar_builders.specs.Gives.{Gives};
+ghost use Rattle.cedar_names.specs.PlainNames.{bare_name};
+ghost use Rattle.cedar_builders.specs.Answers.{Gives};
 
 use crate::expr_builder::{BuildFault, ExprBuilder, ExprBuilderInfallibleBuild};
 use crate::expression_construction_errors::ExpressionConstructionError;
@@ -33,7 +33,7 @@ pub fn call_of<B: ExprBuilder>(
     fn_name: Name,
     args: Vec<B::Expr>,
 ) -> Result<B::Expr, BuildFault<B::BuildError>>
-    ensures { Gives B.meaning_of B.fault_of (B.ops.call_of (bare_of_name fn_name) (map B.meaning_of args.items)) result }
+    ensures { Gives B.meaning_of B.fault_of (B.ops.call_of (bare_name fn_name) (map B.meaning_of args.items)) result }
 {
     B::new()
         .with_maybe_source_loc(None)
@@ -46,7 +46,7 @@ pub fn call_of_one<B: ExprBuilder>(
     fn_name: Name,
     arg: B::Expr,
 ) -> Result<B::Expr, BuildFault<B::BuildError>>
-    ensures { Gives B.meaning_of B.fault_of (B.ops.call_of (bare_of_name fn_name) (B.meaning_of arg ∷ [])) result }
+    ensures { Gives B.meaning_of B.fault_of (B.ops.call_of (bare_name fn_name) (B.meaning_of arg ∷ [])) result }
 {
     let mut args = Vec::new(alloc);
     args.push(arg)?;
@@ -59,7 +59,7 @@ pub fn call_in_memory<B: ExprBuilderInfallibleBuild>(
     fn_name: Name,
     args: Vec<B::Expr>,
 ) -> Result<B::Expr, AllocError>
-    ensures { IfOk result (λ e. B.ops.call_of (bare_of_name fn_name) (map B.meaning_of args.items) ≡ Ok (B.meaning_of e)) }
+    ensures { IfOk result (λ e. B.ops.call_of (bare_name fn_name) (map B.meaning_of args.items) ≡ Ok (B.meaning_of e)) }
 {
     match call_of::<B>(alloc, fn_name, args) {
         Ok(made) => Ok(made),

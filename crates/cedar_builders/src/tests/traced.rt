@@ -1,6 +1,6 @@
 // A builder that writes down what it is asked for: the name of each node, its place, if it has one, and its children.
 ghost use Rattle.std.specs.Prelude.{◌≡◌, IfOk, IfErr, Ok, refl, ⊤};
-ghost use Rattle.cedar_builders.specs.Gives.{Gives};
+ghost use Rattle.cedar_builders.specs.Answers.{Gives};
 ghost use Rattle.cedar_builders.specs.Errors.{OnDuplicateKey};
 ghost use Rattle.cedar_builders.specs.Keys.{keys_of, IsRising, HasRepeat};
 ghost use Rattle.cedar_builders.specs.declared.expression_construction_errors.ExpressionConstructionError.TheVariants as error;

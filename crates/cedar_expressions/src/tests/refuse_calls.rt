@@ -1,8 +1,8 @@
 // A builder that refuses each call of an extension function with its name.
 ghost use Rattle.std.specs.Prelude.{◌≡◌, IfOk, IfErr, Err, ⊤, refl};
 ghost use Rattle.cedar_names.specs.Names.{BareName};
-ghost use Rattle.cedar_names.specs.PlainNames.{bare_of_name};
-ghost use Rattle.cedar_builders.specs.Gives.{Gives};
+ghost use Rattle.cedar_names.specs.PlainNames.{bare_name};
+ghost use Rattle.cedar_builders.specs.Answers.{Gives};
 ghost use Rattle.cedar_builders.specs.Errors.{OnDuplicateKey};
 ghost use Rattle.cedar_builders.specs.Keys.{keys_of, IsRising, HasRepeat};
 ghost use Rattle.cedar_builders.specs.declared.expression_construction_errors.ExpressionConstructionError.TheVariants as error;
@@ -59,7 +59,7 @@ impl ExprBuilder for RefuseCalls {
 
     ghost meaning_of = { λ e. e };
 
-    ghost fault_of = { λ e. bare_of_name e.name };
+    ghost fault_of = { λ e. bare_name e.name };
 
     ghost is_new = { λ _. ⊤ };
 
@@ -136,7 +136,7 @@ impl ExprBuilder for RefuseCalls {
         fn_name: Name,
         _: Vec<()>,
     ) -> Result<(), BuildFault<Refused>>
-        ensures { Gives (λ (e : Unit). e) (λ e. bare_of_name e.name) (Err (bare_of_name fn_name)) result }
+        ensures { Gives (λ (e : Unit). e) (λ e. bare_name e.name) (Err (bare_name fn_name)) result }
     {
         Err(BuildFault::Build(Refused { name: fn_name }))
     }

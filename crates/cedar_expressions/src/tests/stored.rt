@@ -1,7 +1,7 @@
 // A value that is the expression that it was made of.
 ghost use Rattle.std.specs.Prelude.{◌≡◌};
 ghost use Rattle.cedar_terms.specs.Types.{LongType};
-ghost use Rattle.cedar_exprs.specs.Restricted.{restricted_tree};
+ghost use Rattle.cedar_exprs.specs.RestrictedExprs.{bare_restricted_expr};
 
 use cedar_exprs::{RestrictedExpr, SubstituteValue};
 use cedar_terms::Type;
@@ -24,7 +24,7 @@ impl Stored {
 impl SubstituteValue for Stored {
     ghost bare_type_of = { λ _. LongType };
 
-    ghost bare_tree_of = { λ value. restricted_tree value.expr };
+    ghost bare_expr_of = { λ value. bare_restricted_expr value.expr };
 
     fn value_type(&self, _: Global) -> Result<Type, AllocError> {
         Ok(Type::Long)

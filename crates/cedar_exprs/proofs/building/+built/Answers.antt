@@ -1,6 +1,6 @@
 use Rattle.std.proofs.Common.{◌≡◌, ◌<◌, ◌++◌, ◌∷◌, [], Err, map, get_or, length, refl, sym, ◌∙◌, subst, rules}
 use Rattle.cedar_builders.specs.Environment.{empty, fold}
-use Rattle.cedar_builders.specs.Gives.{Gives}
+use Rattle.cedar_builders.specs.Answers.{Gives}
 use Rattle.cedar_builders.specs.Keys.{IsRising}
 use Rattle.cedar_exprs.proofs.BuildingChildren.{bare_at_call, bare_at_set, bare_at_map, all_error, rest_ok, rest_err, none_built, pairs_ok, keys_all, rising_texts}
 use Rattle.cedar_exprs.proofs.building.+built.Goals as goal

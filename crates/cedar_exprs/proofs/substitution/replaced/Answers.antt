@@ -1,9 +1,9 @@
 use Rattle.std.proofs.Common.{◌≡◌, Some, ap, sym, subst, rules}
 use Rattle.std.specs.Rc.{rc_str_bytes}
 use Rattle.cedar_terms.specs.Unknowns.{bare_annotation}
-use Rattle.cedar_builders.specs.Clash.{refused_binding}
-use Rattle.cedar_exprs.specs.Restricted.{env_of}
-use Rattle.cedar_exprs.specs.Typed.{Refuses}
+use Rattle.cedar_builders.specs.TypeClash.{refused_binding}
+use Rattle.cedar_exprs.specs.RestrictedExprs.{env_of}
+use Rattle.cedar_exprs.specs.Refusals.{Refuses}
 use Rattle.cedar_exprs.proofs.substitution.replaced.Goals as goal
 
 pub returns-in_err-check-in-Some-clause-refused : goal.returns-in_err-check-in-Some-clause-refused

@@ -1,5 +1,5 @@
 use Rattle.std.proofs.Common.{◌≡◌, ap, ◌∙◌}
-use Rattle.cedar_builders.specs.Bare.{Record}
+use Rattle.cedar_builders.specs.BareExpr.{Record}
 use Rattle.cedar_builders.specs.Keys.{keys_of, HasRepeat}
 use Rattle.cedar_builders.specs.Errors.{OnDuplicateKey}
 use Rattle.cedar_builders.specs.declared.expression_construction_errors.ExpressionConstructionError.TheVariants.{Memory}

@@ -6,9 +6,9 @@ use Rattle.std.specs.HashMap.{get_by, HashMap}
 use Rattle.std.specs.Str.{bytes_eq}
 use Rattle.std.specs.declared.rc.RcStr.{RcStr}
 use Rattle.cedar_terms.specs.Types.{BareType}
-use Rattle.cedar_builders.specs.Bare.{Bare}
+use Rattle.cedar_builders.specs.BareExpr.{BareExpr}
 use Rattle.cedar_builders.specs.Environment.{Env}
-use Rattle.cedar_exprs.specs.View.{bare}
+use Rattle.cedar_exprs.specs.BareExpr.{bare_expr}
 use Rattle.cedar_exprs.specs.declared.expr.Expr.{Expr}
 use Rattle.cedar_exprs.specs.declared.restricted.RestrictedExpr.{RestrictedExpr}
 
@@ -17,9 +17,9 @@ abbrev pub expr_of : RestrictedExpr → Expr Unit
 expr_of r = r.expr
 
 -- its bare tree
-abbrev pub restricted_tree : RestrictedExpr → Bare
-restricted_tree r = bare r.expr
+abbrev pub bare_restricted_expr : RestrictedExpr → BareExpr
+bare_restricted_expr r = bare_expr r.expr
 
 -- each name that the map has, with the type and the tree of its value
-abbrev pub env_of : {V S : Type 0} → (V → BareType) → (V → Bare) → HashMap (RcStr Global) V S → Env
+abbrev pub env_of : {V S : Type 0} → (V → BareType) → (V → BareExpr) → HashMap (RcStr Global) V S → Env
 env_of type_of tree_of m name = option_map (λ v. (type_of v, tree_of v)) (get_by (λ k. bytes_eq name (rc_str_bytes k)) m)

@@ -4,17 +4,17 @@ use Rattle.std.specs.Global.{Global}
 use Rattle.std.specs.Rc.{rc_str_bytes}
 use Rattle.std.specs.declared.rc.RcStr.{RcStr}
 use Rattle.cedar_names.specs.Place.{Place}
-use Rattle.cedar_names.specs.PlainNames.{bare_of_name}
+use Rattle.cedar_names.specs.PlainNames.{bare_name}
 use Rattle.cedar_names.specs.declared.non_empty.NonEmpty.{NonEmpty}
 use Rattle.cedar_terms.specs.Entities.{bare_entity_type}
 use Rattle.cedar_terms.specs.Literals.{bare_literal}
 use Rattle.cedar_terms.specs.Unknowns.{BareUnknown, bare_unknown}
-use Rattle.cedar_builders.specs.Bare.{Text, Bare, Lit, Var, Slot, Unknown, If, And, Or, UnaryApp, BinaryApp, ExtensionFunctionApp, GetAttr, HasAttr, ExtHasAttr, Like, Set, Record, Is, Bares, trees_of, Fields, no_fields, field}
+use Rattle.cedar_builders.specs.BareExpr.{Text, BareExpr, Lit, Var, Slot, Unknown, If, And, Or, UnaryApp, BinaryApp, ExtensionFunctionApp, GetAttr, HasAttr, ExtHasAttr, Like, Set, Record, Is, BareExprs, trees_of, BareFields, no_fields, field}
 use Rattle.cedar_exprs.specs.declared.expr.Expr.{Expr, Expr-F, fold-Expr}
 use Rattle.cedar_exprs.specs.declared.expr.ExprKind.{ExprKind, ExprKind-F, fold-ExprKind}
 
 -- the pairs of a map, each key as its text
-abbrev pub fields_at : List (RcStr Global × Bare) → Fields
+abbrev pub fields_at : List (RcStr Global × BareExpr) → BareFields
 fields_at [] = no_fields
 fields_at (e ∷ es) = field (rc_str_bytes e.0) e.1 (fields_at es)
 
@@ -23,11 +23,11 @@ abbrev pub further : NonEmpty (RcStr Global) → List Text
 further ks = map rc_str_bytes ks.tail.items
 
 -- the tree of an unknown
-abbrev pub unknown_tree : BareUnknown → Bare
+abbrev pub unknown_tree : BareUnknown → BareExpr
 unknown_tree u = Unknown u.name u.annotation
 
 -- one level, whose children are bare trees already
-abbrev pub bare_step : {T : Type 0} → ExprKind-F T Bare Bare → Bare
+abbrev pub bare_step : {T : Type 0} → ExprKind-F T BareExpr BareExpr → BareExpr
 bare_step (ExprKind-F.Lit l) = Lit (bare_literal l)
 bare_step (ExprKind-F.Var v) = Var v
 bare_step (ExprKind-F.Slot s) = Slot s
@@ -37,7 +37,7 @@ bare_step (ExprKind-F.And a b) = And a.value b.value
 bare_step (ExprKind-F.Or a b) = Or a.value b.value
 bare_step (ExprKind-F.UnaryApp o a) = UnaryApp o a.value
 bare_step (ExprKind-F.BinaryApp o a b) = BinaryApp o a.value b.value
-bare_step (ExprKind-F.ExtensionFunctionApp n es) = ExtensionFunctionApp (bare_of_name n) (trees_of es.value.items)
+bare_step (ExprKind-F.ExtensionFunctionApp n es) = ExtensionFunctionApp (bare_name n) (trees_of es.value.items)
 bare_step (ExprKind-F.GetAttr a k) = GetAttr a.value (rc_str_bytes k)
 bare_step (ExprKind-F.HasAttr a k) = HasAttr a.value (rc_str_bytes k)
 bare_step (ExprKind-F.ExtHasAttr a ks) = ExtHasAttr a.value (rc_str_bytes ks.head) (further ks)
@@ -47,31 +47,31 @@ bare_step (ExprKind-F.Record es) = Record (fields_at es.value.entries)
 bare_step (ExprKind-F.Is a n) = Is a.value (bare_entity_type n)
 
 -- place and data are dropped
-abbrev pub node_step : {T : Type 0} → Expr-F T Bare Bare → Bare
+abbrev pub node_step : {T : Type 0} → Expr-F T BareExpr BareExpr → BareExpr
 node_step e = e.expr_kind
 
 -- the bare tree of a kind
-abbrev pub bare_kind : {T : Type 0} → ExprKind T → Bare
-bare_kind {T} = fold-ExprKind T Bare Bare bare_step node_step
+abbrev pub bare_expr_kind : {T : Type 0} → ExprKind T → BareExpr
+bare_expr_kind {T} = fold-ExprKind T BareExpr BareExpr bare_step node_step
 
 -- the bare tree of an expression
-abbrev pub bare : {T : Type 0} → Expr T → Bare
-bare {T} = fold-Expr T Bare Bare bare_step node_step
+abbrev pub bare_expr : {T : Type 0} → Expr T → BareExpr
+bare_expr {T} = fold-Expr T BareExpr BareExpr bare_step node_step
 
 -- the bare trees of a list of expressions
-abbrev pub bares : {T : Type 0} → List (Expr T) → Bares
-bares es = trees_of (map bare es)
+abbrev pub bare_exprs : {T : Type 0} → List (Expr T) → BareExprs
+bare_exprs es = trees_of (map bare_expr es)
 
 -- the keys of a map with the bare trees of its values
-abbrev pub fields : {T : Type 0} → List (RcStr Global × Expr T) → Fields
-fields es = fields_at (map (λ e. (e.0, bare e.1)) es)
+abbrev pub bare_fields : {T : Type 0} → List (RcStr Global × Expr T) → BareFields
+bare_fields es = fields_at (map (λ e. (e.0, bare_expr e.1)) es)
 
 -- the outermost node: its kind, its place and its data
 abbrev pub kind_of : {T : Type 0} → Expr T → ExprKind T
 kind_of e = e.expr_kind
 
-abbrev pub loc_of : {T : Type 0} → Expr T → Option Place
-loc_of e = e.source_loc
+abbrev pub expr_place : {T : Type 0} → Expr T → Option Place
+expr_place e = e.source_loc
 
 abbrev pub data_of : {T : Type 0} → Expr T → T
 data_of e = e.«data»

@@ -2,7 +2,7 @@
 use Rattle.std.specs.Prelude.{◌≡◌, ⊤, List, map, Result, Ok, Err, Vec}
 use Rattle.std.specs.Global.{Global}
 use Rattle.std.specs.declared.rc.RcStr.{RcStr}
-use Rattle.cedar_builders.specs.Bare.{Text}
+use Rattle.cedar_builders.specs.BareExpr.{Text}
 use Rattle.cedar_builders.specs.Keys.{meant_pairs}
 use Rattle.cedar_builders.specs.declared.expr_builder.BuildFault.{BuildFault}
 use Rattle.cedar_builders.specs.declared.expr_builder.BuildFault.TheVariants.{Build, Memory}

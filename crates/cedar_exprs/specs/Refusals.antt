@@ -3,7 +3,7 @@ use Rattle.std.specs.Prelude.{◌≡◌, ⊤, Option, Some, None, Result, Ok, Er
 use Rattle.std.specs.Global.{Global}
 use Rattle.std.specs.declared.convert.Infallible.{Infallible}
 use Rattle.cedar_terms.specs.Types.{bare_type}
-use Rattle.cedar_builders.specs.Clash.{TwoTypes}
+use Rattle.cedar_builders.specs.TypeClash.{TwoTypes}
 use Rattle.cedar_builders.specs.declared.expr_builder.BuildFault.{BuildFault}
 use Rattle.cedar_builders.specs.declared.expr_builder.BuildFault.TheVariants.{Build as Refused, Memory as NoMemory}
 use Rattle.cedar_exprs.specs.declared.type_check.Clash.{Clash}

@@ -2,12 +2,12 @@
 use Rattle.std.specs.Prelude.{◌≡◌, List, [], ◌∷◌, ◌++◌, if◌then◌else◌, Option, Some, None}
 use Rattle.cedar_terms.specs.Types.{BareType}
 use Rattle.cedar_terms.specs.TypeOrder.{type_eq}
-use Rattle.cedar_builders.specs.Bare.{Bare, Lit, Var, Slot, Unknown, If, And, Or, UnaryApp, BinaryApp, ExtensionFunctionApp, GetAttr, HasAttr, ExtHasAttr, Like, Set, Record, Is, Bares, no_trees, tree, Fields, no_fields, field}
+use Rattle.cedar_builders.specs.BareExpr.{BareExpr, Lit, Var, Slot, Unknown, If, And, Or, UnaryApp, BinaryApp, ExtensionFunctionApp, GetAttr, HasAttr, ExtHasAttr, Like, Set, Record, Is, BareExprs, no_trees, tree, BareFields, no_fields, field}
 use Rattle.cedar_builders.specs.Environment.{Env, either}
 
 abbrev mutual
   -- each position of a tree before those of its children, the first child first and the values of a record by key
-  pub preorder : Bare → List Bare
+  pub preorder : BareExpr → List BareExpr
   preorder (Lit l) = Lit l ∷ []
   preorder (Var v) = Var v ∷ []
   preorder (Slot s) = Slot s ∷ []
@@ -27,12 +27,12 @@ abbrev mutual
   preorder (Is a n) = Is a n ∷ preorder a
 
   -- those of a list of trees
-  pub all_in_preorder : Bares → List Bare
+  pub all_in_preorder : BareExprs → List BareExpr
   all_in_preorder no_trees = []
   all_in_preorder (tree e es) = preorder e ++ all_in_preorder es
 
   -- those of the values of a record
-  pub fields_in_preorder : Fields → List Bare
+  pub fields_in_preorder : BareFields → List BareExpr
   fields_in_preorder no_fields = []
   fields_in_preorder (field k e fs) = preorder e ++ fields_in_preorder fs
 
@@ -54,12 +54,12 @@ abbrev pub Refusals : Type 0
 Refusals = Option BareType → BareType → Option TwoTypes
 
 -- what is refused at an unknown by its binding, if it has one
-abbrev pub refused_binding : Refusals → Option BareType → Option (BareType × Bare) → Option TwoTypes
+abbrev pub refused_binding : Refusals → Option BareType → Option (BareType × BareExpr) → Option TwoTypes
 refused_binding refuse t None = None
 refused_binding refuse t (Some r) = refuse t r.0
 
 -- the clash at a position itself
-abbrev pub clash_at : Env → Bare → Option TwoTypes
+abbrev pub clash_at : Env → BareExpr → Option TwoTypes
 clash_at env (Lit l) = None
 clash_at env (Var v) = None
 clash_at env (Slot s) = None
@@ -84,13 +84,13 @@ first_of f [] = None
 first_of f (x ∷ xs) = either (f x) (first_of f xs)
 
 -- the clash at the first position in preorder that has one
-abbrev pub clash : Env → Bare → Option TwoTypes
+abbrev pub clash : Env → BareExpr → Option TwoTypes
 clash env e = first_of (clash_at env) (preorder e)
 
 module _ (refuse : Refusals) (env : Env) where
   abbrev mutual
     -- the first refusal at an unknown, found child by child
-    pub first_refusal : Bare → Option TwoTypes
+    pub first_refusal : BareExpr → Option TwoTypes
     first_refusal (Lit l) = None
     first_refusal (Var v) = None
     first_refusal (Slot s) = None
@@ -110,15 +110,15 @@ module _ (refuse : Refusals) (env : Env) where
     first_refusal (Is a n) = first_refusal a
 
     -- in a list of trees
-    pub first_refusal_of_all : Bares → Option TwoTypes
+    pub first_refusal_of_all : BareExprs → Option TwoTypes
     first_refusal_of_all no_trees = None
     first_refusal_of_all (tree e es) = either (first_refusal e) (first_refusal_of_all es)
 
     -- in the values of a record
-    pub first_refusal_of_fields : Fields → Option TwoTypes
+    pub first_refusal_of_fields : BareFields → Option TwoTypes
     first_refusal_of_fields no_fields = None
     first_refusal_of_fields (field k e fs) = either (first_refusal e) (first_refusal_of_fields fs)
 
 -- the clash at the first position in preorder is the first one found child by child
 abbrev pub ClashByChildren : Type 0
-ClashByChildren = (env : Env) (e : Bare) → clash env e ≡ first_refusal mismatch env e
+ClashByChildren = (env : Env) (e : BareExpr) → clash env e ≡ first_refusal mismatch env e

@@ -1,6 +1,6 @@
 -- The first node of a kind that no restricted expression has (`RestrictedExpr` of Cedar's `restricted_expr.rs`).
 use Rattle.std.specs.Prelude.{◌≡◌, List, map, Bool, true, false, Option, Some, option_map, IsSome}
-use Rattle.cedar_exprs.specs.View.{loc_of}
+use Rattle.cedar_exprs.specs.BareExpr.{expr_place}
 use Rattle.cedar_exprs.specs.Walks.{preorder, forward, first_such}
 use Rattle.cedar_exprs.specs.declared.expr.Expr.{Expr}
 use Rattle.cedar_exprs.specs.declared.expr.ExprKind.{out-ExprKind}
@@ -29,18 +29,18 @@ outside_part (ExprKind-F.Record es) = false
 outside_part (ExprKind-F.Is a n) = true
 
 -- whether the outermost node is of such a kind
-abbrev pub is_outside : {T : Type 0} → Expr T → Bool
-is_outside {T} e = outside_part (out-ExprKind T e.expr_kind)
+abbrev pub is_not_restricted : {T : Type 0} → Expr T → Bool
+is_not_restricted {T} e = outside_part (out-ExprKind T e.expr_kind)
 
 -- the first such node in preorder
-abbrev pub first_outside : {T : Type 0} → Expr T → Option (Expr T)
-first_outside e = first_such is_outside (preorder e)
+abbrev pub first_not_restricted : {T : Type 0} → Expr T → Option (Expr T)
+first_not_restricted e = first_such is_not_restricted (preorder e)
 
 -- the same in a list of expressions
-abbrev pub first_outside_all : {T : Type 0} → List (Expr T) → Option (Expr T)
-first_outside_all es = first_such is_outside (forward (map preorder es))
+abbrev pub first_not_restricted_of : {T : Type 0} → List (Expr T) → Option (Expr T)
+first_not_restricted_of es = first_such is_not_restricted (forward (map preorder es))
 
 -- the error has the place of the node that was found, or there was no memory to copy that place
 abbrev pub IsRefusalOf : {T : Type 0} → Option (Expr T) → RestrictedExprError → Type 0
-IsRefusalOf found (NotRestricted loc) = option_map loc_of found ≡ Some loc
+IsRefusalOf found (NotRestricted loc) = option_map expr_place found ≡ Some loc
 IsRefusalOf found Memory = IsSome found

@@ -12,18 +12,18 @@ path_of None = []
 path_of (Some v) = v.items
 
 -- a name without its place
-abbrev pub bare : InternalName → BareName
-bare n = record { path = path_of n.path; basename = n.basename }
+abbrev pub bare_internal_name : InternalName → BareName
+bare_internal_name n = record { path = path_of n.path; basename = n.basename }
 
 -- its place, if it has one
-abbrev pub place_of : InternalName → Option Place
-place_of n = n.loc
+abbrev pub internal_name_place : InternalName → Option Place
+internal_name_place n = n.loc
 
 -- the place is the whole text, in bytes
 abbrev pub IsWholeOf : List ℕ → Option Place → Type 0
 IsWholeOf s p = p ≡ Some (record { start = 0; stop = length s; src = s })
 
 -- the bare name of a namespace, if one is given
-abbrev pub bare_now : Option (Bor InternalName) → Option BareName
-bare_now None = None
-bare_now (Some w) = Some (bare w.now)
+abbrev pub bare_internal_name_now : Option (Bor InternalName) → Option BareName
+bare_internal_name_now None = None
+bare_internal_name_now (Some w) = Some (bare_internal_name w.now)

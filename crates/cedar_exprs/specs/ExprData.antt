@@ -1,0 +1,94 @@
+-- The data at each position of an expression, in the shape of the tree.
+use Rattle.std.specs.Prelude.{Bool, IsTrue, ⊤, List, [], ◌∷◌, map, Option, Some, None}
+use Rattle.std.specs.Global.{Global}
+use Rattle.std.specs.declared.rc.RcStr.{RcStr}
+use Rattle.cedar_builders.specs.Trees.{bool_of}
+use Rattle.cedar_exprs.specs.BareExpr.{bare_expr}
+use Rattle.cedar_exprs.specs.declared.expr.Expr.{Expr, Expr-F, fold-Expr}
+use Rattle.cedar_exprs.specs.declared.expr.ExprKind.{ExprKind, ExprKind-F, fold-ExprKind}
+
+mutual
+  -- the data of a node and of its children
+  pub data DataTree (T : Type 0) : Type 0 where
+    holds : T → DataTrees T → DataTree T
+
+  -- the data of the children, in field order
+  pub data DataTrees (T : Type 0) : Type 0 where
+    no_data : DataTrees T
+    child : DataTree T → DataTrees T → DataTrees T
+
+abbrev mutual
+  -- at each position, what the two hold is equal by E
+  pub SameData : {T : Type 0} → (T → T → Bool) → DataTree T → DataTree T → Type 0
+  SameData E (holds d ds) (holds e es) = IsTrue (E d e) × SameDatas E ds es
+
+  pub SameDatas : {T : Type 0} → (T → T → Bool) → DataTrees T → DataTrees T → Type 0
+  SameDatas E no_data no_data = ⊤
+  SameDatas E no_data (child e es) = ⊥
+  SameDatas E (child d ds) no_data = ⊥
+  SameDatas E (child d ds) (child e es) = SameData E d e × SameDatas E ds es
+
+abbrev pub datas_of : {T : Type 0} → List (DataTree T) → DataTrees T
+datas_of [] = no_data
+datas_of (d ∷ ds) = child d (datas_of ds)
+
+abbrev pub values_of : {K T : Type 0} → List (K × DataTree T) → DataTrees T
+values_of [] = no_data
+values_of (e ∷ es) = child e.1 (values_of es)
+
+-- one level, whose children are their data already
+abbrev pub kind_data_step : {T : Type 0} → ExprKind-F T (DataTrees T) (DataTree T) → DataTrees T
+kind_data_step (ExprKind-F.Lit l) = no_data
+kind_data_step (ExprKind-F.Var v) = no_data
+kind_data_step (ExprKind-F.Slot s) = no_data
+kind_data_step (ExprKind-F.Unknown u) = no_data
+kind_data_step (ExprKind-F.If a b c) = child a.value (child b.value (child c.value no_data))
+kind_data_step (ExprKind-F.And a b) = child a.value (child b.value no_data)
+kind_data_step (ExprKind-F.Or a b) = child a.value (child b.value no_data)
+kind_data_step (ExprKind-F.UnaryApp o a) = child a.value no_data
+kind_data_step (ExprKind-F.BinaryApp o a b) = child a.value (child b.value no_data)
+kind_data_step (ExprKind-F.ExtensionFunctionApp n es) = datas_of es.value.items
+kind_data_step (ExprKind-F.GetAttr a k) = child a.value no_data
+kind_data_step (ExprKind-F.HasAttr a k) = child a.value no_data
+kind_data_step (ExprKind-F.ExtHasAttr a ks) = child a.value no_data
+kind_data_step (ExprKind-F.Like a p) = child a.value no_data
+kind_data_step (ExprKind-F.Set es) = datas_of es.value.items
+kind_data_step (ExprKind-F.Record es) = values_of es.value.entries
+kind_data_step (ExprKind-F.Is a n) = child a.value no_data
+
+abbrev pub data_tree_step : {T : Type 0} → Expr-F T (DataTrees T) (DataTree T) → DataTree T
+data_tree_step e = holds e.«data» e.expr_kind
+
+-- the data of the children of a kind
+abbrev pub kind_data : {T : Type 0} → ExprKind T → DataTrees T
+kind_data {T} = fold-ExprKind T (DataTrees T) (DataTree T) kind_data_step data_tree_step
+
+-- the data at each position
+abbrev pub data_tree : {T : Type 0} → Expr T → DataTree T
+data_tree {T} = fold-Expr T (DataTrees T) (DataTree T) kind_data_step data_tree_step
+
+-- the data of one, two or three children
+abbrev pub one_child : {T : Type 0} → Expr T → DataTrees T
+one_child a = child (data_tree a) no_data
+
+abbrev pub two_children : {T : Type 0} → Expr T → Expr T → DataTrees T
+two_children a b = child (data_tree a) (one_child b)
+
+abbrev pub three_children : {T : Type 0} → Expr T → Expr T → Expr T → DataTrees T
+three_children a b c = child (data_tree a) (two_children b c)
+
+abbrev pub unless_folded : {T : Type 0} → Option Bool → Option Bool → DataTrees T → DataTrees T
+unless_folded (Some a) (Some b) ds = no_data
+unless_folded (Some a) None ds = ds
+unless_folded None b ds = ds
+
+-- the data of the children of what `and` and `or` make: none where two Boolean literals become one
+abbrev pub of_connective : {T : Type 0} → Expr T → Expr T → DataTrees T
+of_connective a b = unless_folded (bool_of (bare_expr a)) (bool_of (bare_expr b)) (two_children a b)
+
+-- the data of a list of expressions, and of the values of a map
+abbrev pub data_trees : {T : Type 0} → List (Expr T) → DataTrees T
+data_trees es = datas_of (map data_tree es)
+
+abbrev pub values_data : {T : Type 0} → List (RcStr Global × Expr T) → DataTrees T
+values_data es = values_of (map (λ e. (e.0, data_tree e.1)) es)
