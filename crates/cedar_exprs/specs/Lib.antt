@@ -1,5 +1,5 @@
 pub mod BareExpr
-pub mod DataTree
+pub mod ExprData
 pub mod BuiltNode
 pub mod Keys
 pub mod RisingKeys
