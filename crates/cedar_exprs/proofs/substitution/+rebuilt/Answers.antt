@@ -14,7 +14,7 @@ rebuilt_all-returns-clause-tree g t c = all_made _ _ _ _ _ c.loop-member.invaria
 
 pub rebuilt-returns-in-Record-clause-tree : goal.rebuilt-returns-in-Record-clause-tree
 rebuilt-returns-in-Record-clause-tree g t c =
-    let env = env_of g.V.SubstituteValue.bare_type_of g.V.SubstituteValue.bare_tree_of c.args.values.now in
+    let env = env_of g.V.SubstituteValue.bare_type_of g.V.SubstituteValue.bare_expr_of c.args.values.now in
     subst (λ tree. IfOk c.record_with.result (λ r. bare_expr r ≡ tree))
     (ap (λ m. Record (fields_substituted env (bare_fields m.entries))) c.deref-in-Record.ensures
     ∙ sym (ap (substituted env) (bare_at_record c.args.e.now c.in-Record.pairs (sym c.expr_kind.ensures ∙ c.in-Record.is))))
@@ -22,7 +22,7 @@ rebuilt-returns-in-Record-clause-tree g t c =
 
 pub rebuilt_values-loop-key-preserved : goal.rebuilt_values-loop-key-preserved
 rebuilt_values-loop-key-preserved g t c =
-    let env = env_of g.V.SubstituteValue.bare_type_of g.V.SubstituteValue.bare_tree_of c.args.values.now in
+    let env = env_of g.V.SubstituteValue.bare_type_of g.V.SubstituteValue.bare_expr_of c.args.values.now in
     let done = c.loop-key.invariant.0 in
     let e : Entry Unit = (c.in-Some.key.now, c.in-Some.value.now) in
     let left = c.next.new.self in

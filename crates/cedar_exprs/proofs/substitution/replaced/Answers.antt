@@ -8,9 +8,9 @@ use Rattle.cedar_exprs.proofs.substitution.replaced.Goals as goal
 
 pub returns-in_err-check-in-Some-clause-refused : goal.returns-in_err-check-in-Some-clause-refused
 returns-in_err-check-in-Some-clause-refused g c =
-    let env = env_of g.V.SubstituteValue.bare_type_of g.V.SubstituteValue.bare_tree_of c.args.values.now in
+    let env = env_of g.V.SubstituteValue.bare_type_of g.V.SubstituteValue.bare_expr_of c.args.values.now in
     let value = c.in-Some.value.now in
     let annotation = bare_annotation c.args.unknown.now.type_annotation in
-    let binding : env (rc_str_bytes c.args.unknown.now.name) ≡ Some (g.V.SubstituteValue.bare_type_of value, g.V.SubstituteValue.bare_tree_of value) = search rules in
+    let binding : env (rc_str_bytes c.args.unknown.now.name) ≡ Some (g.V.SubstituteValue.bare_type_of value, g.V.SubstituteValue.bare_expr_of value) = search rules in
     let refused : Refuses g.C.TypeCheck.types_of (g.C.TypeCheck.refuses annotation (g.V.SubstituteValue.bare_type_of value)) c.from_residual.result = search rules in
     subst (λ found. Refuses g.C.TypeCheck.types_of found c.from_residual.result) (sym (ap (refused_binding g.C.TypeCheck.refuses annotation) binding)) refused
