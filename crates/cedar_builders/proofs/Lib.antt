@@ -1,4 +1,5 @@
+pub mod Walks
 pub mod Moved
-pub mod Substitutions
 pub mod TreeOps
+pub mod Substitutions
 pub mod Clashes

@@ -1,13 +1,11 @@
 -- Substitution by restricted trees is the fold at the builder of trees.
-use Rattle.std.proofs.Common.{◌≡◌, IsTrue, List, [], ◌∷◌, Option, Some, None, Result, Ok, Err, refl, ap}
-use Rattle.std.proofs.Math.Bool.{and-eq-true_iff}
+use Rattle.std.proofs.Common.{◌≡◌, List, [], ◌∷◌, Option, Some, None, Result, Ok, Err, refl, ap}
 use Rattle.cedar_terms.specs.Types.{BareType}
 use Rattle.cedar_builders.specs.BareExpr.{Text, BareExpr, Lit, Var, Slot, Unknown, If, And, Or, UnaryApp, BinaryApp, ExtensionFunctionApp, GetAttr, HasAttr, ExtHasAttr, Like, Set, Record, Is, BareExprs, no_trees, tree, trees_of, BareFields, no_fields, field, fields_of}
 use Rattle.cedar_builders.specs.Fold.{fold_with, fold_all, fold_fields}
 use Rattle.cedar_builders.specs.Environment.{Env, own, bound}
 use Rattle.cedar_builders.specs.Trees.{tree_ops, sure, bound_tree, substituted, all_substituted, fields_substituted}
-use Rattle.cedar_builders.specs.Restricted.{is_restricted, are_restricted, fields_are_restricted}
-use Rattle.cedar_builders.specs.Laws.{SubstitutedByFold, RestrictedRebuilt}
+use Rattle.cedar_builders.specs.Laws.{SubstitutedByFold}
 
 abbrev IsListed : Result (List BareExpr) ⊥ → BareExprs → Type 0
 IsListed r es = (xs : List BareExpr) × (r ≡ Ok xs) × (trees_of xs ≡ es)
@@ -49,31 +47,8 @@ module _ (env : Env) (at_unknown : Text → Option BareType → Result BareExpr 
         let h = field_trees fs in
         ((k, substituted env e) ∷ h.0, rw (with_trees e, h.1), ap (field k (substituted env e)) h.2)
 
--- a restricted tree is rebuilt as it is
-mutual
-  rebuilt : (e : BareExpr) → IsTrue (is_restricted e) → fold_with tree_ops (own tree_ops) e ≡ Ok e
-  rebuilt (Lit l) h = refl
-  rebuilt (Unknown n t) h = refl
-  rebuilt (ExtensionFunctionApp n es) h = let r = all_rebuilt es h in rw r.1 (ap (λ xs. Ok (ExtensionFunctionApp n xs)) r.2)
-  rebuilt (Set es) h = let r = all_rebuilt es h in rw r.1 (ap (λ xs. Ok (Set xs)) r.2)
-  rebuilt (Record fs) h = let r = fields_rebuilt fs h in rw r.1 (ap (λ xs. Ok (Record xs)) r.2)
-  rebuilt e h = cc
-
-  all_rebuilt : (es : BareExprs) → IsTrue (are_restricted es) → IsListed (fold_all tree_ops (own tree_ops) es) es
-  all_rebuilt no_trees h = ([], refl, refl)
-  all_rebuilt (tree e es) h =
-      let r = (and-eq-true_iff (is_restricted e) (are_restricted es)).0 h in
-      let t = all_rebuilt es r.1 in
-      (e ∷ t.0, rw (rebuilt e r.0, t.1), ap (tree e) t.2)
-
-  fields_rebuilt : (fs : BareFields) → IsTrue (fields_are_restricted fs) → IsPaired (fold_fields tree_ops (own tree_ops) fs) fs
-  fields_rebuilt no_fields h = ([], refl, refl)
-  fields_rebuilt (field k e fs) h =
-      let r = (and-eq-true_iff (is_restricted e) (fields_are_restricted fs)).0 h in
-      let t = fields_rebuilt fs r.1 in
-      ((k, e) ∷ t.0, rw (rebuilt e r.0, t.1), ap (field k e) t.2)
-
-answered : (r : Result BareExpr ⊥) → r ≡ Ok (sure r)
+-- what never fails is its answer
+pub answered : (r : Result BareExpr ⊥) → r ≡ Ok (sure r)
 answered (Ok e) = refl
 answered (Err e) = absurd e
 
@@ -83,6 +58,3 @@ bound_is (Some r) n t = answered (fold_with tree_ops (own tree_ops) r.1)
 
 pub fold_at_trees : SubstitutedByFold
 fold_at_trees env e = with_trees env _ (λ n t. bound_is (env n) n t) e
-
-pub restricted_rebuilt : RestrictedRebuilt
-restricted_rebuilt e h = rebuilt e h

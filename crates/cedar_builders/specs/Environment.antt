@@ -9,11 +9,6 @@ use Rattle.cedar_builders.specs.Fold.{fold_with}
 abbrev pub Env : Type 0
 Env = Text → Option (BareType × BareExpr)
 
--- what either gives; the first stands where both do
-abbrev pub either : {A : Type 0} → Option A → Option A → Option A
-either (Some a) b = Some a
-either None b = b
-
 -- nothing is bound
 abbrev pub empty : Env
 empty n = None

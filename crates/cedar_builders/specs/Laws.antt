@@ -1,10 +1,12 @@
 -- The laws of substitution, over the definitions alone.
-use Rattle.std.specs.Prelude.{◌≡◌, ⊤, Option, Some, None, Ok}
+use Rattle.std.specs.Prelude.{◌≡◌, ⊤, All, Option, Some, None, Ok}
+use Rattle.std.specs.Option.{option_or}
 use Rattle.cedar_terms.specs.Types.{BareType}
-use Rattle.cedar_builders.specs.BareExpr.{Text, BareExpr, Lit, Var, Slot, Unknown, If, And, Or, UnaryApp, BinaryApp, ExtensionFunctionApp, GetAttr, HasAttr, ExtHasAttr, Like, Set, Record, Is, BareExprs, no_trees, tree, BareFields, no_fields, field}
+use Rattle.cedar_builders.specs.BareExpr.{Text, BareExpr, Unknown}
 use Rattle.cedar_builders.specs.Ops.{Ops}
-use Rattle.cedar_builders.specs.Environment.{Env, either, empty, fold}
+use Rattle.cedar_builders.specs.Environment.{Env, empty, fold}
 use Rattle.cedar_builders.specs.Trees.{tree_ops, sure, substituted}
+use Rattle.cedar_builders.specs.Walks.{preorder}
 use Rattle.cedar_builders.specs.Restricted.{IsRestricted, BindsRestricted}
 
 -- what is built of the substituted tree is what is built in the environment: the same meaning, or the same first error
@@ -17,7 +19,7 @@ RebuiltTwice = (e : BareExpr) → fold tree_ops empty (sure (fold tree_ops empty
 
 -- what either environment binds; the first one's binding stands where both do
 abbrev pub both : Env → Env → Env
-both env1 env2 n = either (env1 n) (env2 n)
+both env1 env2 n = option_or (env1 n) (env2 n)
 
 -- a binding whose tree is substituted
 abbrev pub within : Env → Option (BareType × BareExpr) → Option (BareType × BareExpr)
@@ -26,42 +28,20 @@ within env (Some r) = Some (r.0, sure (fold tree_ops env r.1))
 
 -- what either environment binds, where the first one's trees are substituted by the second
 abbrev pub then : Env → Env → Env
-then env1 env2 n = either (within env2 (env1 n)) (env2 n)
+then env1 env2 n = option_or (within env2 (env1 n)) (env2 n)
 
 -- two substitutions are one
 abbrev pub SubstitutedTwice : {M F : Type 0} → Ops M F → Type 0
 SubstitutedTwice B = (env1 env2 : Env) (e : BareExpr) → fold B env2 (sure (fold tree_ops env1 e)) ≡ fold B (then env1 env2) e
 
-abbrev mutual
-  -- the environment binds no unknown of the tree
-  pub BindsNone : Env → BareExpr → Type 0
-  BindsNone env (Lit l) = ⊤
-  BindsNone env (Var v) = ⊤
-  BindsNone env (Slot s) = ⊤
-  BindsNone env (Unknown n t) = env n ≡ None
-  BindsNone env (If a b c) = BindsNone env a × BindsNone env b × BindsNone env c
-  BindsNone env (And a b) = BindsNone env a × BindsNone env b
-  BindsNone env (Or a b) = BindsNone env a × BindsNone env b
-  BindsNone env (UnaryApp o a) = BindsNone env a
-  BindsNone env (BinaryApp o a b) = BindsNone env a × BindsNone env b
-  BindsNone env (ExtensionFunctionApp n es) = BindsNoneOf env es
-  BindsNone env (GetAttr a k) = BindsNone env a
-  BindsNone env (HasAttr a k) = BindsNone env a
-  BindsNone env (ExtHasAttr a k ks) = BindsNone env a
-  BindsNone env (Like a p) = BindsNone env a
-  BindsNone env (Set es) = BindsNoneOf env es
-  BindsNone env (Record fs) = BindsNoneIn env fs
-  BindsNone env (Is a n) = BindsNone env a
+-- the environment does not bind the unknown that a node is
+abbrev pub LeavesNode : Env → BareExpr → Type 0
+LeavesNode env (Unknown n t) = env n ≡ None
+LeavesNode env e = ⊤
 
-  -- the environment binds no unknown of the trees
-  pub BindsNoneOf : Env → BareExprs → Type 0
-  BindsNoneOf env no_trees = ⊤
-  BindsNoneOf env (tree e es) = BindsNone env e × BindsNoneOf env es
-
-  -- the environment binds no unknown of a record's values
-  pub BindsNoneIn : Env → BareFields → Type 0
-  BindsNoneIn env no_fields = ⊤
-  BindsNoneIn env (field k e fs) = BindsNone env e × BindsNoneIn env fs
+-- the environment binds no unknown of the tree
+abbrev pub BindsNone : Env → BareExpr → Type 0
+BindsNone env e = All (LeavesNode env) (preorder e)
 
 -- the first environment binds no unknown in the trees that the second one binds
 abbrev pub LeavesAlone : Env → Env → Type 0

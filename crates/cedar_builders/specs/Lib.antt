@@ -1,4 +1,5 @@
 pub mod BareExpr
+pub mod Walks
 pub mod Ops
 pub mod Fold
 pub mod Environment
@@ -8,6 +9,7 @@ pub mod Lawful
 pub mod Laws
 pub mod TypeClash
 pub mod Keys
+pub mod RisingKeys
 pub mod Errors
 pub mod Answers
 pub mod Negated
