@@ -1,5 +1,5 @@
 -- The keys of a map, as those of its bare fields.
-use Rattle.std.proofs.Common.{◌≡◌, ℕ, ◌+◌, ◌<◌, List, [], ◌∷◌, length, get_or, drop, drop-cons, add-one, Less, nat_cmp, Global, sym, ap, ◌∙◌, subst}
+use Rattle.std.proofs.Common.{◌≡◌, List, [], ◌∷◌, Less, nat_cmp, Global, sym, ap, ◌∙◌, subst}
 use Rattle.std.specs.Cmp.Lexicographic.{slice_cmp}
 use Rattle.std.specs.List.{AllByRecursion}
 use Rattle.std.specs.List.Sorted.{IsStrictlySortedBy}
@@ -9,8 +9,8 @@ use Rattle.std.specs.declared.rc.Rc.{Rc}
 use Rattle.std.specs.declared.rc.RcStr.{RcStr}
 use Rattle.cedar_builders.specs.BareExpr as tree
 use Rattle.cedar_builders.specs.Keys.{IsRising}
-use Rattle.cedar_exprs.specs.RisingKeys.{field_keys, KeysRise, AllKeysRise, FieldsKeysRise}
-use Rattle.cedar_exprs.specs.BareExpr.{bare_expr, bare_exprs, bare_fields, kind_of}
+use Rattle.cedar_builders.specs.RisingKeys.{field_keys, NodeKeysRise}
+use Rattle.cedar_exprs.specs.BareExpr.{bare_expr, bare_fields, kind_of}
 use Rattle.cedar_exprs.specs.declared.expr.Expr.{Expr}
 use Rattle.cedar_exprs.specs.declared.expr.ExprKind.{Record}
 use Rattle.cedar_exprs.proofs.Nodes.{Map}
@@ -22,21 +22,12 @@ module _ {T : Type 0} where
   below k (e ∷ es) h = (h.0, below k es h.1)
 
   -- in order in the map, rising in the tree
-  pub keys_rise : (es : List (Entry T)) → IsStrictlySortedBy text_cmp (keys_of es) → IsRising (field_keys (bare_fields es))
+  keys_rise : (es : List (Entry T)) → IsStrictlySortedBy text_cmp (keys_of es) → IsRising (field_keys (bare_fields es))
   unfolding IsStrictlySortedBy
   keys_rise [] h = tt
   keys_rise (e ∷ es) h = (below e.0 es h.0, keys_rise es h.1)
 
-  split : (es : List (Expr T)) (i : ℕ) (e : Expr T) → i < length es → e ≡ get_or es i e → drop i es ≡ e ∷ drop (i + 1) es
-  split es i e lt is = rw (drop-cons es i e, ← is, add-one)
-
-  -- what holds of an item and of what is behind it
-  pub rest_rises :
-      (es : List (Expr T)) (i : ℕ) (e : Expr T) → i < length es → e ≡ get_or es i e → KeysRise (bare_expr e) → AllKeysRise (bare_exprs (drop (i + 1) es)) → AllKeysRise (bare_exprs (drop i es))
-  rest_rises es i e lt is first rest = subst (λ l. AllKeysRise (bare_exprs l)) (sym (split es i e lt is)) (first, rest)
-
-  -- the record of a map whose keys and values rise
-  pub record_rises :
-      (e : Expr T) (m : Rc (Map T) Global) (n : Map T) → kind_of e ≡ Record m → n ≡ m.value → IsRising (field_keys (bare_fields n.entries)) → FieldsKeysRise (bare_fields n.entries) → KeysRise (bare_expr e)
-  record_rises e m n at same keys values =
-      subst KeysRise (sym (bare_at_record e m at ∙ ap (λ (q : Map T). tree.Record (bare_fields q.entries)) (sym same))) (keys, values)
+  -- at a node that is the record of a map
+  pub record_rises : (e : Expr T) (m : Rc (Map T) Global) (n : Map T) → kind_of e ≡ Record m → n ≡ m.value → IsStrictlySortedBy text_cmp (keys_of n.entries) → NodeKeysRise (bare_expr e)
+  record_rises e m n at same ordered =
+      subst NodeKeysRise (sym (bare_at_record e m at ∙ ap (λ (q : Map T). tree.Record (bare_fields q.entries)) (sym same))) (keys_rise n.entries ordered)

@@ -1,13 +1,14 @@
 pub mod Nodes
 pub mod Records
 pub mod DistinctKeys
-pub mod KeyOrder
 pub mod RisingKeys
 pub mod Rebuilt
 pub mod BuildingChildren
 pub mod Leaves
 pub mod Levels
 pub mod Derived
+pub mod KeyOrder
 pub mod Walks
-pub mod Outside
-pub mod OutsideBare
+pub mod BareWalks
+pub mod NotRestrictedLemmas
+pub mod RecordKeys

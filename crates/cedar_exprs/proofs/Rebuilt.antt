@@ -9,7 +9,8 @@ use Rattle.std.specs.declared.rc.RcStr.{RcStr}
 use Rattle.std.proofs.lemmas.List.{take_all}
 use Rattle.cedar_builders.specs.BareExpr.{trees_of}
 use Rattle.cedar_builders.specs.TypeClash.{TwoTypes, Refusals, first_refusal, first_refusal_of_fields}
-use Rattle.cedar_builders.specs.Environment.{Env, either}
+use Rattle.std.specs.Option.{option_or}
+use Rattle.cedar_builders.specs.Environment.{Env}
 use Rattle.cedar_builders.specs.Trees.{substituted, all_substituted, fields_substituted}
 use Rattle.cedar_exprs.specs.BareExpr.{bare_expr, bare_exprs, bare_fields}
 use Rattle.cedar_exprs.proofs.Records.{Entry, text_cmp, above_first}
@@ -44,4 +45,4 @@ pub value_passed : {T : Type 0} (refuse : Refusals) (env : Env) (e : Entry T) (m
     → all ≡ e ∷ more → first_refusal_of_fields refuse env (bare_fields all) ≡ w → first_refusal refuse env (bare_expr e.1) ≡ None
     → first_refusal_of_fields refuse env (bare_fields more) ≡ w
 value_passed refuse env e more all w steps left passed =
-    sym (ap (λ x. either x (first_refusal_of_fields refuse env (bare_fields more))) passed) ∙ (sym (ap (λ es. first_refusal_of_fields refuse env (bare_fields es)) steps) ∙ left)
+    sym (ap (λ x. option_or x (first_refusal_of_fields refuse env (bare_fields more))) passed) ∙ (sym (ap (λ es. first_refusal_of_fields refuse env (bare_fields es)) steps) ∙ left)

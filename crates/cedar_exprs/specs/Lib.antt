@@ -2,8 +2,8 @@ pub mod BareExpr
 pub mod ExprData
 pub mod BuiltNode
 pub mod Keys
-pub mod RisingKeys
 pub mod Walks
+pub mod Children
 pub mod NotRestricted
 pub mod RestrictedExprs
 pub mod Refusals

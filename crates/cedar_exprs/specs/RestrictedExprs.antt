@@ -10,7 +10,7 @@ use Rattle.cedar_builders.specs.BareExpr.{BareExpr}
 use Rattle.cedar_builders.specs.Environment.{Env}
 use Rattle.cedar_exprs.specs.BareExpr.{bare_expr}
 use Rattle.cedar_exprs.specs.declared.expr.Expr.{Expr}
-use Rattle.cedar_exprs.specs.declared.restricted.RestrictedExpr.{RestrictedExpr}
+use Rattle.cedar_exprs.specs.declared.restricted_expr.RestrictedExpr.{RestrictedExpr}
 
 -- the expression that is restricted
 abbrev pub expr_of : RestrictedExpr → Expr Unit

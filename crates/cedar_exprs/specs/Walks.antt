@@ -1,5 +1,6 @@
 -- Walks over whole expressions, with their places and data.
-use Rattle.std.specs.Prelude.{List, [], ◌∷◌, ◌++◌, map, Bool, if◌then◌else◌, Option, Some, None}
+use Rattle.std.specs.Prelude.{List, [], ◌∷◌, map}
+use Rattle.cedar_builders.specs.Walks.{forward}
 use Rattle.cedar_exprs.specs.declared.expr.Expr.{Expr, para-Expr, roll-Expr}
 use Rattle.cedar_exprs.specs.declared.expr.ExprKind.{ExprKind, out-ExprKind}
 use Rattle.cedar_exprs.specs.declared.expr.ExprKind.TheOpen.{ExprKind-F, Expr-F}
@@ -41,16 +42,6 @@ module _ {T A : Type 0} (step : Expr T → List A → A) where
   unfoldable pub walk : Expr T → A
   walk = para-Expr T (List A) A kind_walked expr_walked
 
--- lists one after the other
-abbrev pub forward : {A : Type 0} → List (List A) → List A
-forward [] = []
-forward (xs ∷ rest) = xs ++ forward rest
-
 -- each node before its children, the first child first
 abbrev pub preorder : {T : Type 0} → Expr T → List (Expr T)
 preorder = walk (λ e below. e ∷ forward below)
-
--- the first of a list that passes
-abbrev pub first_such : {A : Type 0} → (A → Bool) → List A → Option A
-first_such p [] = None
-first_such p (x ∷ xs) = if p x then Some x else first_such p xs

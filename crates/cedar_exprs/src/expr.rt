@@ -5,14 +5,11 @@ ghost use Rattle.cedar_terms.specs.Literals.{bare_literal};
 ghost use Rattle.cedar_builders.specs.Trees.{bool_of, literal_bool};
 ghost use Rattle.cedar_exprs.specs.BareExpr.{bare_expr, bare_expr_kind, kind_of, expr_place, data_of};
 ghost use Rattle.cedar_exprs.specs.ExprData.{data_tree, kind_data};
-ghost use Rattle.cedar_exprs.specs.RisingKeys.{KeysRise};
 
-use crate::shape;
 use cedar_names::{Loc, Name, NonEmpty, SlotId};
 use cedar_terms::{BinaryOp, EntityType, Literal, Pattern, UnaryOp, Unknown, Var};
 use std::alloc::{AllocError, Global};
 use std::collections::BTreeMap;
-use std::hash::Hasher;
 use std::rc::{Rc, RcStr};
 
 /// The kinds of expressions. Match on it to walk over a tree.
@@ -181,15 +178,6 @@ impl<T> Expr<T> {
         ensures { result.now ≡ kind_of self.now }
     {
         &self.expr_kind
-    }
-
-    /// Feeds the kind's number as one byte and then its fields, without places and data: alike expressions feed alike.
-    ///
-    /// The keys of each record are fed in rising order.
-    pub fn hash_shape<H: Hasher>(&self, state: &mut H)
-        ensures keys_rise { KeysRise (bare_expr self.now) }
-    {
-        shape::hash_shape(self, state)
     }
 
     /// The kind, with the children, of an expression that is given up.

@@ -1,11 +1,13 @@
 //! The laws of expressions, and those of substitution over their bare trees.
 //!
-//! Each function here does nothing: its contract is the law.
+//! A function here does nothing but carry its contract, which is the law.
 ghost use Rattle.std.specs.Prelude.{◌≡◌, ◌↔◌, IsTrue};
+ghost use Rattle.cedar_builders.specs.RisingKeys.{KeysRise};
 ghost use Rattle.cedar_exprs.specs.ExprData.{SameData, data_tree};
 ghost use Rattle.cedar_exprs.specs.BareExpr.{bare_expr};
 ghost use Rattle.cedar_exprs.specs.declared.expr.Expr.{Expr};
 
+use crate::children::Children;
 use crate::expr::Expr;
 pub use cedar_builders::laws::{
     built_after, clash_by_children, rebuilt_twice, restricted_rebuilt, substituted_by_fold,
@@ -22,3 +24,14 @@ pub fn equal_expressions<T: Eq>()
 pub fn alike_expressions<T: Hash>()
     ensures { (a b : Expr _) → IsTrue (⟦<Expr<T> as PartialEq>⟧.eq a b) → ⟦<Expr<T> as Hash>⟧.hash_input a ≡ ⟦<Expr<T> as Hash>⟧.hash_input b }
 {}
+
+/// The keys of each record in an expression strictly rise, by bytes.
+///
+/// This one walks the expression, since it is the maps inside that know the order of their keys.
+pub fn record_keys_rise<T>(expr: &Expr<T>)
+    ensures { KeysRise (bare_expr expr.now) }
+{
+    for child in Children::of(expr) {
+        record_keys_rise(child);
+    }
+}

@@ -1,17 +1,22 @@
 // The hash of what an expression is, whatever its places and data.
-ghost use Rattle.cedar_builders.specs.Keys.{IsRising};
-ghost use Rattle.cedar_exprs.specs.RisingKeys.{KeysRise, AllKeysRise, FieldsKeysRise, field_keys};
-ghost use Rattle.cedar_exprs.specs.BareExpr.{bare_expr, bare_exprs, bare_fields};
-
 use crate::expr::{Expr, ExprKind};
 use std::collections::BTreeMap;
 use std::hash::{Hash, Hasher};
 use std::rc::RcStr;
 
+impl<T> Expr<T> {
+    /// Feeds the kind's number as one byte and then its fields, without places and data: alike
+    /// expressions feed alike.
+    ///
+    /// The keys of each record are fed in rising order.
+    pub fn hash_shape<H: Hasher>(&self, state: &mut H) {
+        hash_shape(self, state)
+    }
+}
+
 // Feeds the number of the kind as one byte, then the fields in their order.
 #[cycle(shape)]
 pub(crate) fn hash_shape<T, H: Hasher>(e: &Expr<T>, state: &mut H)
-    ensures { KeysRise (bare_expr e.now) }
 {
     state.write_u8(kind_number(e.expr_kind()));
     match e.expr_kind() {
@@ -77,7 +82,6 @@ pub(crate) fn hash_shape<T, H: Hasher>(e: &Expr<T>, state: &mut H)
 // Feeds their number, then each.
 #[cycle(shape)]
 fn hash_members<T, H: Hasher>(members: &[Expr<T>], state: &mut H)
-    ensures { AllKeysRise (bare_exprs members.now) }
 {
     state.write_usize(members.len());
     for member in members {
@@ -88,8 +92,6 @@ fn hash_members<T, H: Hasher>(members: &[Expr<T>], state: &mut H)
 // Feeds their number, then each key with its value.
 #[cycle(shape)]
 fn hash_pairs<T, H: Hasher>(pairs: &BTreeMap<RcStr, Expr<T>>, state: &mut H)
-    ensures keys { IsRising (field_keys (bare_fields pairs.now.entries)) }
-    ensures values { FieldsKeysRise (bare_fields pairs.now.entries) }
 {
     state.write_usize(pairs.len());
     for (key, value) in pairs.iter() {

@@ -21,7 +21,7 @@ ghost use Rattle.cedar_exprs.specs.Refusals.{Refuses};
 
 use crate::builder::ExprBuilder;
 use crate::expr::{Expr, ExprKind, clone_loc};
-use crate::restricted::SubstituteValue;
+use crate::restricted_expr::SubstituteValue;
 use crate::type_check::{TypeCheck, Unchecked};
 use cedar_builders::laws::{built_after, restricted_rebuilt, substituted_by_fold};
 use cedar_builders::{BuildFault, ExprBuilder as _, LawfulExprBuilder};

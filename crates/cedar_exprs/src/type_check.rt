@@ -5,7 +5,7 @@ ghost use Rattle.cedar_terms.specs.Unknowns.{bare_unknown};
 ghost use Rattle.cedar_builders.specs.TypeClash.{TwoTypes, Refusals, difference, mismatch};
 ghost use Rattle.cedar_exprs.specs.Refusals.{clash_types, no_clash, Refuses};
 
-use crate::restricted::SubstituteValue;
+use crate::restricted_expr::SubstituteValue;
 use cedar_builders::BuildFault;
 use cedar_terms::{Type, Unknown};
 use std::alloc::Global;

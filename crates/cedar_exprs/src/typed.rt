@@ -8,7 +8,7 @@ ghost use Rattle.cedar_exprs.specs.RestrictedExprs.{env_of};
 ghost use Rattle.cedar_exprs.specs.Refusals.{types_of, IsClashError};
 
 use crate::expr::Expr;
-use crate::restricted::SubstituteValue;
+use crate::restricted_expr::SubstituteValue;
 use crate::substitution::rebuilt;
 use crate::type_check::{Checked, Clash};
 use cedar_builders::BuildFault;

@@ -7,7 +7,7 @@ ghost use Rattle.cedar_builders.specs.Restricted.{IsRestricted};
 ghost use Rattle.cedar_exprs.specs.BareExpr.{bare_expr};
 
 use crate::expr::{Expr, clone_loc};
-use crate::first_fault::first_fault;
+use crate::not_restricted::first_not_restricted;
 use cedar_names::Loc;
 use cedar_terms::{Literal, StaticallyTyped, Type};
 use std::alloc::{AllocError, Global};
@@ -23,6 +23,20 @@ pub struct RestrictedExpr {
 
 impl RestrictedExpr {
     ghost use Rattle.cedar_exprs.specs.RestrictedExprs.{expr_of, bare_restricted_expr};
+    ghost use Rattle.cedar_exprs.specs.NotRestricted.{first_not_restricted, IsRefusalOf};
+
+    /// The same expression, known to be restricted. Memory is taken only to copy the place of a refusal.
+    pub fn new(alloc: Global, expr: Expr<()>) -> Result<RestrictedExpr, RestrictedExprError>
+        ensures outcome { MatchResult result (λ r. expr_of r ≡ expr) (IsRefusalOf (first_not_restricted expr)) }
+        ensures succeeds { IsOk result ↔ IsRestricted (bare_expr expr) }
+    {
+        match first_not_restricted(&expr) {
+            Some(node) => Err(RestrictedExprError::NotRestricted {
+                loc: clone_loc(alloc, node.source_loc())?,
+            }),
+            None => Ok(RestrictedExpr { expr }),
+        }
+    }
 
     /// The expression.
     pub fn as_expr(&self) -> &Expr<()>
@@ -106,29 +120,11 @@ pub enum RestrictedExprError {
 }
 
 impl From<AllocError> for RestrictedExprError {
-    ghost use Rattle.cedar_exprs.specs.declared.restricted.RestrictedExprError.TheVariants.{Memory};
+    ghost use Rattle.cedar_exprs.specs.declared.restricted_expr.RestrictedExprError.TheVariants.{Memory};
 
     ghost from_gives = { λ _ e. e ≡ Memory };
 
     fn from(_: AllocError) -> RestrictedExprError {
         RestrictedExprError::Memory
-    }
-}
-
-impl RestrictedExpr {
-    ghost use Rattle.cedar_exprs.specs.RestrictedExprs.{expr_of};
-    ghost use Rattle.cedar_exprs.specs.NotRestricted.{first_not_restricted, IsRefusalOf};
-
-    /// The same expression, known to be restricted. Memory is taken only to copy the place of a refusal.
-    pub fn new(alloc: Global, expr: Expr<()>) -> Result<RestrictedExpr, RestrictedExprError>
-        ensures outcome { MatchResult result (λ r. expr_of r ≡ expr) (IsRefusalOf (first_not_restricted expr)) }
-        ensures succeeds { IsOk result ↔ IsRestricted (bare_expr expr) }
-    {
-        match first_fault(&expr) {
-            Some(fault) => Err(RestrictedExprError::NotRestricted {
-                loc: clone_loc(alloc, fault.source_loc())?,
-            }),
-            None => Ok(RestrictedExpr { expr }),
-        }
     }
 }

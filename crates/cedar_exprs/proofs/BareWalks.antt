@@ -1,0 +1,52 @@
+-- The walk over an expression is the walk over its bare tree.
+use Rattle.std.proofs.Common.{◌≡◌, List, [], ◌∷◌, ◌++◌, map, refl, sym, ap, ◌∙◌, Global}
+use Rattle.std.specs.List.{AllByRecursion}
+use Rattle.std.specs.declared.rc.RcStr.{RcStr}
+use Rattle.std.proofs.lemmas.List.{map-append}
+use Rattle.cedar_builders.specs.BareExpr.{BareExpr, trees_of}
+use Rattle.cedar_builders.specs.Walks as bare
+use Rattle.cedar_builders.specs.Walks.{forward}
+use Rattle.cedar_builders.proofs.Walks as bare_lemmas
+use Rattle.cedar_exprs.specs.BareExpr.{bare_expr, bare_expr_kind, bare_step, node_step, fields_at}
+use Rattle.cedar_exprs.specs.Walks.{parts, children, walk, preorder}
+use Rattle.cedar_exprs.specs.declared.expr.Expr.{Expr, Expr-F, fold_out-Expr}
+use Rattle.cedar_exprs.specs.declared.expr.ExprKind.{ExprKind, ExprKind-F, out-ExprKind, fold_out-ExprKind, map-ExprKind}
+use Rattle.cedar_exprs.proofs.Walks.{walk_is, by_children}
+
+pub members_of-trees_of : (es : List BareExpr) → bare.members_of (trees_of es) ≡ es
+members_of-trees_of [] = refl
+members_of-trees_of (e ∷ es) = ap (λ xs. e ∷ xs) (members_of-trees_of es)
+
+map-forward : {A B : Type 0} (f : A → B) (xss : List (List A)) → map f (forward xss) ≡ forward (map (map f) xss)
+map-forward f [] = refl
+map-forward f (xs ∷ rest) = map-append f xs (forward rest) ∙ ap (λ ys. map f xs ++ ys) (map-forward f rest)
+
+module _ {T : Type 0} where
+  values : (es : List (RcStr Global × Expr T)) → map bare_expr (map (λ e. e.1) es) ≡ bare.values_of (fields_at (map (λ e. (e.0, bare_expr e.1)) es))
+  values [] = refl
+  values (e ∷ es) = ap (λ xs. bare_expr e.1 ∷ xs) (values es)
+
+  layer : (x : ExprKind-F T (ExprKind T) (Expr T)) → map bare_expr (parts x) ≡ bare.children (bare_step (map-ExprKind T _ _ _ _ bare_expr_kind bare_expr x))
+  layer (ExprKind-F.ExtensionFunctionApp n es) = sym (members_of-trees_of (map bare_expr es.value.items))
+  layer (ExprKind-F.Set es) = sym (members_of-trees_of (map bare_expr es.value.items))
+  layer (ExprKind-F.Record es) = values es.value.entries
+  layer x = refl
+
+  -- the bare trees of the children are the children of the bare tree
+  pub children_bare : (e : Expr T) → map bare_expr (children e) ≡ bare.children (bare_expr e)
+  children_bare e =
+      layer (out-ExprKind T e.expr_kind)
+      ∙ ap bare.children (sym (fold_out-ExprKind T BareExpr BareExpr bare_step node_step e.expr_kind))
+      ∙ ap bare.children (sym (fold_out-Expr T BareExpr BareExpr bare_step node_step e))
+
+  -- the bare trees in preorder are the preorder of the bare tree
+  pub preorder_bare : (e : Expr T) → map bare_expr (preorder e) ≡ bare.preorder (bare_expr e)
+  preorder_bare =
+      by_children (λ e. map bare_expr (preorder e) ≡ bare.preorder (bare_expr e)) (λ e below.
+      ap (map bare_expr) (walk_is (λ e below. e ∷ forward below) e)
+      ∙ ap (λ xs. bare_expr e ∷ xs) (map-forward bare_expr (map preorder (children e)) ∙ ap forward (all (children e) below ∙ ap (map bare.preorder) (children_bare e)))
+      ∙ sym (bare_lemmas.walk_is (λ e below. e ∷ forward below) (bare_expr e)))
+    where
+      all : (es : List (Expr T)) → AllByRecursion (λ e. map bare_expr (preorder e) ≡ bare.preorder (bare_expr e)) es → map (map bare_expr) (map preorder es) ≡ map bare.preorder (map bare_expr es)
+      all [] h = refl
+      all (e ∷ es) h = rw (h.0, all es h.1) refl

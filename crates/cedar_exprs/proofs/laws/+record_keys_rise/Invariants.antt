@@ -1,0 +1,21 @@
+use Rattle.std.proofs.Common.{◌<◌, ◌≡◌, length}
+use Rattle.std.specs.Prelude.{All}
+use Rattle.cedar_builders.specs.RisingKeys.{NodeKeysRise, KeysRise}
+use Rattle.cedar_exprs.specs.BareExpr.{bare_expr}
+use Rattle.cedar_exprs.specs.Children.{children_left}
+use Rattle.cedar_exprs.specs.Walks.{preorder}
+use Rattle.cedar_exprs.proofs.Walks.{counted}
+use Rattle.cedar_exprs.proofs.RecordKeys.{RiseIn}
+use Rattle.cedar_exprs.proofs.laws.+record_keys_rise.Given as goal
+
+-- the number of positions
+abbrev pub decreases-record_keys_rise : goal.decreases-record_keys_rise
+decreases-record_keys_rise g l = length (preorder l.expr.now)
+
+-- where the keys rise in the children that are left, they rise in all; those have fewer positions
+abbrev pub invariant-loop-child : goal.invariant-loop-child
+invariant-loop-child g l =
+    (goal.iterator-loop-child g).can_next l.child-iterator
+    × (goal.iterator-loop-child g).is_finite l.child-iterator
+    × (RiseIn (children_left l.child-iterator) → KeysRise (bare_expr l.expr))
+    × (counted (children_left l.child-iterator) < length (preorder l.expr))
