@@ -5,23 +5,7 @@ use Rattle.std.specs.List.{AllByRecursion}
 use Rattle.std.specs.Option.{option_or}
 use Rattle.std.proofs.lemmas.List.Elements.{All-nil, All-head, All-tail, All-cons}
 use Rattle.cedar_builders.specs.BareExpr.{BareExpr, Lit, Var, Slot, Unknown, If, And, Or, UnaryApp, BinaryApp, ExtensionFunctionApp, GetAttr, HasAttr, ExtHasAttr, Like, Set, Record, Is, BareExprs, no_trees, tree, BareFields, no_fields, field}
-use Rattle.cedar_builders.specs.Walks.{members_of, values_of, children, walk, walk_all, walk_fields, forward, first_of}
-
-module _ {A : Type 0} (step : BareExpr → List A → A) where
-  pub walk_members : (es : BareExprs) → walk_all step es ≡ map (walk step) (members_of es)
-  walk_members no_trees = refl
-  walk_members (tree e es) = ap (λ xs. walk step e ∷ xs) (walk_members es)
-
-  pub walk_values : (fs : BareFields) → walk_fields step fs ≡ map (walk step) (values_of fs)
-  walk_values no_fields = refl
-  walk_values (field k e fs) = ap (λ xs. walk step e ∷ xs) (walk_values fs)
-
-  -- a walk makes of a tree what its step makes of it and of what the walk makes of the children
-  pub walk_is : (e : BareExpr) → walk step e ≡ step e (map (walk step) (children e))
-  walk_is (ExtensionFunctionApp n es) = ap (step (ExtensionFunctionApp n es)) (walk_members es)
-  walk_is (Set es) = ap (step (Set es)) (walk_members es)
-  walk_is (Record fs) = ap (step (Record fs)) (walk_values fs)
-  walk_is e = refl
+use Rattle.cedar_builders.specs.Walks.{members_of, values_of, children, walk, walk_is, forward, first_of}
 
 -- what holds of each tree whose children it holds of holds of every tree
 module _ (P : BareExpr → Type 0) (step : (e : BareExpr) → AllByRecursion P (children e) → P e) where

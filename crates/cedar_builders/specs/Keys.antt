@@ -1,5 +1,6 @@
 -- The pairs that a record is made of.
-use Rattle.std.specs.Prelude.{Bool, true, not, ◌&&◌, IsTrue, List, [], ◌∷◌, map, nat_eq}
+use Rattle.std.specs.Prelude.{◌≡◌, Bool, true, not, ◌&&◌, IsTrue, List, [], ◌∷◌, ◌++◌, map, fold, nat_eq, IsPermutation}
+use Rattle.std.specs.BTreeMap.{insert_entry}
 use Rattle.std.specs.Global.{Global}
 use Rattle.std.specs.Ordering.{nat_cmp}
 use Rattle.std.specs.List.{list_any}
@@ -33,3 +34,24 @@ are_distinct (k ∷ ks) = not (is_among k ks) && are_distinct ks
 -- some key stands twice
 abbrev pub HasRepeat : List Text → Type 0
 HasRepeat ks = IsTrue (not (are_distinct ks))
+
+-- pairs with each key as its text
+abbrev pub keyed : {A : Type 0} → List (RcStr Global × A) → List (Text × A)
+keyed = map (λ p. (rc_str_bytes p.0, p.1))
+
+-- the pairs in the order of their keys: each is put to its place in turn
+abbrev pub in_key_order : {A : Type 0} → List (Text × A) → List (Text × A)
+in_key_order ps = fold (λ es p. insert_entry (slice_cmp nat_cmp) es p.0 p.1) [] ps
+
+-- they are the same pairs, and their keys rise
+pub record IsInKeyOrder {A : Type 0} (ps es : List (Text × A)) : Type 0 where
+  pub same : IsPermutation ps es
+  pub rises : IsRising (map (λ e. e.0) es)
+
+-- the first key that stands behind an equal one
+pub record IsFirstRepeat (ks : List Text) (k : Text) : Type 0 where
+  pub before : List Text
+  pub after : List Text
+  pub split : ks ≡ before ++ (k ∷ after)
+  pub distinct : IsTrue (are_distinct before)
+  pub stood : IsTrue (is_among k before)

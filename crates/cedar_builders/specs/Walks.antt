@@ -1,7 +1,8 @@
 -- Walks over trees: the children of a tree in the order in which they are built (`ExprKind` of Cedar's `expr.rs`), its positions in two orders, and the
 -- entries that a walk's stack needs (`expr_iterator.rs`).
-use Rattle.std.specs.Prelude.{ℕ, ◌+◌, max, List, [], ◌∷◌, ◌++◌, Option, Some, None}
+use Rattle.std.specs.Prelude.{◌≡◌, refl, map, ℕ, ◌+◌, max, List, [], ◌∷◌, ◌++◌, Option, Some, None}
 use Rattle.std.specs.Option.{option_or}
+use Rattle.std.proofs.Common.{ap}
 use Rattle.cedar_builders.specs.BareExpr.{
     BareExpr, Lit, Var, Slot, Unknown, If, And, Or, UnaryApp, BinaryApp, ExtensionFunctionApp, GetAttr, HasAttr, ExtHasAttr, Like, Set, Record, Is,
     BareExprs, no_trees, tree, BareFields, no_fields, field,
@@ -68,6 +69,22 @@ module _ {A : Type 0} (step : BareExpr → List A → A) where
     pub walk_fields : BareFields → List A
     walk_fields no_fields = []
     walk_fields (field k e fs) = walk e ∷ walk_fields fs
+
+module _ {A : Type 0} (step : BareExpr → List A → A) where
+  walk_members : (es : BareExprs) → walk_all step es ≡ map (walk step) (members_of es)
+  walk_members no_trees = refl
+  walk_members (tree e es) = ap (λ xs. walk step e ∷ xs) (walk_members es)
+
+  walk_values : (fs : BareFields) → walk_fields step fs ≡ map (walk step) (values_of fs)
+  walk_values no_fields = refl
+  walk_values (field k e fs) = ap (λ xs. walk step e ∷ xs) (walk_values fs)
+
+  -- a walk makes of a tree what its step makes of it and of what the walk makes of the children
+  pub walk_is : (e : BareExpr) → walk step e ≡ step e (map (walk step) (children e))
+  walk_is (ExtensionFunctionApp n es) = ap (step (ExtensionFunctionApp n es)) (walk_members es)
+  walk_is (Set es) = ap (step (Set es)) (walk_members es)
+  walk_is (Record fs) = ap (step (Record fs)) (walk_values fs)
+  walk_is e = refl
 
 -- lists one after the other, the first first
 abbrev pub forward : {A : Type 0} → List (List A) → List A

@@ -1,10 +1,13 @@
 //! The laws of substitution, for all trees and environments.
 //!
 //! Each function here does nothing: its contract is the law, over the definitions alone.
+ghost use Rattle.std.specs.Prelude.{IsTrue};
+ghost use Rattle.cedar_builders.specs.Keys.{keys_of, keyed, are_distinct, in_key_order, IsInKeyOrder};
 ghost use Rattle.cedar_builders.specs.Laws.{BuiltAfter, RebuiltTwice, SubstitutedTwice, ThenIsBoth, ThenIsNotAlwaysBoth, SubstitutedByFold, RestrictedRebuilt};
 ghost use Rattle.cedar_builders.specs.TypeClash.{ClashByChildren};
 
 use crate::expr_builder::LawfulExprBuilder;
+use std::rc::RcStr;
 
 /// To substitute and then build is to build in the environment: the same meaning, or the same first error.
 pub fn built_after<B: LawfulExprBuilder>()
@@ -47,4 +50,12 @@ pub fn restricted_rebuilt()
 /// The clash at the first position in preorder is the first one found child by child.
 pub fn clash_by_children()
     ensures { ClashByChildren }
+{}
+
+/// Pairs with distinct keys, in the order of their keys: the same pairs, whose keys strictly rise.
+pub fn pairs_in_key_order<A>(pairs: &[(RcStr, A)])
+    ensures {
+        IsTrue (are_distinct (keys_of pairs.now))
+            → IsInKeyOrder (keyed pairs.now) (in_key_order (keyed pairs.now))
+    }
 {}

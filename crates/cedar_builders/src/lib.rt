@@ -3,6 +3,7 @@
 
 pub mod expr_builder;
 pub mod expression_construction_errors;
+pub mod keys;
 pub mod laws;
 
 pub use expr_builder::{BuildFault, ExprBuilder, ExprBuilderInfallibleBuild, LawfulExprBuilder};

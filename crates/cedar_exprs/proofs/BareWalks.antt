@@ -6,7 +6,6 @@ use Rattle.std.proofs.lemmas.List.{map-append}
 use Rattle.cedar_builders.specs.BareExpr.{BareExpr, trees_of}
 use Rattle.cedar_builders.specs.Walks as bare
 use Rattle.cedar_builders.specs.Walks.{forward}
-use Rattle.cedar_builders.proofs.Walks as bare_lemmas
 use Rattle.cedar_exprs.specs.BareExpr.{bare_expr, bare_expr_kind, bare_step, node_step, fields_at}
 use Rattle.cedar_exprs.specs.Walks.{parts, children, walk, preorder}
 use Rattle.cedar_exprs.specs.declared.expr.Expr.{Expr, Expr-F, fold_out-Expr}
@@ -45,7 +44,7 @@ module _ {T : Type 0} where
       by_children (λ e. map bare_expr (preorder e) ≡ bare.preorder (bare_expr e)) (λ e below.
       ap (map bare_expr) (walk_is (λ e below. e ∷ forward below) e)
       ∙ ap (λ xs. bare_expr e ∷ xs) (map-forward bare_expr (map preorder (children e)) ∙ ap forward (all (children e) below ∙ ap (map bare.preorder) (children_bare e)))
-      ∙ sym (bare_lemmas.walk_is (λ e below. e ∷ forward below) (bare_expr e)))
+      ∙ sym (bare.walk_is (λ e below. e ∷ forward below) (bare_expr e)))
     where
       all : (es : List (Expr T)) → AllByRecursion (λ e. map bare_expr (preorder e) ≡ bare.preorder (bare_expr e)) es → map (map bare_expr) (map preorder es) ≡ map bare.preorder (map bare_expr es)
       all [] h = refl

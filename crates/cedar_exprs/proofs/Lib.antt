@@ -1,7 +1,5 @@
 pub mod Nodes
 pub mod Records
-pub mod DistinctKeys
-pub mod RisingKeys
 pub mod Rebuilt
 pub mod BuildingChildren
 pub mod Leaves

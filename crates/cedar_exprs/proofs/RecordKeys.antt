@@ -7,7 +7,6 @@ use Rattle.cedar_builders.specs.BareExpr.{BareExpr}
 use Rattle.cedar_builders.specs.RisingKeys.{NodeKeysRise, KeysRise}
 use Rattle.cedar_builders.specs.Walks as bare
 use Rattle.cedar_builders.specs.Walks.{forward}
-use Rattle.cedar_builders.proofs.Walks as bare_lemmas
 use Rattle.cedar_exprs.specs.BareExpr.{bare_expr}
 use Rattle.cedar_exprs.specs.Walks.{children}
 use Rattle.cedar_exprs.specs.declared.expr.Expr.{Expr}
@@ -24,7 +23,7 @@ module _ {T : Type 0} where
 
   pub rises : (e : Expr T) → NodeKeysRise (bare_expr e) → RiseIn (children e) → KeysRise (bare_expr e)
   rises e here below =
-      subst (All NodeKeysRise) (sym (bare_lemmas.walk_is (λ e below. e ∷ forward below) (bare_expr e)))
+      subst (All NodeKeysRise) (sym (bare.walk_is (λ e below. e ∷ forward below) (bare_expr e)))
       (All-cons NodeKeysRise (bare_expr e) _ here (subst (λ es. All NodeKeysRise (forward (map bare.preorder es))) (children_bare e) (together (children e) below)))
 
   -- one child more

@@ -1,17 +1,19 @@
 -- The bare fields of a map, and of a record.
-use Rattle.std.proofs.Common.{◌≡◌, List, [], ◌∷◌, ◌++◌, map, Ordering, Less, Greater, nat_cmp, Global, refl, ap, ◌∙◌, BTreeMap}
+use Rattle.std.proofs.Common.{◌≡◌, List, [], ◌∷◌, ◌++◌, map, Ordering, Less, Greater, nat_cmp, Global, refl, ap, sym, subst, ◌∙◌, BTreeMap, Result, Ok, Err, IfErr}
 use Rattle.std.proofs.lemmas.Cmp.{nat_list_cmp_total}
 use Rattle.std.specs.Cmp.Lexicographic.{slice_cmp}
 use Rattle.std.specs.List.{AllByRecursion}
 use Rattle.std.specs.Map.{keys_of}
 use Rattle.std.specs.Ordering.{ordering_reverse}
 use Rattle.std.specs.Rc.{rc_str_bytes}
+use Rattle.std.specs.Result.{IsErrAnd}
 use Rattle.std.specs.declared.rc.Rc.{Rc}
 use Rattle.std.specs.declared.rc.RcStr.{RcStr}
 use Rattle.cedar_builders.specs.BareExpr.{BareExpr, Record, field, fields_of}
 use Rattle.cedar_exprs.specs.BareExpr.{bare_expr, bare_expr_kind, bare_step, node_step, bare_fields, kind_of}
 use Rattle.cedar_exprs.specs.ExprData.{data_tree, values_data, values_of, holds, child}
-use Rattle.cedar_exprs.specs.Keys.{keyed, in_key_order, record_fields, record_datas}
+use Rattle.cedar_builders.specs.Keys.{keyed, in_key_order, meant_pairs}
+use Rattle.cedar_exprs.specs.RecordPairs.{record_fields, record_data}
 use Rattle.cedar_exprs.specs.BuiltNode.{builder_data, IsMadeBy}
 use Rattle.cedar_exprs.specs.declared.builder.ExprBuilder.{ExprBuilder}
 use Rattle.cedar_exprs.specs.declared.expr.Expr.{Expr, fold_out-Expr}
@@ -51,7 +53,7 @@ values-keyed (e ∷ es) = ap (child (data_tree e.1)) (values-keyed es)
 
 -- the record of a map that was made of pairs
 pub made_of_pairs : {T : Type 0} (b : ExprBuilder T) (m n : BTreeMap (RcStr Global) (Expr T)) (ps : List (Entry T)) (e : Expr T) → n ≡ m → keyed m.entries ≡ in_key_order (keyed ps)
-    → IsMadeBy b (Record (bare_fields n.entries)) (values_data n.entries) e → IsMadeBy b (Record (record_fields ps)) (record_datas ps) e
+    → IsMadeBy b (Record (bare_fields n.entries)) (values_data n.entries) e → IsMadeBy b (Record (record_fields ps)) (record_data ps) e
 made_of_pairs {T} b m n ps e same made node =
     let entries : keyed n.entries ≡ in_key_order (keyed ps) = ap (λ (q : BTreeMap (RcStr Global) (Expr T)). keyed q.entries) same ∙ made in
     record {
@@ -59,3 +61,17 @@ made_of_pairs {T} b m n ps e same made node =
       loc = node.loc;
       «data» = node.«data» ∙ ap (holds (builder_data b)) (values-keyed n.entries ∙ ap (λ qs. values_of (map (λ p. (p.0, data_tree p.1)) qs)) entries);
     }
+
+meant-keyed : {T : Type 0} (ps : List (Entry T)) → map (λ p. (p.0, bare_expr p.1)) (keyed ps) ≡ meant_pairs bare_expr ps
+meant-keyed [] = refl
+meant-keyed (p ∷ ps) = ap (λ qs. (rc_str_bytes p.0, bare_expr p.1) ∷ qs) (meant-keyed ps)
+
+-- the fields of a map that was made of pairs in order
+pub fields_in_order : {T : Type 0} (m n : BTreeMap (RcStr Global) (Expr T)) (ps : List (Entry T)) → n ≡ m → keyed m.entries ≡ keyed ps → bare_fields n.entries ≡ fields_of (meant_pairs bare_expr ps)
+fields_in_order {T} m n ps same kept =
+    fields-keyed n.entries ∙ ap (λ qs. fields_of (map (λ p. (p.0, bare_expr p.1)) qs)) (ap (λ (q : BTreeMap (RcStr Global) (Expr T)). keyed q.entries) same ∙ kept) ∙ ap fields_of (meant-keyed ps)
+
+-- what holds of the error that an answer passes on
+pub on_passed : {E F : Type 0} (r : Result E F) (f : F) (P : F → Type 0) → IsErrAnd r (λ e. e ≡ f) → P f → IfErr r P
+on_passed (Ok x) f P h p = tt
+on_passed (Err e) f P h p = subst P (sym h) p

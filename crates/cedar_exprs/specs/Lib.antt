@@ -1,7 +1,7 @@
 pub mod BareExpr
 pub mod ExprData
 pub mod BuiltNode
-pub mod Keys
+pub mod RecordPairs
 pub mod Walks
 pub mod Children
 pub mod NotRestricted

@@ -7,17 +7,17 @@ ghost use Rattle.cedar_terms.specs.Entities.{bare_entity_type};
 ghost use Rattle.cedar_terms.specs.Literals.{bare_literal, BoolLit};
 ghost use Rattle.cedar_terms.specs.Unknowns.{bare_unknown};
 ghost use Rattle.cedar_builders.specs.BareExpr.{BareExpr, Lit, ExtensionFunctionApp, Set, Record};
-ghost use Rattle.cedar_builders.specs.Keys.{keys_of, are_distinct, meant_pairs, IsRising, HasRepeat};
+ghost use Rattle.cedar_builders.specs.Keys.{keys_of, are_distinct, meant_pairs, IsRising, HasRepeat, IsFirstRepeat};
 ghost use Rattle.cedar_builders.specs.Errors.{key_of, OnDuplicateKey};
 ghost use Rattle.cedar_builders.specs.declared.expression_construction_errors.ExpressionConstructionError.TheVariants as error;
 ghost use Rattle.cedar_builders.specs.Trees.{tree_ops};
 ghost use Rattle.cedar_exprs.specs.BareExpr.{bare_expr, bare_expr_kind, bare_exprs, bare_fields, expr_place, further, unknown_tree};
 ghost use Rattle.cedar_exprs.specs.ExprData.{kind_data, data_trees, values_data, no_data, one_child, two_children, three_children, of_connective};
-ghost use Rattle.cedar_exprs.specs.Keys.{IsFirstRepeat, record_fields, record_datas};
+ghost use Rattle.cedar_exprs.specs.RecordPairs.{record_fields, record_data};
 ghost use Rattle.cedar_exprs.specs.BuiltNode.{builder_place, builder_data, IsMadeBy, never, IfBuilt};
 
 use crate::expr::{Expr, ExprKind, clone_loc};
-use crate::keys::distinct_keys;
+use cedar_builders::keys::collect_distinct;
 use cedar_builders::{
     BuildFault, ExprBuilderInfallibleBuild, ExpressionConstructionError, LawfulExprBuilder,
     expr_builder,
@@ -365,7 +365,7 @@ impl<T: Default + Copy> expr_builder::ExprBuilder for ExprBuilder<T> {
         alloc: Global,
         pairs: Vec<(RcStr, Expr<T>)>,
     ) -> Result<Expr<T>, ExpressionConstructionError>
-        ensures made { IfOk result (IsMadeBy self (Record (record_fields pairs.items)) (record_datas pairs.items)) }
+        ensures made { IfOk result (IsMadeBy self (Record (record_fields pairs.items)) (record_data pairs.items)) }
         ensures distinct { OnOk result (IsTrue (are_distinct (keys_of pairs.items))) }
         ensures refused { IfErr result (OnDuplicateKey (λ e. IsFirstRepeat (keys_of pairs.items) (key_of e))) }
 
@@ -374,7 +374,7 @@ impl<T: Default + Copy> expr_builder::ExprBuilder for ExprBuilder<T> {
         ensures accepts { IsRising (keys_of pairs.items) → IfErr result (λ e. e ≡ error.Memory) }
         ensures refuses { IfErr result (OnDuplicateKey (λ _. HasRepeat (keys_of pairs.items))) }
     {
-        let values = distinct_keys(alloc, pairs)?;
+        let values = collect_distinct(alloc, pairs)?;
         Ok(self.record_arc(Rc::new(alloc, values)?))
     }
 }

@@ -6,11 +6,11 @@ ghost use Rattle.cedar_terms.specs.Entities.{bare_entity_type};
 ghost use Rattle.cedar_terms.specs.Literals.{bare_literal};
 ghost use Rattle.cedar_terms.specs.Unknowns.{bare_unknown};
 ghost use Rattle.cedar_builders.specs.BareExpr.{ExtensionFunctionApp, Set, Record};
-ghost use Rattle.cedar_builders.specs.Keys.{keys_of, are_distinct};
+ghost use Rattle.cedar_builders.specs.Keys.{keys_of, are_distinct, IsFirstRepeat};
 ghost use Rattle.cedar_builders.specs.Errors.{key_of, OnDuplicateKey};
 ghost use Rattle.cedar_builders.specs.Trees.{tree_ops};
 ghost use Rattle.cedar_exprs.specs.BareExpr.{bare_expr, bare_exprs, bare_fields, further, unknown_tree};
-ghost use Rattle.cedar_exprs.specs.Keys.{IsFirstRepeat, record_fields};
+ghost use Rattle.cedar_exprs.specs.RecordPairs.{record_fields};
 ghost use Rattle.cedar_exprs.specs.BuiltNode.{IsPlain};
 
 use crate::builder::ExprBuilder;

@@ -6,7 +6,6 @@ mod building;
 mod children;
 mod constructors;
 mod expr;
-mod keys;
 pub mod laws;
 mod not_restricted;
 mod restricted_expr;

@@ -15,7 +15,7 @@ use Rattle.cedar_builders.specs.BareExpr.{Text, BareExpr, Lit, Var as variable, 
 use Rattle.cedar_builders.specs.TypeClash.{clash}
 use Rattle.cedar_builders.specs.Environment.{Env, empty, fold}
 use Rattle.cedar_builders.specs.Trees.{tree_ops}
-use Rattle.cedar_exprs.specs.Keys.{in_key_order}
+use Rattle.cedar_builders.specs.Keys.{in_key_order}
 use Rattle.cedar_exprs.specs.BareExpr.{bare_expr, bare_exprs}
 use Rattle.cedar_exprs.specs.RestrictedExprs.{env_of}
 use Rattle.cedar_script.specs.Sketch.{sketch_ops}

@@ -9,7 +9,7 @@ ghost use Rattle.cedar_builders.specs.TypeClash.{clash};
 ghost use Rattle.cedar_builders.specs.Environment.{empty, fold};
 ghost use Rattle.cedar_builders.specs.Trees.{tree_ops};
 ghost use Rattle.cedar_exprs.specs.BareExpr.{bare_expr, bare_exprs};
-ghost use Rattle.cedar_exprs.specs.Keys.{keyed};
+ghost use Rattle.cedar_builders.specs.Keys.{keyed};
 ghost use Rattle.cedar_exprs.specs.Refusals.{IsClashError};
 ghost use Rattle.cedar_script.specs.Commands.{key_pairs, record_made, bound_in, bound_as, texts_now};
 ghost use Rattle.cedar_script.specs.Sketch.{sketch_ops};

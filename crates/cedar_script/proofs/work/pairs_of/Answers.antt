@@ -1,5 +1,5 @@
 use Rattle.std.proofs.Common.{inl, inr, ◌∙◌}
-use Rattle.cedar_exprs.specs.Keys.{keyed}
+use Rattle.cedar_builders.specs.Keys.{keyed}
 use Rattle.cedar_script.proofs.Pairs.{all_paired}
 use Rattle.cedar_script.proofs.work.pairs_of.Goals as goal
 

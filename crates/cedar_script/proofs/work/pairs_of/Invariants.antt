@@ -1,7 +1,7 @@
 use Rattle.std.proofs.Common.{◌≡◌, ◌++◌, length}
 use Rattle.std.specs.Iterator.Adapters.{zip_first, zip_second}
 use Rattle.std.specs.Vec.Iter.{into_iter_items, into_iter_len}
-use Rattle.cedar_exprs.specs.Keys.{keyed}
+use Rattle.cedar_builders.specs.Keys.{keyed}
 use Rattle.cedar_script.specs.Commands.{key_pairs}
 use Rattle.cedar_script.proofs.work.pairs_of.Given as goal
 

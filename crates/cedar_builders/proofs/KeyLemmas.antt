@@ -1,6 +1,5 @@
 -- Pairs whose keys rise, and keys of which one stands twice.
-use Rattle.std.proofs.Common.{◌≡◌, List, [], ◌∷◌, ◌++◌, map, fold, Bool, true, false, not, ◌&&◌, ◌||◌, Less, Greater, nat_cmp, Global, refl, ap, sym, ◌∙◌, subst, append_assoc, append-nil, Result, Ok, Err, IfErr}
-use Rattle.std.specs.Result.{IsErrAnd}
+use Rattle.std.proofs.Common.{◌≡◌, List, [], ◌∷◌, ◌++◌, map, fold, Bool, true, false, not, ◌&&◌, ◌||◌, Less, Greater, nat_cmp, Global, refl, ap, sym, ◌∙◌, subst, append_assoc, append-nil}
 use Rattle.std.specs.Ordering.{is_eq, ordering_reverse}
 use Rattle.std.specs.List.{AllByRecursion}
 use Rattle.std.specs.List.Sorted.{IsStrictlySortedBy}
@@ -9,15 +8,12 @@ use Rattle.std.specs.Rc.{rc_str_bytes}
 use Rattle.std.specs.declared.rc.RcStr.{RcStr}
 use Rattle.std.proofs.lemmas.Bool.{false≢true}
 use Rattle.std.proofs.lemmas.List.Folds.{list_any-append}
-use Rattle.cedar_builders.specs.BareExpr.{Text, fields_of}
-use Rattle.cedar_builders.specs.Keys.{keys_of, is_among, are_distinct, meant_pairs, IsRising, HasRepeat}
+use Rattle.cedar_builders.specs.BareExpr.{Text}
+use Rattle.cedar_builders.specs.Keys.{keys_of, is_among, are_distinct, IsRising, HasRepeat, keyed, in_key_order, IsFirstRepeat}
 use Rattle.cedar_builders.specs.Errors.{key_of, OnDuplicateKey}
 use Rattle.cedar_builders.specs.declared.expression_construction_errors.ExpressionConstructionError.{ExpressionConstructionError}
 use Rattle.cedar_builders.specs.declared.expression_construction_errors.ExpressionConstructionError.TheVariants.{DuplicateKey, Memory}
-use Rattle.cedar_exprs.specs.BareExpr.{bare_expr}
-use Rattle.cedar_exprs.specs.Keys.{in_key_order, keyed, record_fields, IsFirstRepeat}
-use Rattle.cedar_exprs.specs.declared.expr.Expr.{Expr}
-use Rattle.cedar_exprs.proofs.DistinctKeys.{texts, keys-keyed, same, put}
+use Rattle.cedar_builders.proofs.DistinctKeys.{texts, keys-keyed, same, put}
 
 and_false : (b : Bool) → (b && false) ≡ false
 and_false true = refl
@@ -86,19 +82,5 @@ module _ {A : Type 0} where
       ∙ (kept_from (done ++ (p ∷ [])) ps (subst (λ es. IsRising (texts es)) (sym (append_assoc done (p ∷ []) ps)) h) ∙ append_assoc done (p ∷ []) ps)
 
   -- pairs whose keys rise are in the order of their keys
-  rising_kept : (ps : List (Text × A)) → IsRising (texts ps) → in_key_order ps ≡ ps
+  pub rising_kept : (ps : List (Text × A)) → IsRising (texts ps) → in_key_order ps ≡ ps
   rising_kept ps h = kept_from [] ps h
-
-meant-keyed : {T : Type 0} (ps : List (RcStr Global × Expr T)) → map (λ p. (p.0, bare_expr p.1)) (keyed ps) ≡ meant_pairs bare_expr ps
-meant-keyed [] = refl
-meant-keyed (p ∷ ps) = ap (λ qs. (rc_str_bytes p.0, bare_expr p.1) ∷ qs) (meant-keyed ps)
-
--- the record of pairs whose keys rise
-pub rising_fields : {T : Type 0} (ps : List (RcStr Global × Expr T)) → IsRising (keys_of ps) → record_fields ps ≡ fields_of (meant_pairs bare_expr ps)
-rising_fields ps h =
-    ap (λ qs. fields_of (map (λ p. (p.0, bare_expr p.1)) qs)) (rising_kept (keyed ps) (subst IsRising (keys-keyed ps) h)) ∙ ap fields_of (meant-keyed ps)
-
--- what holds of the error that an answer passes on
-pub on_passed : {E F : Type 0} (r : Result E F) (f : F) (P : F → Type 0) → IsErrAnd r (λ e. e ≡ f) → P f → IfErr r P
-on_passed (Ok x) f P h p = tt
-on_passed (Err e) f P h p = subst P (sym h) p

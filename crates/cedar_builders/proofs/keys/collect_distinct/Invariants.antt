@@ -1,9 +1,9 @@
 use Rattle.std.proofs.Common.{◌≡◌, ◌++◌, IsTrue}
 use Rattle.std.specs.Vec.Iter.{into_iter_items}
 use Rattle.cedar_builders.specs.Keys.{are_distinct}
-use Rattle.cedar_exprs.specs.Keys.{keyed, in_key_order}
-use Rattle.cedar_exprs.proofs.DistinctKeys.{texts}
-use Rattle.cedar_exprs.proofs.keys.distinct_keys.Given as goal
+use Rattle.cedar_builders.specs.Keys.{keyed, in_key_order}
+use Rattle.cedar_builders.proofs.DistinctKeys.{texts}
+use Rattle.cedar_builders.proofs.keys.collect_distinct.Given as goal
 
 abbrev pub invariant-loop-key : goal.invariant-loop-key
 invariant-loop-key g l = record {

@@ -11,9 +11,10 @@ use Rattle.std.proofs.lemmas.List.{map-append}
 use Rattle.std.proofs.lemmas.List.Folds.{list_any-append}
 use Rattle.std.proofs.lemmas.List.Sums.{fold-append}
 use Rattle.cedar_builders.specs.BareExpr.{Text}
-use Rattle.cedar_builders.specs.Keys.{keys_of, is_among, are_distinct}
-use Rattle.cedar_exprs.specs.Keys.{in_key_order, keyed, IsFirstRepeat}
-use Rattle.cedar_exprs.proofs.Records.{text_cmp}
+use Rattle.cedar_builders.specs.Keys.{keys_of, is_among, are_distinct, in_key_order, keyed, IsFirstRepeat}
+
+abbrev text_cmp : RcStr Global → RcStr Global → Ordering
+text_cmp a b = slice_cmp nat_cmp (rc_str_bytes a) (rc_str_bytes b)
 
 -- the keys of pairs whose keys are texts
 abbrev pub texts : {A : Type 0} → List (Text × A) → List Text
@@ -70,7 +71,7 @@ module _ {A : Type 0} where
   in_key_order-push ps p = fold-append put [] ps (p ∷ [])
 
   -- the keys with one more
-  among-put : (k : Text) (es : List (Text × A)) (p : Text × A) → is_among k (texts (put es p)) ≡ (same k p.0 || is_among k (texts es))
+  pub among-put : (k : Text) (es : List (Text × A)) (p : Text × A) → is_among k (texts (put es p)) ≡ (same k p.0 || is_among k (texts es))
   among-put k [] p = refl
   among-put k (e ∷ es) p =
       elim (slice_cmp nat_cmp p.0 e.0) as (λ o. slice_cmp nat_cmp p.0 e.0 ≡ o → is_among k (texts (match_ordering o (p ∷ e ∷ es) ((e.0, p.1) ∷ es) (e ∷ put es p))) ≡ (same k p.0 || is_among k (texts (e ∷ es)))) [
@@ -111,7 +112,7 @@ and_true : (a b : Bool) → (a && b) ≡ true → (a ≡ true) × (b ≡ true)
 and_true true b h = (refl, h)
 and_true false b h = absurd (false≢true h)
 
-or_none : (a b : Bool) → (a || b) ≡ false → (a ≡ false) × (b ≡ false)
+pub or_none : (a b : Bool) → (a || b) ≡ false → (a ≡ false) × (b ≡ false)
 or_none true b h = absurd (false≢true (sym h))
 or_none false b h = (refl, h)
 

@@ -1,11 +1,12 @@
 use Rattle.std.proofs.Common.{◌≡◌, ◌++◌, ◌∷◌, [], true, false, ap, sym, ◌∙◌, subst, append_assoc, append-nil}
 use Rattle.std.specs.Rc.{rc_str_bytes}
 use Rattle.std.specs.Vec.Iter.{into_iter_items}
-use Rattle.cedar_builders.specs.Keys.{keys_of, are_distinct, is_among}
+use Rattle.cedar_builders.specs.Keys.{keys_of, are_distinct, is_among, IsRising}
 use Rattle.cedar_builders.specs.Errors.{key_of, OnDuplicateKey}
-use Rattle.cedar_exprs.specs.Keys.{keyed, in_key_order, IsFirstRepeat}
-use Rattle.cedar_exprs.proofs.DistinctKeys.{texts, keys-keyed, found, made-push, texts-push, distinct-push, first_repeat, none_left}
-use Rattle.cedar_exprs.proofs.keys.distinct_keys.Goals as goal
+use Rattle.cedar_builders.specs.Keys.{keyed, in_key_order, IsFirstRepeat}
+use Rattle.cedar_builders.proofs.DistinctKeys.{texts, keys-keyed, found, made-push, texts-push, distinct-push, first_repeat, none_left}
+use Rattle.cedar_builders.proofs.KeyLemmas.{rising_accepted, rising_kept, repeat_found}
+use Rattle.cedar_builders.proofs.keys.collect_distinct.Goals as goal
 
 pub loop-key-preserved : goal.loop-key-preserved
 loop-key-preserved g c =
@@ -42,3 +43,15 @@ pub returns-clause-distinct : goal.returns-clause-distinct
 returns-clause-distinct g c =
     let all : c.args.pairs.items ≡ c.loop-key.yielded = c.loop-key.invariant.whole ∙ (ap (λ qs. c.loop-key.yielded ++ qs) (none_left _ (sym c.loop-key.key-iterator.rest.ok.0 ∙ c.in-None.ensures.steps.0)) ∙ append-nil c.loop-key.yielded) in
     ap are_distinct (keys-keyed c.args.pairs.items) ∙ (ap (λ qs. are_distinct (texts (keyed qs))) all ∙ c.loop-key.invariant.distinct)
+
+pub returns-then-contains_key-clause-repeats : goal.returns-then-contains_key-clause-repeats
+returns-then-contains_key-clause-repeats g c =
+    repeat_found (keys_of c.args.pairs.items) c.into.result (returns-then-contains_key-clause-refused g c)
+
+pub returns-then-contains_key-clause-accepts : goal.returns-then-contains_key-clause-accepts
+returns-then-contains_key-clause-accepts g c = λ rising.
+    rising_accepted (keys_of c.args.pairs.items) c.into.result (returns-then-contains_key-clause-refused g c) rising
+
+pub returns-clause-kept : goal.returns-clause-kept
+returns-clause-kept g c = λ rising.
+    returns-clause-made g c ∙ rising_kept (keyed c.args.pairs.items) (subst IsRising (keys-keyed c.args.pairs.items) rising)
