@@ -72,7 +72,8 @@ impl From<io::Error> for BenchFault {
 
 /// Goes through the cases.
 pub trait Visit {
-    /// A case: its name, its sizes from the least up, what makes the input of one run, and the run, which is timed.
+    /// A case: its name, its sizes from the least up, what makes the input of one run, and the run,
+    /// which is timed.
     fn case<I, O, M, R>(
         &mut self,
         name: &'static str,

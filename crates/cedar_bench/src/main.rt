@@ -1,7 +1,8 @@
 //! Times the calls that the layer exists for, each over inputs of several sizes.
 //!
-//! With no arguments the cases are listed. A case runs if an argument is a beginning of its name; `--quick` takes its two
-//! least sizes alone. A line for each figure: the case, the size, and the least time of a run in seconds.
+//! With no arguments the cases are listed. A case runs if an argument is a beginning of its name;
+//! `--quick` takes its two least sizes alone. A line for each figure: the case, the size, and the
+//! least time of a run in seconds.
 #![tactic(auto)]
 
 mod args;

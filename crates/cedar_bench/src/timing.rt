@@ -61,7 +61,8 @@ fn print_time(rt: &HostRuntime, name: &str, size: usize, time: Duration) -> Resu
     Ok(())
 }
 
-// The least time of a run. Its input is made before the clock starts, and dropped with its answer after the clock has stopped.
+// The least time of a run. Its input is made before the clock starts, and dropped with its answer
+// after the clock has stopped.
 fn least_time<I, O, M, R>(
     rt: &HostRuntime,
     size: usize,

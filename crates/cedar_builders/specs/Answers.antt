@@ -1,11 +1,15 @@
 -- An answer with an expression or an error, by what they mean.
-use Rattle.std.specs.Prelude.{◌≡◌, ⊤, List, map, Result, Ok, Err, Vec}
+use Rattle.std.specs.Prelude.{◌≡◌, ⊤, List, map, Result, Ok, Err, IfOk, Vec}
 use Rattle.std.specs.Global.{Global}
 use Rattle.std.specs.declared.rc.RcStr.{RcStr}
 use Rattle.cedar_builders.specs.BareExpr.{Text}
 use Rattle.cedar_builders.specs.Keys.{meant_pairs}
 use Rattle.cedar_builders.specs.declared.expr_builder.BuildFault.{BuildFault}
 use Rattle.cedar_builders.specs.declared.expr_builder.BuildFault.TheVariants.{Build, Memory}
+
+-- the answer means this, want of memory aside
+abbrev pub Means : {E D M : Type 0} → (E → M) → M → Result E D → Type 0
+Means meaning_of m result = IfOk result (λ e. meaning_of e ≡ m)
 
 -- the answer is what is wanted, its meaning or its error's, want of memory aside
 abbrev pub Gives : {E D M F : Type 0} → (E → M) → (D → F) → Result M F → Result E (BuildFault D) → Type 0

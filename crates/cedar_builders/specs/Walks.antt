@@ -4,8 +4,30 @@ use Rattle.std.specs.Prelude.{◌≡◌, refl, map, ℕ, ◌+◌, max, List, [],
 use Rattle.std.specs.Option.{option_or}
 use Rattle.std.proofs.Common.{ap}
 use Rattle.cedar_builders.specs.BareExpr.{
-    BareExpr, Lit, Var, Slot, Unknown, If, And, Or, UnaryApp, BinaryApp, ExtensionFunctionApp, GetAttr, HasAttr, ExtHasAttr, Like, Set, Record, Is,
-    BareExprs, no_trees, tree, BareFields, no_fields, field,
+  BareExpr,
+  Lit,
+  Var,
+  Slot,
+  Unknown,
+  If,
+  And,
+  Or,
+  UnaryApp,
+  BinaryApp,
+  ExtensionFunctionApp,
+  GetAttr,
+  HasAttr,
+  ExtHasAttr,
+  Like,
+  Set,
+  Record,
+  Is,
+  BareExprs,
+  no_trees,
+  tree,
+  BareFields,
+  no_fields,
+  field,
 }
 
 -- the trees of a row

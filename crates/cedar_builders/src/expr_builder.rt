@@ -13,7 +13,7 @@ ghost use Rattle.cedar_builders.specs.Ops.{Ops};
 ghost use Rattle.cedar_builders.specs.Lawful.{Lawful};
 ghost use Rattle.cedar_builders.specs.Keys.{keys_of, meant_pairs, IsRising, HasRepeat};
 ghost use Rattle.cedar_builders.specs.Errors.{OnDuplicateKey};
-ghost use Rattle.cedar_builders.specs.Answers.{Gives};
+ghost use Rattle.cedar_builders.specs.Answers.{Gives, Means};
 ghost use Rattle.cedar_builders.specs.Negated.{MakesNegated};
 ghost use Rattle.cedar_builders.specs.declared.expr_builder.BuildFault.TheVariants.{Memory};
 ghost use Rattle.cedar_builders.specs.declared.expression_construction_errors.ExpressionConstructionError.TheVariants as error;
@@ -52,9 +52,10 @@ impl<E, T: Drop> From<AllocFailed<T>> for BuildFault<E> {
 
 /// What makes expressions: a call for each kind of expression, and one for each operator.
 ///
-/// A builder says what the expressions that it makes mean, and what its errors mean, in types of its own choice. Each call
-/// that makes a node then means one operation on the node's own fields and the meanings of its children. Only a call of an
-/// extension function may be refused for a reason of the builder's own.
+/// A builder says what the expressions that it makes mean, and what its errors mean, in types of
+/// its own choice. Each call that makes a node then means one operation on the node's own fields
+/// and the meanings of its children. Only a call of an extension function may be refused for a
+/// reason of the builder's own.
 pub trait ExprBuilder: Sized + Drop {
     /// What the builder makes.
     type Expr: Drop;
@@ -98,11 +99,13 @@ pub trait ExprBuilder: Sized + Drop {
         ensures new { is_new result }
         ensures place { place_of result ≡ kept_place None };
 
-    /// A builder with no place, whose nodes carry this data. What a builder does with data is its own affair.
+    /// A builder with no place, whose nodes carry this data. What a builder does with data is its
+    /// own affair.
     fn with_data(data: Self::Data) -> Self
         ensures { place_of result ≡ kept_place None };
 
-    /// The place that is given to what is made. A builder may keep none, whatever was set: meanings do not depend on places.
+    /// The place that is given to what is made. A builder may keep none, whatever was set: meanings
+    /// do not depend on places.
     fn loc(&self) -> Option<&Loc>
         ensures { option_copied result ≡ place_of self.now };
 
@@ -116,19 +119,22 @@ pub trait ExprBuilder: Sized + Drop {
 
     /// A literal.
     fn val(self, alloc: Global, literal: Literal) -> Result<Self::Expr, AllocError>
-        ensures { is_new self → IfOk result (λ e. meaning_of e ≡ ops.lit_of (bare_literal literal)) };
+        ensures { is_new self → Means meaning_of (ops.lit_of (bare_literal literal)) result };
 
     /// A variable of the request.
     fn var(self, alloc: Global, var: Var) -> Result<Self::Expr, AllocError>
-        ensures { is_new self → IfOk result (λ e. meaning_of e ≡ ops.var_of var) };
+        ensures { is_new self → Means meaning_of (ops.var_of var) result };
 
     /// A slot of a template.
     fn slot(self, alloc: Global, slot: SlotId) -> Result<Self::Expr, AllocError>
-        ensures { is_new self → IfOk result (λ e. meaning_of e ≡ ops.slot_of slot) };
+        ensures { is_new self → Means meaning_of (ops.slot_of slot) result };
 
     /// A value that is not known yet.
     fn unknown(self, alloc: Global, unknown: Unknown) -> Result<Self::Expr, AllocError>
-        ensures { is_new self → IfOk result (λ e. meaning_of e ≡ ops.unknown_of (bare_unknown unknown).name (bare_unknown unknown).annotation) };
+        ensures { is_new self
+            → Means meaning_of
+            (ops.unknown_of (bare_unknown unknown).name (bare_unknown unknown).annotation)
+            result };
 
     /// The second expression where the first holds, else the third.
     fn ite(
@@ -138,7 +144,10 @@ pub trait ExprBuilder: Sized + Drop {
         then_expr: Self::Expr,
         else_expr: Self::Expr,
     ) -> Result<Self::Expr, AllocError>
-        ensures { is_new self → IfOk result (λ e. meaning_of e ≡ ops.if_of (meaning_of test_expr) (meaning_of then_expr) (meaning_of else_expr)) };
+        ensures { is_new self
+            → Means meaning_of
+            (ops.if_of (meaning_of test_expr) (meaning_of then_expr) (meaning_of else_expr))
+            result };
 
     /// The conjunction of two expressions.
     fn and(
@@ -147,7 +156,8 @@ pub trait ExprBuilder: Sized + Drop {
         left: Self::Expr,
         right: Self::Expr,
     ) -> Result<Self::Expr, AllocError>
-        ensures { is_new self → IfOk result (λ e. meaning_of e ≡ ops.and_of (meaning_of left) (meaning_of right)) };
+        ensures { is_new self
+            → Means meaning_of (ops.and_of (meaning_of left) (meaning_of right)) result };
 
     /// The disjunction of two expressions.
     fn or(
@@ -156,7 +166,8 @@ pub trait ExprBuilder: Sized + Drop {
         left: Self::Expr,
         right: Self::Expr,
     ) -> Result<Self::Expr, AllocError>
-        ensures { is_new self → IfOk result (λ e. meaning_of e ≡ ops.or_of (meaning_of left) (meaning_of right)) };
+        ensures { is_new self
+            → Means meaning_of (ops.or_of (meaning_of left) (meaning_of right)) result };
 
     /// An operator on one argument.
     fn unary_app(
@@ -165,7 +176,7 @@ pub trait ExprBuilder: Sized + Drop {
         op: UnaryOp,
         arg: Self::Expr,
     ) -> Result<Self::Expr, AllocError>
-        ensures means { is_new self → IfOk result (λ e. meaning_of e ≡ ops.unary_of op (meaning_of arg)) }
+        ensures means { is_new self → Means meaning_of (ops.unary_of op (meaning_of arg)) result }
         ensures makes { IfOk result (makes_unary self op arg) };
 
     /// An operator on two arguments.
@@ -176,7 +187,8 @@ pub trait ExprBuilder: Sized + Drop {
         arg1: Self::Expr,
         arg2: Self::Expr,
     ) -> Result<Self::Expr, AllocError>
-        ensures means { is_new self → IfOk result (λ e. meaning_of e ≡ ops.binary_of op (meaning_of arg1) (meaning_of arg2)) }
+        ensures means { is_new self
+            → Means meaning_of (ops.binary_of op (meaning_of arg1) (meaning_of arg2)) result }
         ensures makes { IfOk result (makes_binary self op arg1 arg2) };
 
     /// A call of an extension function. The builder's own errors come from here alone.
@@ -186,7 +198,9 @@ pub trait ExprBuilder: Sized + Drop {
         fn_name: Name,
         args: Vec<Self::Expr>,
     ) -> Result<Self::Expr, BuildFault<Self::BuildError>>
-        ensures { is_new self → Gives meaning_of fault_of (ops.call_of (bare_name fn_name) (map meaning_of args.items)) result };
+        ensures { is_new self
+            → Gives meaning_of fault_of
+            (ops.call_of (bare_name fn_name) (map meaning_of args.items)) result };
 
     /// `expr.attr`: the attribute of an entity or a record.
     fn get_attr(
@@ -195,7 +209,8 @@ pub trait ExprBuilder: Sized + Drop {
         expr: Self::Expr,
         attr: RcStr,
     ) -> Result<Self::Expr, AllocError>
-        ensures { is_new self → IfOk result (λ e. meaning_of e ≡ ops.get_of (meaning_of expr) (rc_str_bytes attr)) };
+        ensures { is_new self
+            → Means meaning_of (ops.get_of (meaning_of expr) (rc_str_bytes attr)) result };
 
     /// `expr has attr`: whether an entity or a record has the attribute.
     fn has_attr(
@@ -204,7 +219,8 @@ pub trait ExprBuilder: Sized + Drop {
         expr: Self::Expr,
         attr: RcStr,
     ) -> Result<Self::Expr, AllocError>
-        ensures { is_new self → IfOk result (λ e. meaning_of e ≡ ops.has_of (meaning_of expr) (rc_str_bytes attr)) };
+        ensures { is_new self
+            → Means meaning_of (ops.has_of (meaning_of expr) (rc_str_bytes attr)) result };
 
     /// `expr has a.b.c`: whether each attribute is there in turn.
     fn extended_has_attr(
@@ -213,7 +229,11 @@ pub trait ExprBuilder: Sized + Drop {
         expr: Self::Expr,
         attrs: NonEmpty<RcStr>,
     ) -> Result<Self::Expr, AllocError>
-        ensures { is_new self → IfOk result (λ e. meaning_of e ≡ ops.ext_has_of (meaning_of expr) (rc_str_bytes attrs.head) (map rc_str_bytes attrs.tail.items)) };
+        ensures { is_new self
+            → Means meaning_of
+            (ops.ext_has_of (meaning_of expr) (rc_str_bytes attrs.head)
+            (map rc_str_bytes attrs.tail.items))
+            result };
 
     /// `expr like pattern`: whether the pattern matches the text.
     fn like(
@@ -222,7 +242,7 @@ pub trait ExprBuilder: Sized + Drop {
         expr: Self::Expr,
         pattern: Pattern,
     ) -> Result<Self::Expr, AllocError>
-        ensures { is_new self → IfOk result (λ e. meaning_of e ≡ ops.like_of (meaning_of expr) pattern) };
+        ensures { is_new self → Means meaning_of (ops.like_of (meaning_of expr) pattern) result };
 
     /// `expr is entity_type`: whether the entity is of the type.
     fn is_entity_type(
@@ -231,26 +251,32 @@ pub trait ExprBuilder: Sized + Drop {
         expr: Self::Expr,
         entity_type: EntityType,
     ) -> Result<Self::Expr, AllocError>
-        ensures { is_new self → IfOk result (λ e. meaning_of e ≡ ops.is_of (meaning_of expr) (bare_entity_type entity_type)) };
+        ensures { is_new self
+            → Means meaning_of (ops.is_of (meaning_of expr) (bare_entity_type entity_type))
+            result };
 
     /// A set by its members, in this order.
     fn set(self, alloc: Global, members: Vec<Self::Expr>) -> Result<Self::Expr, AllocError>
-        ensures { is_new self → IfOk result (λ e. meaning_of e ≡ ops.set_of (map meaning_of members.items)) };
+        ensures { is_new self
+            → Means meaning_of (ops.set_of (map meaning_of members.items)) result };
 
-    /// A record by its keys and values. Pairs whose keys rise strictly, by bytes, are always accepted; a builder may refuse
-    /// others with `DuplicateKey`, where a key stands twice.
+    /// A record by its keys and values. Pairs whose keys rise strictly, by bytes, are always
+    /// accepted; a builder may refuse others with `DuplicateKey`, where a key stands twice.
     fn record(
         self,
         alloc: Global,
         pairs: Vec<(RcStr, Self::Expr)>,
     ) -> Result<Self::Expr, ExpressionConstructionError>
-        ensures means { is_new self → IsRising (keys_of pairs.items) → IfOk result (λ e. meaning_of e ≡ ops.record_of (meant_pairs meaning_of pairs.items)) }
+        ensures means { is_new self
+            → IsRising (keys_of pairs.items)
+            → Means meaning_of (ops.record_of (meant_pairs meaning_of pairs.items)) result }
         ensures accepts { IsRising (keys_of pairs.items) → IfErr result (λ e. e ≡ error.Memory) }
         ensures refuses { IfErr result (OnDuplicateKey (λ _. HasRepeat (keys_of pairs.items))) };
 
     /// `!arg`.
     fn not(self, alloc: Global, arg: Self::Expr) -> Result<Self::Expr, AllocError>
-        ensures means { is_new self → IfOk result (λ e. meaning_of e ≡ ops.unary_of UnaryOp.Not (meaning_of arg)) }
+        ensures means { is_new self
+            → Means meaning_of (ops.unary_of UnaryOp.Not (meaning_of arg)) result }
         ensures makes { IfOk result (makes_unary self UnaryOp.Not arg) }
     {
         self.unary_app(alloc, UnaryOp::Not, arg)
@@ -258,7 +284,8 @@ pub trait ExprBuilder: Sized + Drop {
 
     /// `-arg`.
     fn neg(self, alloc: Global, arg: Self::Expr) -> Result<Self::Expr, AllocError>
-        ensures means { is_new self → IfOk result (λ e. meaning_of e ≡ ops.unary_of UnaryOp.Neg (meaning_of arg)) }
+        ensures means { is_new self
+            → Means meaning_of (ops.unary_of UnaryOp.Neg (meaning_of arg)) result }
         ensures makes { IfOk result (makes_unary self UnaryOp.Neg arg) }
     {
         self.unary_app(alloc, UnaryOp::Neg, arg)
@@ -266,7 +293,8 @@ pub trait ExprBuilder: Sized + Drop {
 
     /// `arg.isEmpty()`: whether the set has no member.
     fn is_empty(self, alloc: Global, arg: Self::Expr) -> Result<Self::Expr, AllocError>
-        ensures means { is_new self → IfOk result (λ e. meaning_of e ≡ ops.unary_of UnaryOp.IsEmpty (meaning_of arg)) }
+        ensures means { is_new self
+            → Means meaning_of (ops.unary_of UnaryOp.IsEmpty (meaning_of arg)) result }
         ensures makes { IfOk result (makes_unary self UnaryOp.IsEmpty arg) }
     {
         self.unary_app(alloc, UnaryOp::IsEmpty, arg)
@@ -279,7 +307,9 @@ pub trait ExprBuilder: Sized + Drop {
         arg1: Self::Expr,
         arg2: Self::Expr,
     ) -> Result<Self::Expr, AllocError>
-        ensures means { is_new self → IfOk result (λ e. meaning_of e ≡ ops.binary_of BinaryOp.Eq (meaning_of arg1) (meaning_of arg2)) }
+        ensures means { is_new self
+            → Means meaning_of (ops.binary_of BinaryOp.Eq (meaning_of arg1) (meaning_of arg2))
+            result }
         ensures makes { IfOk result (makes_binary self BinaryOp.Eq arg1 arg2) }
     {
         self.binary_app(alloc, BinaryOp::Eq, arg1, arg2)
@@ -292,7 +322,9 @@ pub trait ExprBuilder: Sized + Drop {
         arg1: Self::Expr,
         arg2: Self::Expr,
     ) -> Result<Self::Expr, AllocError>
-        ensures means { is_new self → IfOk result (λ e. meaning_of e ≡ ops.binary_of BinaryOp.Less (meaning_of arg1) (meaning_of arg2)) }
+        ensures means { is_new self
+            → Means meaning_of (ops.binary_of BinaryOp.Less (meaning_of arg1) (meaning_of arg2))
+            result }
         ensures makes { IfOk result (makes_binary self BinaryOp.Less arg1 arg2) }
     {
         self.binary_app(alloc, BinaryOp::Less, arg1, arg2)
@@ -305,7 +337,9 @@ pub trait ExprBuilder: Sized + Drop {
         arg1: Self::Expr,
         arg2: Self::Expr,
     ) -> Result<Self::Expr, AllocError>
-        ensures means { is_new self → IfOk result (λ e. meaning_of e ≡ ops.binary_of BinaryOp.LessEq (meaning_of arg1) (meaning_of arg2)) }
+        ensures means { is_new self
+            → Means meaning_of
+            (ops.binary_of BinaryOp.LessEq (meaning_of arg1) (meaning_of arg2)) result }
         ensures makes { IfOk result (makes_binary self BinaryOp.LessEq arg1 arg2) }
     {
         self.binary_app(alloc, BinaryOp::LessEq, arg1, arg2)
@@ -318,7 +352,9 @@ pub trait ExprBuilder: Sized + Drop {
         arg1: Self::Expr,
         arg2: Self::Expr,
     ) -> Result<Self::Expr, AllocError>
-        ensures means { is_new self → IfOk result (λ e. meaning_of e ≡ ops.binary_of BinaryOp.Add (meaning_of arg1) (meaning_of arg2)) }
+        ensures means { is_new self
+            → Means meaning_of (ops.binary_of BinaryOp.Add (meaning_of arg1) (meaning_of arg2))
+            result }
         ensures makes { IfOk result (makes_binary self BinaryOp.Add arg1 arg2) }
     {
         self.binary_app(alloc, BinaryOp::Add, arg1, arg2)
@@ -331,7 +367,9 @@ pub trait ExprBuilder: Sized + Drop {
         arg1: Self::Expr,
         arg2: Self::Expr,
     ) -> Result<Self::Expr, AllocError>
-        ensures means { is_new self → IfOk result (λ e. meaning_of e ≡ ops.binary_of BinaryOp.Sub (meaning_of arg1) (meaning_of arg2)) }
+        ensures means { is_new self
+            → Means meaning_of (ops.binary_of BinaryOp.Sub (meaning_of arg1) (meaning_of arg2))
+            result }
         ensures makes { IfOk result (makes_binary self BinaryOp.Sub arg1 arg2) }
     {
         self.binary_app(alloc, BinaryOp::Sub, arg1, arg2)
@@ -344,7 +382,9 @@ pub trait ExprBuilder: Sized + Drop {
         arg1: Self::Expr,
         arg2: Self::Expr,
     ) -> Result<Self::Expr, AllocError>
-        ensures means { is_new self → IfOk result (λ e. meaning_of e ≡ ops.binary_of BinaryOp.Mul (meaning_of arg1) (meaning_of arg2)) }
+        ensures means { is_new self
+            → Means meaning_of (ops.binary_of BinaryOp.Mul (meaning_of arg1) (meaning_of arg2))
+            result }
         ensures makes { IfOk result (makes_binary self BinaryOp.Mul arg1 arg2) }
     {
         self.binary_app(alloc, BinaryOp::Mul, arg1, arg2)
@@ -357,7 +397,9 @@ pub trait ExprBuilder: Sized + Drop {
         arg1: Self::Expr,
         arg2: Self::Expr,
     ) -> Result<Self::Expr, AllocError>
-        ensures means { is_new self → IfOk result (λ e. meaning_of e ≡ ops.binary_of BinaryOp.In (meaning_of arg1) (meaning_of arg2)) }
+        ensures means { is_new self
+            → Means meaning_of (ops.binary_of BinaryOp.In (meaning_of arg1) (meaning_of arg2))
+            result }
         ensures makes { IfOk result (makes_binary self BinaryOp.In arg1 arg2) }
     {
         self.binary_app(alloc, BinaryOp::In, arg1, arg2)
@@ -370,7 +412,9 @@ pub trait ExprBuilder: Sized + Drop {
         arg1: Self::Expr,
         arg2: Self::Expr,
     ) -> Result<Self::Expr, AllocError>
-        ensures means { is_new self → IfOk result (λ e. meaning_of e ≡ ops.binary_of BinaryOp.Contains (meaning_of arg1) (meaning_of arg2)) }
+        ensures means { is_new self
+            → Means meaning_of
+            (ops.binary_of BinaryOp.Contains (meaning_of arg1) (meaning_of arg2)) result }
         ensures makes { IfOk result (makes_binary self BinaryOp.Contains arg1 arg2) }
     {
         self.binary_app(alloc, BinaryOp::Contains, arg1, arg2)
@@ -383,7 +427,9 @@ pub trait ExprBuilder: Sized + Drop {
         arg1: Self::Expr,
         arg2: Self::Expr,
     ) -> Result<Self::Expr, AllocError>
-        ensures means { is_new self → IfOk result (λ e. meaning_of e ≡ ops.binary_of BinaryOp.ContainsAll (meaning_of arg1) (meaning_of arg2)) }
+        ensures means { is_new self
+            → Means meaning_of
+            (ops.binary_of BinaryOp.ContainsAll (meaning_of arg1) (meaning_of arg2)) result }
         ensures makes { IfOk result (makes_binary self BinaryOp.ContainsAll arg1 arg2) }
     {
         self.binary_app(alloc, BinaryOp::ContainsAll, arg1, arg2)
@@ -396,7 +442,9 @@ pub trait ExprBuilder: Sized + Drop {
         arg1: Self::Expr,
         arg2: Self::Expr,
     ) -> Result<Self::Expr, AllocError>
-        ensures means { is_new self → IfOk result (λ e. meaning_of e ≡ ops.binary_of BinaryOp.ContainsAny (meaning_of arg1) (meaning_of arg2)) }
+        ensures means { is_new self
+            → Means meaning_of
+            (ops.binary_of BinaryOp.ContainsAny (meaning_of arg1) (meaning_of arg2)) result }
         ensures makes { IfOk result (makes_binary self BinaryOp.ContainsAny arg1 arg2) }
     {
         self.binary_app(alloc, BinaryOp::ContainsAny, arg1, arg2)
@@ -409,7 +457,9 @@ pub trait ExprBuilder: Sized + Drop {
         arg1: Self::Expr,
         arg2: Self::Expr,
     ) -> Result<Self::Expr, AllocError>
-        ensures means { is_new self → IfOk result (λ e. meaning_of e ≡ ops.binary_of BinaryOp.GetTag (meaning_of arg1) (meaning_of arg2)) }
+        ensures means { is_new self
+            → Means meaning_of
+            (ops.binary_of BinaryOp.GetTag (meaning_of arg1) (meaning_of arg2)) result }
         ensures makes { IfOk result (makes_binary self BinaryOp.GetTag arg1 arg2) }
     {
         self.binary_app(alloc, BinaryOp::GetTag, arg1, arg2)
@@ -422,51 +472,74 @@ pub trait ExprBuilder: Sized + Drop {
         arg1: Self::Expr,
         arg2: Self::Expr,
     ) -> Result<Self::Expr, AllocError>
-        ensures means { is_new self → IfOk result (λ e. meaning_of e ≡ ops.binary_of BinaryOp.HasTag (meaning_of arg1) (meaning_of arg2)) }
+        ensures means { is_new self
+            → Means meaning_of
+            (ops.binary_of BinaryOp.HasTag (meaning_of arg1) (meaning_of arg2)) result }
         ensures makes { IfOk result (makes_binary self BinaryOp.HasTag arg1 arg2) }
     {
         self.binary_app(alloc, BinaryOp::HasTag, arg1, arg2)
     }
 
-    /// `!(arg1 == arg2)`: two nodes, of which the inner one has the builder's place and the data of a new builder.
+    /// `!(arg1 == arg2)`: two nodes, of which the inner one has the builder's place and the data of
+    /// a new builder.
     fn noteq(
         self,
         alloc: Global,
         arg1: Self::Expr,
         arg2: Self::Expr,
     ) -> Result<Self::Expr, AllocError>
-        ensures means { is_new self → IfOk result (λ e. meaning_of e ≡ ops.unary_of UnaryOp.Not (ops.binary_of BinaryOp.Eq (meaning_of arg1) (meaning_of arg2))) }
-        ensures makes { IfOk result (MakesNegated is_new place_of kept_place makes_unary makes_binary self BinaryOp.Eq arg1 arg2) }
+        ensures means { is_new self
+            → Means meaning_of
+            (ops.unary_of UnaryOp.Not
+            (ops.binary_of BinaryOp.Eq (meaning_of arg1) (meaning_of arg2)))
+            result }
+        ensures makes { IfOk result
+            (MakesNegated is_new place_of kept_place makes_unary makes_binary self BinaryOp.Eq
+            arg1 arg2) }
     {
         let inner = Self::new().with_maybe_source_loc(copied(alloc, self.loc())?);
         let inner = inner.is_eq(alloc, arg1, arg2)?;
         self.not(alloc, inner)
     }
 
-    /// `!(arg1 <= arg2)`: two nodes, of which the inner one has the builder's place and the data of a new builder.
+    /// `!(arg1 <= arg2)`: two nodes, of which the inner one has the builder's place and the data of
+    /// a new builder.
     fn greater(
         self,
         alloc: Global,
         arg1: Self::Expr,
         arg2: Self::Expr,
     ) -> Result<Self::Expr, AllocError>
-        ensures means { is_new self → IfOk result (λ e. meaning_of e ≡ ops.unary_of UnaryOp.Not (ops.binary_of BinaryOp.LessEq (meaning_of arg1) (meaning_of arg2))) }
-        ensures makes { IfOk result (MakesNegated is_new place_of kept_place makes_unary makes_binary self BinaryOp.LessEq arg1 arg2) }
+        ensures means { is_new self
+            → Means meaning_of
+            (ops.unary_of UnaryOp.Not
+            (ops.binary_of BinaryOp.LessEq (meaning_of arg1) (meaning_of arg2)))
+            result }
+        ensures makes { IfOk result
+            (MakesNegated is_new place_of kept_place makes_unary makes_binary self
+            BinaryOp.LessEq arg1 arg2) }
     {
         let inner = Self::new().with_maybe_source_loc(copied(alloc, self.loc())?);
         let inner = inner.lesseq(alloc, arg1, arg2)?;
         self.not(alloc, inner)
     }
 
-    /// `!(arg1 < arg2)`: two nodes, of which the inner one has the builder's place and the data of a new builder.
+    /// `!(arg1 < arg2)`: two nodes, of which the inner one has the builder's place and the data of
+    /// a new builder.
     fn greatereq(
         self,
         alloc: Global,
         arg1: Self::Expr,
         arg2: Self::Expr,
     ) -> Result<Self::Expr, AllocError>
-        ensures means { is_new self → IfOk result (λ e. meaning_of e ≡ ops.unary_of UnaryOp.Not (ops.binary_of BinaryOp.Less (meaning_of arg1) (meaning_of arg2))) }
-        ensures makes { IfOk result (MakesNegated is_new place_of kept_place makes_unary makes_binary self BinaryOp.Less arg1 arg2) }
+        ensures means { is_new self
+            → Means meaning_of
+            (ops.unary_of UnaryOp.Not
+            (ops.binary_of BinaryOp.Less (meaning_of arg1) (meaning_of arg2)))
+            result }
+        ensures makes { IfOk result
+            (MakesNegated is_new place_of kept_place makes_unary makes_binary self BinaryOp.Less
+            arg1 arg2) }
     {
         let inner = Self::new().with_maybe_source_loc(copied(alloc, self.loc())?);
         let inner = inner.less(alloc, arg1, arg2)?;
@@ -487,8 +560,9 @@ fn copied(alloc: Global, loc: Option<&Loc>) -> Result<Option<Loc>, AllocError>
 /// A builder whose calls are never refused for a reason of its own.
 pub trait ExprBuilderInfallibleBuild: ExprBuilder<BuildError = Infallible> {}
 
-/// A builder that keeps the simplifications of Cedar's own builder: `and` and `or` of two Boolean literals mean the literal of
-/// the result, and `extended_has_attr` of one attribute means what `has_attr` does.
+/// A builder that keeps the simplifications of Cedar's own builder: `and` and `or` of two Boolean
+/// literals mean the literal of the result, and `extended_has_attr` of one attribute means what
+/// `has_attr` does.
 pub trait LawfulExprBuilder: ExprBuilder {
     // The laws of `and`, `or` and `extended_has_attr`.
     ghost lawful: { Lawful Self.ops };

@@ -18,15 +18,13 @@ pub fn collect_distinct<A: Drop>(
 ) -> Result<BTreeMap<RcStr, A>, ExpressionConstructionError>
     ensures made { IfOk result (λ m. keyed m.entries ≡ in_key_order (keyed pairs.items)) }
     ensures distinct { OnOk result (IsTrue (are_distinct (keys_of pairs.items))) }
-    ensures refused {
-        IfErr result (OnDuplicateKey (λ e. IsFirstRepeat (keys_of pairs.items) (key_of e)))
-    }
+    ensures refused { IfErr result (OnDuplicateKey
+        (λ e. IsFirstRepeat (keys_of pairs.items) (key_of e))) }
     ensures repeats { IfErr result (OnDuplicateKey (λ _. HasRepeat (keys_of pairs.items))) }
 
     // Pairs that come in order stay as they come.
-    ensures kept {
-        IsRising (keys_of pairs.items) → IfOk result (λ m. keyed m.entries ≡ keyed pairs.items)
-    }
+    ensures kept { IsRising (keys_of pairs.items)
+        → IfOk result (λ m. keyed m.entries ≡ keyed pairs.items) }
     ensures accepts { IsRising (keys_of pairs.items) → IfErr result (λ e. e ≡ error.Memory) }
 {
     let mut values = BTreeMap::new(alloc);

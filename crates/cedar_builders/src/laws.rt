@@ -9,7 +9,8 @@ ghost use Rattle.cedar_builders.specs.TypeClash.{ClashByChildren};
 use crate::expr_builder::LawfulExprBuilder;
 use std::rc::RcStr;
 
-/// To substitute and then build is to build in the environment: the same meaning, or the same first error.
+/// To substitute and then build is to build in the environment: the same meaning, or the same first
+/// error.
 pub fn built_after<B: LawfulExprBuilder>()
     ensures { BuiltAfter B.ops }
 {}
@@ -19,30 +20,33 @@ pub fn rebuilt_twice()
     ensures { RebuiltTwice }
 {}
 
-/// To substitute by one environment and then build in another is to build in the first, whose trees are substituted by the
-/// second, followed by the second.
+/// To substitute by one environment and then build in another is to build in the first, whose trees
+/// are substituted by the second, followed by the second.
 pub fn substituted_twice<B: LawfulExprBuilder>()
     ensures { SubstitutedTwice B.ops }
 {}
 
-/// One environment and then another binds what both together bind, where no tree that the first one binds holds an unknown
-/// that the second one binds. So it is for all values without extension values.
+/// One environment and then another binds what both together bind, where no tree that the first one
+/// binds holds an unknown that the second one binds. So it is for all values without extension
+/// values.
 pub fn then_is_both()
     ensures { ThenIsBoth }
 {}
 
-/// That condition is needed: some tree is made another one by some two environments of restricted trees, of which the first
-/// binds an unknown to a call of an unknown that the second one binds.
+/// That condition is needed: some tree is made another one by some two environments of restricted
+/// trees, of which the first binds an unknown to a call of an unknown that the second one binds.
 pub fn then_is_not_always_both()
     ensures { ThenIsNotAlwaysBoth }
 {}
 
-/// The fold at the builder of trees never fails, and gives the tree in which each bound unknown is made its tree.
+/// The fold at the builder of trees never fails, and gives the tree in which each bound unknown is
+/// made its tree.
 pub fn substituted_by_fold()
     ensures { SubstitutedByFold }
 {}
 
-/// A restricted tree is rebuilt as it is: it has none of the nodes that the builder of trees simplifies.
+/// A restricted tree is rebuilt as it is: it has none of the nodes that the builder of trees
+/// simplifies.
 pub fn restricted_rebuilt()
     ensures { RestrictedRebuilt }
 {}
@@ -54,8 +58,6 @@ pub fn clash_by_children()
 
 /// Pairs with distinct keys, in the order of their keys: the same pairs, whose keys strictly rise.
 pub fn pairs_in_key_order<A>(pairs: &[(RcStr, A)])
-    ensures {
-        IsTrue (are_distinct (keys_of pairs.now))
-            → IsInKeyOrder (keyed pairs.now) (in_key_order (keyed pairs.now))
-    }
+    ensures { IsTrue (are_distinct (keys_of pairs.now))
+        → IsInKeyOrder (keyed pairs.now) (in_key_order (keyed pairs.now)) }
 {}

@@ -1,4 +1,5 @@
-//! Builders of expressions, by what they mean: abstract operations, one for each kind of expression.
+//! Builders of expressions, by what they mean: abstract operations, one for each kind of
+//! expression.
 #![tactic(auto)]
 
 pub mod expr_builder;

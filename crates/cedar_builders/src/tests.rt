@@ -41,7 +41,8 @@ fn name(alloc: Global, text: &str) -> Result<Name, Fail> {
     Ok(Name::from_normalized_str(alloc, text)?)
 }
 
-// The node has the builder's place and data; the inner node of a negation has its place, and the data of a new builder.
+// The node has the builder's place and data; the inner node of a negation has its place, and the
+// data of a new builder.
 #[test]
 fn operators_make_their_nodes(rt: HostRuntime) -> Result<(), Fail> {
     let alloc = rt.alloc();

@@ -1,4 +1,5 @@
-//! Reads a script of expressions from standard input, works it line by line, and prints the trees that it asks for.
+//! Reads a script of expressions from standard input, works it line by line, and prints the trees
+//! that it asks for.
 #![tactic(auto)]
 
 #[cfg(test)]

@@ -31,8 +31,8 @@ use std::rc::{Rc, RcStr};
 
 /// Makes expressions, each with the builder's place and data on its outermost node.
 ///
-/// `and` and `or` of two Boolean literals make the literal of the result, and `extended_has_attr` of one attribute makes what
-/// `has_attr` does; every other call makes its node.
+/// `and` and `or` of two Boolean literals make the literal of the result, and `extended_has_attr`
+/// of one attribute makes what `has_attr` does; every other call makes its node.
 #[derive(Debug, Drop)]
 pub struct ExprBuilder<T> {
     source_loc: Option<Loc>,
@@ -87,7 +87,10 @@ impl<T: Default + Copy> ExprBuilder<T> {
         then_expr: Rc<Expr<T>>,
         else_expr: Rc<Expr<T>>,
     ) -> Expr<T>
-        ensures { IsMadeBy self (tree_ops.if_of (bare_expr test_expr.value) (bare_expr then_expr.value) (bare_expr else_expr.value)) (three_children test_expr.value then_expr.value else_expr.value) result }
+        ensures { IsMadeBy self
+            (tree_ops.if_of (bare_expr test_expr.value) (bare_expr then_expr.value)
+            (bare_expr else_expr.value))
+            (three_children test_expr.value then_expr.value else_expr.value) result }
     {
         self.with_expr_kind(ExprKind::If {
             test_expr,
@@ -98,7 +101,8 @@ impl<T: Default + Copy> ExprBuilder<T> {
 
     // The conjunction of shared expressions: of two Boolean literals their literal, else the node.
     pub(crate) fn and_arc(self, left: Rc<Expr<T>>, right: Rc<Expr<T>>) -> Expr<T>
-        ensures { IsMadeBy self (tree_ops.and_of (bare_expr left.value) (bare_expr right.value)) (of_connective left.value right.value) result }
+        ensures { IsMadeBy self (tree_ops.and_of (bare_expr left.value) (bare_expr right.value))
+            (of_connective left.value right.value) result }
     {
         match (left.as_bool(), right.as_bool()) {
             (Some(a), Some(b)) => self.bool_literal(a && b),
@@ -108,7 +112,8 @@ impl<T: Default + Copy> ExprBuilder<T> {
 
     // The disjunction of shared expressions: of two Boolean literals their literal, else the node.
     pub(crate) fn or_arc(self, left: Rc<Expr<T>>, right: Rc<Expr<T>>) -> Expr<T>
-        ensures { IsMadeBy self (tree_ops.or_of (bare_expr left.value) (bare_expr right.value)) (of_connective left.value right.value) result }
+        ensures { IsMadeBy self (tree_ops.or_of (bare_expr left.value) (bare_expr right.value))
+            (of_connective left.value right.value) result }
     {
         match (left.as_bool(), right.as_bool()) {
             (Some(a), Some(b)) => self.bool_literal(a || b),
@@ -118,7 +123,8 @@ impl<T: Default + Copy> ExprBuilder<T> {
 
     /// A record of a shared map.
     pub fn record_arc(self, values: Rc<BTreeMap<RcStr, Expr<T>>>) -> Expr<T>
-        ensures { IsMadeBy self (Record (bare_fields values.value.entries)) (values_data values.value.entries) result }
+        ensures { IsMadeBy self (Record (bare_fields values.value.entries))
+            (values_data values.value.entries) result }
     {
         self.with_expr_kind(ExprKind::Record(values))
     }
@@ -147,9 +153,11 @@ impl<T: Default + Copy> expr_builder::ExprBuilder for ExprBuilder<T> {
 
     ghost kept_place = { λ place. place };
 
-    ghost makes_unary = { λ b op arg e. IsMadeBy b (tree_ops.unary_of op (bare_expr arg)) (one_child arg) e };
+    ghost makes_unary = { λ b op arg e. IsMadeBy b (tree_ops.unary_of op (bare_expr arg)) (one_child arg)
+        e };
 
-    ghost makes_binary = { λ b op arg1 arg2 e. IsMadeBy b (tree_ops.binary_of op (bare_expr arg1) (bare_expr arg2)) (two_children arg1 arg2) e };
+    ghost makes_binary = { λ b op arg1 arg2 e. IsMadeBy b (tree_ops.binary_of op (bare_expr arg1) (bare_expr arg2))
+        (two_children arg1 arg2) e };
 
     fn new() -> ExprBuilder<T>
         ensures loc { builder_place result ≡ None }
@@ -224,7 +232,11 @@ impl<T: Default + Copy> expr_builder::ExprBuilder for ExprBuilder<T> {
         then_expr: Expr<T>,
         else_expr: Expr<T>,
     ) -> Result<Expr<T>, AllocError>
-        ensures { IfOk result (IsMadeBy self (tree_ops.if_of (bare_expr test_expr) (bare_expr then_expr) (bare_expr else_expr)) (three_children test_expr then_expr else_expr)) }
+        ensures { IfOk result
+            (IsMadeBy self
+            (tree_ops.if_of (bare_expr test_expr) (bare_expr then_expr)
+            (bare_expr else_expr))
+            (three_children test_expr then_expr else_expr)) }
     {
         Ok(self.ite_arc(
             Rc::new(alloc, test_expr)?,
@@ -234,7 +246,9 @@ impl<T: Default + Copy> expr_builder::ExprBuilder for ExprBuilder<T> {
     }
 
     fn and(self, alloc: Global, left: Expr<T>, right: Expr<T>) -> Result<Expr<T>, AllocError>
-        ensures { IfOk result (IsMadeBy self (tree_ops.and_of (bare_expr left) (bare_expr right)) (of_connective left right)) }
+        ensures { IfOk result
+            (IsMadeBy self (tree_ops.and_of (bare_expr left) (bare_expr right))
+            (of_connective left right)) }
     {
         match (left.as_bool(), right.as_bool()) {
             (Some(a), Some(b)) => Ok(self.bool_literal(a && b)),
@@ -246,7 +260,9 @@ impl<T: Default + Copy> expr_builder::ExprBuilder for ExprBuilder<T> {
     }
 
     fn or(self, alloc: Global, left: Expr<T>, right: Expr<T>) -> Result<Expr<T>, AllocError>
-        ensures { IfOk result (IsMadeBy self (tree_ops.or_of (bare_expr left) (bare_expr right)) (of_connective left right)) }
+        ensures { IfOk result
+            (IsMadeBy self (tree_ops.or_of (bare_expr left) (bare_expr right))
+            (of_connective left right)) }
     {
         match (left.as_bool(), right.as_bool()) {
             (Some(a), Some(b)) => Ok(self.bool_literal(a || b)),
@@ -258,7 +274,8 @@ impl<T: Default + Copy> expr_builder::ExprBuilder for ExprBuilder<T> {
     }
 
     fn unary_app(self, alloc: Global, op: UnaryOp, arg: Expr<T>) -> Result<Expr<T>, AllocError>
-        ensures { IfOk result (IsMadeBy self (tree_ops.unary_of op (bare_expr arg)) (one_child arg)) }
+        ensures { IfOk result
+            (IsMadeBy self (tree_ops.unary_of op (bare_expr arg)) (one_child arg)) }
     {
         Ok(self.with_expr_kind(ExprKind::UnaryApp {
             op,
@@ -273,7 +290,9 @@ impl<T: Default + Copy> expr_builder::ExprBuilder for ExprBuilder<T> {
         arg1: Expr<T>,
         arg2: Expr<T>,
     ) -> Result<Expr<T>, AllocError>
-        ensures { IfOk result (IsMadeBy self (tree_ops.binary_of op (bare_expr arg1) (bare_expr arg2)) (two_children arg1 arg2)) }
+        ensures { IfOk result
+            (IsMadeBy self (tree_ops.binary_of op (bare_expr arg1) (bare_expr arg2))
+            (two_children arg1 arg2)) }
     {
         Ok(self.with_expr_kind(ExprKind::BinaryApp {
             op,
@@ -288,7 +307,9 @@ impl<T: Default + Copy> expr_builder::ExprBuilder for ExprBuilder<T> {
         fn_name: Name,
         args: Vec<Expr<T>>,
     ) -> Result<Expr<T>, BuildFault<Infallible>>
-        ensures { IfBuilt result (IsMadeBy self (ExtensionFunctionApp (bare_name fn_name) (bare_exprs args.items)) (data_trees args.items)) }
+        ensures { IfBuilt result
+            (IsMadeBy self (ExtensionFunctionApp (bare_name fn_name) (bare_exprs args.items))
+            (data_trees args.items)) }
     {
         Ok(self.with_expr_kind(ExprKind::ExtensionFunctionApp {
             fn_name,
@@ -297,7 +318,9 @@ impl<T: Default + Copy> expr_builder::ExprBuilder for ExprBuilder<T> {
     }
 
     fn get_attr(self, alloc: Global, expr: Expr<T>, attr: RcStr) -> Result<Expr<T>, AllocError>
-        ensures { IfOk result (IsMadeBy self (tree_ops.get_of (bare_expr expr) (rc_str_bytes attr)) (one_child expr)) }
+        ensures { IfOk result
+            (IsMadeBy self (tree_ops.get_of (bare_expr expr) (rc_str_bytes attr))
+            (one_child expr)) }
     {
         Ok(self.with_expr_kind(ExprKind::GetAttr {
             expr: Rc::new(alloc, expr)?,
@@ -306,7 +329,9 @@ impl<T: Default + Copy> expr_builder::ExprBuilder for ExprBuilder<T> {
     }
 
     fn has_attr(self, alloc: Global, expr: Expr<T>, attr: RcStr) -> Result<Expr<T>, AllocError>
-        ensures { IfOk result (IsMadeBy self (tree_ops.has_of (bare_expr expr) (rc_str_bytes attr)) (one_child expr)) }
+        ensures { IfOk result
+            (IsMadeBy self (tree_ops.has_of (bare_expr expr) (rc_str_bytes attr))
+            (one_child expr)) }
     {
         Ok(self.with_expr_kind(ExprKind::HasAttr {
             expr: Rc::new(alloc, expr)?,
@@ -320,7 +345,10 @@ impl<T: Default + Copy> expr_builder::ExprBuilder for ExprBuilder<T> {
         expr: Expr<T>,
         attrs: NonEmpty<RcStr>,
     ) -> Result<Expr<T>, AllocError>
-        ensures { IfOk result (IsMadeBy self (tree_ops.ext_has_of (bare_expr expr) (rc_str_bytes attrs.head) (further attrs)) (one_child expr)) }
+        ensures { IfOk result
+            (IsMadeBy self
+            (tree_ops.ext_has_of (bare_expr expr) (rc_str_bytes attrs.head) (further attrs))
+            (one_child expr)) }
     {
         if attrs.tail.is_empty() {
             return self.has_attr(alloc, expr, attrs.head);
@@ -332,7 +360,8 @@ impl<T: Default + Copy> expr_builder::ExprBuilder for ExprBuilder<T> {
     }
 
     fn like(self, alloc: Global, expr: Expr<T>, pattern: Pattern) -> Result<Expr<T>, AllocError>
-        ensures { IfOk result (IsMadeBy self (tree_ops.like_of (bare_expr expr) pattern) (one_child expr)) }
+        ensures { IfOk result
+            (IsMadeBy self (tree_ops.like_of (bare_expr expr) pattern) (one_child expr)) }
     {
         Ok(self.with_expr_kind(ExprKind::Like {
             expr: Rc::new(alloc, expr)?,
@@ -346,7 +375,9 @@ impl<T: Default + Copy> expr_builder::ExprBuilder for ExprBuilder<T> {
         expr: Expr<T>,
         entity_type: EntityType,
     ) -> Result<Expr<T>, AllocError>
-        ensures { IfOk result (IsMadeBy self (tree_ops.is_of (bare_expr expr) (bare_entity_type entity_type)) (one_child expr)) }
+        ensures { IfOk result
+            (IsMadeBy self (tree_ops.is_of (bare_expr expr) (bare_entity_type entity_type))
+            (one_child expr)) }
     {
         Ok(self.with_expr_kind(ExprKind::Is {
             expr: Rc::new(alloc, expr)?,
@@ -355,7 +386,8 @@ impl<T: Default + Copy> expr_builder::ExprBuilder for ExprBuilder<T> {
     }
 
     fn set(self, alloc: Global, members: Vec<Expr<T>>) -> Result<Expr<T>, AllocError>
-        ensures { IfOk result (IsMadeBy self (Set (bare_exprs members.items)) (data_trees members.items)) }
+        ensures { IfOk result
+            (IsMadeBy self (Set (bare_exprs members.items)) (data_trees members.items)) }
     {
         Ok(self.with_expr_kind(ExprKind::Set(Rc::new(alloc, members)?)))
     }
@@ -365,12 +397,16 @@ impl<T: Default + Copy> expr_builder::ExprBuilder for ExprBuilder<T> {
         alloc: Global,
         pairs: Vec<(RcStr, Expr<T>)>,
     ) -> Result<Expr<T>, ExpressionConstructionError>
-        ensures made { IfOk result (IsMadeBy self (Record (record_fields pairs.items)) (record_data pairs.items)) }
+        ensures made { IfOk result
+            (IsMadeBy self (Record (record_fields pairs.items)) (record_data pairs.items)) }
         ensures distinct { OnOk result (IsTrue (are_distinct (keys_of pairs.items))) }
-        ensures refused { IfErr result (OnDuplicateKey (λ e. IsFirstRepeat (keys_of pairs.items) (key_of e))) }
+        ensures refused { IfErr result (OnDuplicateKey
+            (λ e. IsFirstRepeat (keys_of pairs.items) (key_of e))) }
 
         // What the trait asks of every builder.
-        ensures means { IsRising (keys_of pairs.items) → IfOk result (λ e. bare_expr e ≡ tree_ops.record_of (meant_pairs bare_expr pairs.items)) }
+        ensures means { IsRising (keys_of pairs.items)
+            → IfOk result (λ e.
+            bare_expr e ≡ tree_ops.record_of (meant_pairs bare_expr pairs.items)) }
         ensures accepts { IsRising (keys_of pairs.items) → IfErr result (λ e. e ≡ error.Memory) }
         ensures refuses { IfErr result (OnDuplicateKey (λ _. HasRepeat (keys_of pairs.items))) }
     {

@@ -69,7 +69,8 @@ impl<'a, T> Children<'a, T> {
         second: Option<&'a Expr<T>>,
         third: Option<&'a Expr<T>>,
     ) -> Children<'a, T>
-        ensures { children_left result ≡ shown first.entry ++ shown second.entry ++ shown third.entry }
+        ensures { children_left result
+            ≡ shown first.entry ++ shown second.entry ++ shown third.entry }
     {
         Children::Few(Few {
             first,

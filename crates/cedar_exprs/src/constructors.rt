@@ -1,4 +1,5 @@
-//! The constructors of expressions without data and places (`expr.rs`): what the builder makes that has neither.
+//! The constructors of expressions without data and places (`expr.rs`): what the builder makes that
+//! has neither.
 ghost use Rattle.std.specs.Prelude.{◌≡◌, IfOk, IfErr, OnOk, IsTrue};
 ghost use Rattle.std.specs.Rc.{rc_str_bytes};
 ghost use Rattle.cedar_names.specs.PlainNames.{bare_name};
@@ -58,7 +59,10 @@ impl Expr<()> {
         then_expr: Expr<()>,
         else_expr: Expr<()>,
     ) -> Result<Expr<()>, AllocError>
-        ensures { IfOk result (IsPlain (tree_ops.if_of (bare_expr test_expr) (bare_expr then_expr) (bare_expr else_expr))) }
+        ensures { IfOk result
+            (IsPlain
+            (tree_ops.if_of (bare_expr test_expr) (bare_expr then_expr)
+            (bare_expr else_expr))) }
     {
         ExprBuilder::new().ite(alloc, test_expr, then_expr, else_expr)
     }
@@ -69,7 +73,10 @@ impl Expr<()> {
         then_expr: Rc<Expr<()>>,
         else_expr: Rc<Expr<()>>,
     ) -> Expr<()>
-        ensures { IsPlain (tree_ops.if_of (bare_expr test_expr.value) (bare_expr then_expr.value) (bare_expr else_expr.value)) result }
+        ensures { IsPlain
+            (tree_ops.if_of (bare_expr test_expr.value) (bare_expr then_expr.value)
+            (bare_expr else_expr.value))
+            result }
     {
         ExprBuilder::new().ite_arc(test_expr, then_expr, else_expr)
     }
@@ -120,7 +127,8 @@ impl Expr<()> {
         fn_name: Name,
         args: Vec<Expr<()>>,
     ) -> Result<Expr<()>, AllocError>
-        ensures { IfOk result (IsPlain (ExtensionFunctionApp (bare_name fn_name) (bare_exprs args.items))) }
+        ensures { IfOk result
+            (IsPlain (ExtensionFunctionApp (bare_name fn_name) (bare_exprs args.items))) }
     {
         match ExprBuilder::new().call_extension_fn(alloc, fn_name, args) {
             Ok(call) => Ok(call),
@@ -143,13 +151,16 @@ impl Expr<()> {
         ExprBuilder::new().has_attr(alloc, expr, attr)
     }
 
-    /// `expr has a.b.c`: whether each attribute is there in turn. Of one attribute it makes what `has_attr` does.
+    /// `expr has a.b.c`: whether each attribute is there in turn. Of one attribute it makes what
+    /// `has_attr` does.
     pub fn extended_has_attr(
         alloc: Global,
         expr: Expr<()>,
         attrs: NonEmpty<RcStr>,
     ) -> Result<Expr<()>, AllocError>
-        ensures { IfOk result (IsPlain (tree_ops.ext_has_of (bare_expr expr) (rc_str_bytes attrs.head) (further attrs))) }
+        ensures { IfOk result
+            (IsPlain
+            (tree_ops.ext_has_of (bare_expr expr) (rc_str_bytes attrs.head) (further attrs))) }
     {
         ExprBuilder::new().extended_has_attr(alloc, expr, attrs)
     }
@@ -167,7 +178,8 @@ impl Expr<()> {
         expr: Expr<()>,
         entity_type: EntityType,
     ) -> Result<Expr<()>, AllocError>
-        ensures { IfOk result (IsPlain (tree_ops.is_of (bare_expr expr) (bare_entity_type entity_type))) }
+        ensures { IfOk result
+            (IsPlain (tree_ops.is_of (bare_expr expr) (bare_entity_type entity_type))) }
     {
         ExprBuilder::new().is_entity_type(alloc, expr, entity_type)
     }
@@ -181,7 +193,8 @@ impl Expr<()> {
     ) -> Result<Expr<()>, ExpressionConstructionError>
         ensures made { IfOk result (IsPlain (Record (record_fields pairs.items))) }
         ensures distinct { OnOk result (IsTrue (are_distinct (keys_of pairs.items))) }
-        ensures refused { IfErr result (OnDuplicateKey (λ e. IsFirstRepeat (keys_of pairs.items) (key_of e))) }
+        ensures refused { IfErr result (OnDuplicateKey
+            (λ e. IsFirstRepeat (keys_of pairs.items) (key_of e))) }
     {
         ExprBuilder::new().record(alloc, pairs)
     }
@@ -216,56 +229,64 @@ impl Expr<()> {
 
     /// `arg1 == arg2`.
     pub fn is_eq(alloc: Global, arg1: Expr<()>, arg2: Expr<()>) -> Result<Expr<()>, AllocError>
-        ensures { IfOk result (IsPlain (tree_ops.binary_of BinaryOp.Eq (bare_expr arg1) (bare_expr arg2))) }
+        ensures { IfOk result
+            (IsPlain (tree_ops.binary_of BinaryOp.Eq (bare_expr arg1) (bare_expr arg2))) }
     {
         Expr::binary_app(alloc, BinaryOp::Eq, arg1, arg2)
     }
 
     /// `arg1 < arg2`.
     pub fn less(alloc: Global, arg1: Expr<()>, arg2: Expr<()>) -> Result<Expr<()>, AllocError>
-        ensures { IfOk result (IsPlain (tree_ops.binary_of BinaryOp.Less (bare_expr arg1) (bare_expr arg2))) }
+        ensures { IfOk result
+            (IsPlain (tree_ops.binary_of BinaryOp.Less (bare_expr arg1) (bare_expr arg2))) }
     {
         Expr::binary_app(alloc, BinaryOp::Less, arg1, arg2)
     }
 
     /// `arg1 <= arg2`.
     pub fn lesseq(alloc: Global, arg1: Expr<()>, arg2: Expr<()>) -> Result<Expr<()>, AllocError>
-        ensures { IfOk result (IsPlain (tree_ops.binary_of BinaryOp.LessEq (bare_expr arg1) (bare_expr arg2))) }
+        ensures { IfOk result
+            (IsPlain (tree_ops.binary_of BinaryOp.LessEq (bare_expr arg1) (bare_expr arg2))) }
     {
         Expr::binary_app(alloc, BinaryOp::LessEq, arg1, arg2)
     }
 
     /// `arg1 + arg2`.
     pub fn add(alloc: Global, arg1: Expr<()>, arg2: Expr<()>) -> Result<Expr<()>, AllocError>
-        ensures { IfOk result (IsPlain (tree_ops.binary_of BinaryOp.Add (bare_expr arg1) (bare_expr arg2))) }
+        ensures { IfOk result
+            (IsPlain (tree_ops.binary_of BinaryOp.Add (bare_expr arg1) (bare_expr arg2))) }
     {
         Expr::binary_app(alloc, BinaryOp::Add, arg1, arg2)
     }
 
     /// `arg1 - arg2`.
     pub fn sub(alloc: Global, arg1: Expr<()>, arg2: Expr<()>) -> Result<Expr<()>, AllocError>
-        ensures { IfOk result (IsPlain (tree_ops.binary_of BinaryOp.Sub (bare_expr arg1) (bare_expr arg2))) }
+        ensures { IfOk result
+            (IsPlain (tree_ops.binary_of BinaryOp.Sub (bare_expr arg1) (bare_expr arg2))) }
     {
         Expr::binary_app(alloc, BinaryOp::Sub, arg1, arg2)
     }
 
     /// `arg1 * arg2`.
     pub fn mul(alloc: Global, arg1: Expr<()>, arg2: Expr<()>) -> Result<Expr<()>, AllocError>
-        ensures { IfOk result (IsPlain (tree_ops.binary_of BinaryOp.Mul (bare_expr arg1) (bare_expr arg2))) }
+        ensures { IfOk result
+            (IsPlain (tree_ops.binary_of BinaryOp.Mul (bare_expr arg1) (bare_expr arg2))) }
     {
         Expr::binary_app(alloc, BinaryOp::Mul, arg1, arg2)
     }
 
     /// `arg1 in arg2`: membership in the hierarchy.
     pub fn is_in(alloc: Global, arg1: Expr<()>, arg2: Expr<()>) -> Result<Expr<()>, AllocError>
-        ensures { IfOk result (IsPlain (tree_ops.binary_of BinaryOp.In (bare_expr arg1) (bare_expr arg2))) }
+        ensures { IfOk result
+            (IsPlain (tree_ops.binary_of BinaryOp.In (bare_expr arg1) (bare_expr arg2))) }
     {
         Expr::binary_app(alloc, BinaryOp::In, arg1, arg2)
     }
 
     /// `arg1.contains(arg2)`: whether the set has the member.
     pub fn contains(alloc: Global, arg1: Expr<()>, arg2: Expr<()>) -> Result<Expr<()>, AllocError>
-        ensures { IfOk result (IsPlain (tree_ops.binary_of BinaryOp.Contains (bare_expr arg1) (bare_expr arg2))) }
+        ensures { IfOk result
+            (IsPlain (tree_ops.binary_of BinaryOp.Contains (bare_expr arg1) (bare_expr arg2))) }
     {
         Expr::binary_app(alloc, BinaryOp::Contains, arg1, arg2)
     }
@@ -276,7 +297,8 @@ impl Expr<()> {
         arg1: Expr<()>,
         arg2: Expr<()>,
     ) -> Result<Expr<()>, AllocError>
-        ensures { IfOk result (IsPlain (tree_ops.binary_of BinaryOp.ContainsAll (bare_expr arg1) (bare_expr arg2))) }
+        ensures { IfOk result
+            (IsPlain (tree_ops.binary_of BinaryOp.ContainsAll (bare_expr arg1) (bare_expr arg2))) }
     {
         Expr::binary_app(alloc, BinaryOp::ContainsAll, arg1, arg2)
     }
@@ -287,42 +309,54 @@ impl Expr<()> {
         arg1: Expr<()>,
         arg2: Expr<()>,
     ) -> Result<Expr<()>, AllocError>
-        ensures { IfOk result (IsPlain (tree_ops.binary_of BinaryOp.ContainsAny (bare_expr arg1) (bare_expr arg2))) }
+        ensures { IfOk result
+            (IsPlain (tree_ops.binary_of BinaryOp.ContainsAny (bare_expr arg1) (bare_expr arg2))) }
     {
         Expr::binary_app(alloc, BinaryOp::ContainsAny, arg1, arg2)
     }
 
     /// `arg1.getTag(arg2)`: the tag of an entity.
     pub fn get_tag(alloc: Global, arg1: Expr<()>, arg2: Expr<()>) -> Result<Expr<()>, AllocError>
-        ensures { IfOk result (IsPlain (tree_ops.binary_of BinaryOp.GetTag (bare_expr arg1) (bare_expr arg2))) }
+        ensures { IfOk result
+            (IsPlain (tree_ops.binary_of BinaryOp.GetTag (bare_expr arg1) (bare_expr arg2))) }
     {
         Expr::binary_app(alloc, BinaryOp::GetTag, arg1, arg2)
     }
 
     /// `arg1.hasTag(arg2)`: whether an entity has the tag.
     pub fn has_tag(alloc: Global, arg1: Expr<()>, arg2: Expr<()>) -> Result<Expr<()>, AllocError>
-        ensures { IfOk result (IsPlain (tree_ops.binary_of BinaryOp.HasTag (bare_expr arg1) (bare_expr arg2))) }
+        ensures { IfOk result
+            (IsPlain (tree_ops.binary_of BinaryOp.HasTag (bare_expr arg1) (bare_expr arg2))) }
     {
         Expr::binary_app(alloc, BinaryOp::HasTag, arg1, arg2)
     }
 
     /// `!(arg1 == arg2)`: two nodes.
     pub fn noteq(alloc: Global, arg1: Expr<()>, arg2: Expr<()>) -> Result<Expr<()>, AllocError>
-        ensures { IfOk result (IsPlain (tree_ops.unary_of UnaryOp.Not (tree_ops.binary_of BinaryOp.Eq (bare_expr arg1) (bare_expr arg2)))) }
+        ensures { IfOk result
+            (IsPlain
+            (tree_ops.unary_of UnaryOp.Not
+            (tree_ops.binary_of BinaryOp.Eq (bare_expr arg1) (bare_expr arg2)))) }
     {
         Expr::not(alloc, Expr::is_eq(alloc, arg1, arg2)?)
     }
 
     /// `!(arg1 <= arg2)`: two nodes.
     pub fn greater(alloc: Global, arg1: Expr<()>, arg2: Expr<()>) -> Result<Expr<()>, AllocError>
-        ensures { IfOk result (IsPlain (tree_ops.unary_of UnaryOp.Not (tree_ops.binary_of BinaryOp.LessEq (bare_expr arg1) (bare_expr arg2)))) }
+        ensures { IfOk result
+            (IsPlain
+            (tree_ops.unary_of UnaryOp.Not
+            (tree_ops.binary_of BinaryOp.LessEq (bare_expr arg1) (bare_expr arg2)))) }
     {
         Expr::not(alloc, Expr::lesseq(alloc, arg1, arg2)?)
     }
 
     /// `!(arg1 < arg2)`: two nodes.
     pub fn greatereq(alloc: Global, arg1: Expr<()>, arg2: Expr<()>) -> Result<Expr<()>, AllocError>
-        ensures { IfOk result (IsPlain (tree_ops.unary_of UnaryOp.Not (tree_ops.binary_of BinaryOp.Less (bare_expr arg1) (bare_expr arg2)))) }
+        ensures { IfOk result
+            (IsPlain
+            (tree_ops.unary_of UnaryOp.Not
+            (tree_ops.binary_of BinaryOp.Less (bare_expr arg1) (bare_expr arg2)))) }
     {
         Expr::not(alloc, Expr::less(alloc, arg1, arg2)?)
     }

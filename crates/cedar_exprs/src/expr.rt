@@ -87,7 +87,8 @@ pub enum ExprKind<T = ()> {
     },
 }
 
-/// An expression: its kind, the place where it was written, if known, and data of the caller's type on each node.
+/// An expression: its kind, the place where it was written, if known, and data of the caller's type
+/// on each node.
 ///
 /// Equality and hash see the kind and the data, and no place.
 #[cycle(expr)]

@@ -15,14 +15,19 @@ pub use cedar_builders::laws::{
 };
 use std::hash::Hash;
 
-/// Two expressions are equal exactly where their bare trees are, and the data at each position. Places do not count.
+/// Two expressions are equal exactly where their bare trees are, and the data at each position.
+/// Places do not count.
 pub fn equal_expressions<T: Eq>()
-    ensures { (a b : Expr _) → IsTrue (⟦<Expr<T> as PartialEq>⟧.eq a b) ↔ ((bare_expr a ≡ bare_expr b) × SameData T.eq (data_tree a) (data_tree b)) }
+    ensures { (a b : Expr _)
+        → IsTrue (⟦<Expr<T> as PartialEq>⟧.eq a b)
+        ↔ ((bare_expr a ≡ bare_expr b) × SameData T.eq (data_tree a) (data_tree b)) }
 {}
 
 /// Equal expressions hash alike.
 pub fn alike_expressions<T: Hash>()
-    ensures { (a b : Expr _) → IsTrue (⟦<Expr<T> as PartialEq>⟧.eq a b) → ⟦<Expr<T> as Hash>⟧.hash_input a ≡ ⟦<Expr<T> as Hash>⟧.hash_input b }
+    ensures { (a b : Expr _)
+        → IsTrue (⟦<Expr<T> as PartialEq>⟧.eq a b)
+        → ⟦<Expr<T> as Hash>⟧.hash_input a ≡ ⟦<Expr<T> as Hash>⟧.hash_input b }
 {}
 
 /// The keys of each record in an expression strictly rise, by bytes.

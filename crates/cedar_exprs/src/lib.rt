@@ -1,4 +1,5 @@
-//! Expression trees, the builder that makes them, building by any builder, and substitution that is a fold over bare trees.
+//! Expression trees, the builder that makes them, building by any builder, and substitution that is
+//! a fold over bare trees.
 #![tactic(auto)]
 
 mod builder;

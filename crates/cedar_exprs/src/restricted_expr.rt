@@ -1,4 +1,5 @@
-//! Expressions of literals, unknowns, sets, records and calls, and the values that unknowns are bound to.
+//! Expressions of literals, unknowns, sets, records and calls, and the values that unknowns are
+//! bound to.
 ghost use Rattle.std.specs.Prelude.{◌≡◌, IfOk, MatchResult, IsOk, ◌↔◌};
 ghost use Rattle.cedar_terms.specs.Literals.{bare_literal};
 ghost use Rattle.cedar_terms.specs.Types.{BareType, bare_type, literal_type};
@@ -13,8 +14,8 @@ use cedar_terms::{Literal, StaticallyTyped, Type};
 use std::alloc::{AllocError, Global};
 use thiserror::Error;
 
-/// An expression in which each node is a literal, an unknown, a set, a record or a call (`RestrictedExpr` of
-/// `restricted_expr.rs`). These are the expressions that a value may have.
+/// An expression in which each node is a literal, an unknown, a set, a record or a call
+/// (`RestrictedExpr` of `restricted_expr.rs`). These are the expressions that a value may have.
 #[derive(Debug, Drop)]
 pub struct RestrictedExpr {
     expr: Expr<()>,
@@ -25,9 +26,11 @@ impl RestrictedExpr {
     ghost use Rattle.cedar_exprs.specs.RestrictedExprs.{expr_of, bare_restricted_expr};
     ghost use Rattle.cedar_exprs.specs.NotRestricted.{first_not_restricted, IsRefusalOf};
 
-    /// The same expression, known to be restricted. Memory is taken only to copy the place of a refusal.
+    /// The same expression, known to be restricted. Memory is taken only to copy the place of a
+    /// refusal.
     pub fn new(alloc: Global, expr: Expr<()>) -> Result<RestrictedExpr, RestrictedExprError>
-        ensures outcome { MatchResult result (λ r. expr_of r ≡ expr) (IsRefusalOf (first_not_restricted expr)) }
+        ensures outcome { MatchResult result
+            (λ r. expr_of r ≡ expr) (IsRefusalOf (first_not_restricted expr)) }
         ensures succeeds { IsOk result ↔ IsRestricted (bare_expr expr) }
     {
         match first_not_restricted(&expr) {
@@ -110,8 +113,9 @@ impl SubstituteValue for Literal {
 /// Why an expression is not restricted.
 #[derive(Debug, Drop, Error)]
 pub enum RestrictedExprError {
-    /// A node is no literal, unknown, set, record or call. The place, if known, is that of the first such node, where each
-    /// node comes before its children and the values of a record come in the order of their keys.
+    /// A node is no literal, unknown, set, record or call. The place, if known, is that of the
+    /// first such node, where each node comes before its children and the values of a record come
+    /// in the order of their keys.
     #[error("not a restricted expression")]
     NotRestricted { loc: Option<Loc> },
     /// There is such a node, and no memory to copy its place.

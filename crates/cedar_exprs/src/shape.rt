@@ -16,8 +16,7 @@ impl<T> Expr<T> {
 
 // Feeds the number of the kind as one byte, then the fields in their order.
 #[cycle(shape)]
-pub(crate) fn hash_shape<T, H: Hasher>(e: &Expr<T>, state: &mut H)
-{
+pub(crate) fn hash_shape<T, H: Hasher>(e: &Expr<T>, state: &mut H) {
     state.write_u8(kind_number(e.expr_kind()));
     match e.expr_kind() {
         ExprKind::Lit(literal) => literal.hash(state),
@@ -81,8 +80,7 @@ pub(crate) fn hash_shape<T, H: Hasher>(e: &Expr<T>, state: &mut H)
 
 // Feeds their number, then each.
 #[cycle(shape)]
-fn hash_members<T, H: Hasher>(members: &[Expr<T>], state: &mut H)
-{
+fn hash_members<T, H: Hasher>(members: &[Expr<T>], state: &mut H) {
     state.write_usize(members.len());
     for member in members {
         hash_shape(member, state);
@@ -91,8 +89,7 @@ fn hash_members<T, H: Hasher>(members: &[Expr<T>], state: &mut H)
 
 // Feeds their number, then each key with its value.
 #[cycle(shape)]
-fn hash_pairs<T, H: Hasher>(pairs: &BTreeMap<RcStr, Expr<T>>, state: &mut H)
-{
+fn hash_pairs<T, H: Hasher>(pairs: &BTreeMap<RcStr, Expr<T>>, state: &mut H) {
     state.write_usize(pairs.len());
     for (key, value) in pairs.iter() {
         key.hash(state);

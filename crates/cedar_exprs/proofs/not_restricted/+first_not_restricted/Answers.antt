@@ -13,17 +13,21 @@ returns-then-not-is_restricted_node g t c =
 pub loop-child-init : goal.loop-child-init
 loop-child-init g t c =
     let e = c.args.expr.now in
-    let all : children e ≡ children_left c.into_iter-child-iterator.result = sym (ap children_left c.into_iter-child-iterator.ensures.into_iter_gives ∙ c.of-child-items.ensures.all) in
-    (tt, tt,
-    sym (ap first_not_restricted_of all) ∙ first_below e (ap not (sym c.is_restricted_node.ensures ∙ c.if-not-is_restricted_node.false)),
-    subst (λ es. counted es < length (preorder e)) all (fewer_below e))
+    let all : children e ≡ children_left c.into_iter-child-iterator.result = sym (ap children_left c.into_iter-child-iterator.ensures.into_iter_gives ∙ c.of-child-items.ensures.all) in (
+      tt,
+      tt,
+      sym (ap first_not_restricted_of all) ∙ first_below e (ap not (sym c.is_restricted_node.ensures ∙ c.if-not-is_restricted_node.false)),
+      subst (λ es. counted es < length (preorder e)) all (fewer_below e),
+    )
 
 pub returns-in-Some-first_not_restricted : goal.returns-in-Some-first_not_restricted
 returns-in-Some-first_not_restricted g t c =
     found c.in-Some.child.now _ _ _ c.in-Some.ensures.steps c.loop-child.invariant.2 _ c.in-Some-first_not_restricted.ensures
 
 pub loop-child-preserved : goal.loop-child-preserved
-loop-child-preserved g t c =
-    (tt, tt,
-    passed c.in-Some.child.now _ _ _ c.in-Some.ensures.steps c.loop-child.invariant.2 c.in_default.ensures,
-    fewer_rest c.in-Some.child.now _ _ _ c.in-Some.ensures.steps c.loop-child.invariant.3)
+loop-child-preserved g t c = (
+  tt,
+  tt,
+  passed c.in-Some.child.now _ _ _ c.in-Some.ensures.steps c.loop-child.invariant.2 c.in_default.ensures,
+  fewer_rest c.in-Some.child.now _ _ _ c.in-Some.ensures.steps c.loop-child.invariant.3,
+)
