@@ -1,6 +1,7 @@
 -- An answer with an expression or an error, by what they mean.
 use Rattle.std.specs.Prelude.{◌≡◌, ⊤, List, map, Result, Ok, Err, IfOk, Vec}
 use Rattle.std.specs.Global.{Global}
+use Rattle.std.specs.declared.convert.Infallible.{Infallible}
 use Rattle.std.specs.declared.rc.RcStr.{RcStr}
 use Rattle.cedar_builders.specs.BareExpr.{Text}
 use Rattle.cedar_builders.specs.Keys.{meant_pairs}
@@ -28,3 +29,13 @@ abbrev pub GivesPairs : {E D M F : Type 0} → (E → M) → (D → F) → Resul
 GivesPairs meaning_of fault_of wanted (Ok ps) = wanted ≡ Ok (meant_pairs meaning_of ps.items)
 GivesPairs meaning_of fault_of wanted (Err (Build d)) = wanted ≡ Err (fault_of d)
 GivesPairs meaning_of fault_of wanted (Err Memory) = ⊤
+
+-- an error that there is none of
+abbrev pub never : Infallible → ⊥
+never e = elim e [ ]
+
+-- what holds of an expression that was built where no error is the builder's own, want of memory aside
+abbrev pub IfBuilt : {E : Type 0} → Result E (BuildFault Infallible) → (E → Type 0) → Type 0
+IfBuilt (Ok e) P = P e
+IfBuilt (Err (Build d)) P = ⊥
+IfBuilt (Err Memory) P = ⊤

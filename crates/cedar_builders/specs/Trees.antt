@@ -1,6 +1,6 @@
 -- The builder of trees (the struct `ExprBuilder` of Cedar's `expr.rs`): its meanings are bare trees, and it never fails.
 use Rattle.std.specs.Prelude.{Bool, ◌&&◌, ◌||◌, List, [], ◌∷◌, Option, Some, None, Result, Ok, Err}
-use Rattle.cedar_terms.specs.Literals.{BareLiteral, BoolLit, LongLit, StringLit, EntityLit}
+use Rattle.cedar_terms.specs.Literals.{BareLiteral, BoolLit}
 use Rattle.cedar_terms.specs.Types.{BareType}
 use Rattle.cedar_builders.specs.BareExpr.{Text, BareExpr, Lit, Var, Slot, Unknown, If, And, Or, UnaryApp, BinaryApp, ExtensionFunctionApp, GetAttr, HasAttr, ExtHasAttr, Like, Set, Record, Is, BareExprs, no_trees, tree, trees_of, BareFields, no_fields, field, fields_of}
 use Rattle.cedar_builders.specs.Ops.{Ops}
@@ -9,29 +9,12 @@ use Rattle.cedar_builders.specs.Environment.{Env, empty, fold}
 -- the Boolean that a literal is
 abbrev pub literal_bool : BareLiteral → Option Bool
 literal_bool (BoolLit b) = Some b
-literal_bool (LongLit n) = None
-literal_bool (StringLit s) = None
-literal_bool (EntityLit u) = None
+literal_bool l = None
 
 -- the Boolean that a tree is the literal of
 abbrev pub bool_of : BareExpr → Option Bool
 bool_of (Lit l) = literal_bool l
-bool_of (Var v) = None
-bool_of (Slot s) = None
-bool_of (Unknown n t) = None
-bool_of (If a b c) = None
-bool_of (And a b) = None
-bool_of (Or a b) = None
-bool_of (UnaryApp o a) = None
-bool_of (BinaryApp o a b) = None
-bool_of (ExtensionFunctionApp n es) = None
-bool_of (GetAttr a k) = None
-bool_of (HasAttr a k) = None
-bool_of (ExtHasAttr a k ks) = None
-bool_of (Like a p) = None
-bool_of (Set es) = None
-bool_of (Record fs) = None
-bool_of (Is a n) = None
+bool_of e = None
 
 -- the literal of f where both sides are Boolean literals, else the node
 abbrev pub folded : (Bool → Bool → Bool) → Option Bool → Option Bool → BareExpr → BareExpr

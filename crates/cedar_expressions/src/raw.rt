@@ -7,7 +7,8 @@ ghost use Rattle.cedar_builders.specs.Errors.{OnDuplicateKey};
 ghost use Rattle.cedar_builders.specs.Keys.{keys_of, meant_pairs, IsRising, HasRepeat};
 ghost use Rattle.cedar_builders.specs.Trees.{tree_ops};
 ghost use Rattle.cedar_builders.specs.declared.expression_construction_errors.ExpressionConstructionError.TheVariants as error;
-ghost use Rattle.cedar_exprs.specs.BuiltNode.{builder_place, never};
+ghost use Rattle.cedar_builders.specs.Answers.{never};
+ghost use Rattle.cedar_exprs.specs.BuiltNode.{builder_place};
 ghost use Rattle.cedar_exprs.specs.BareExpr.{bare_expr, bare_exprs};
 
 use cedar_builders::{BuildFault, ExprBuilder as Builder, ExpressionConstructionError};

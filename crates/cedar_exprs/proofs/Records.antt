@@ -58,7 +58,7 @@ made_of_pairs {T} b m n ps e same made node =
     let entries : keyed n.entries ≡ in_key_order (keyed ps) = ap (λ (q : BTreeMap (RcStr Global) (Expr T)). keyed q.entries) same ∙ made in
     record {
       tree = node.tree ∙ ap Record (fields-keyed n.entries ∙ ap (λ qs. fields_of (map (λ p. (p.0, bare_expr p.1)) qs)) entries);
-      loc = node.loc;
+      place = node.place;
       «data» = node.«data» ∙ ap (holds (builder_data b)) (values-keyed n.entries ∙ ap (λ qs. values_of (map (λ p. (p.0, data_tree p.1)) qs)) entries);
     }
 

@@ -14,7 +14,8 @@ ghost use Rattle.cedar_builders.specs.Trees.{tree_ops};
 ghost use Rattle.cedar_exprs.specs.BareExpr.{bare_expr, bare_expr_kind, bare_exprs, bare_fields, expr_place, further, unknown_tree};
 ghost use Rattle.cedar_exprs.specs.ExprData.{kind_data, data_trees, values_data, no_data, one_child, two_children, three_children, of_connective};
 ghost use Rattle.cedar_exprs.specs.RecordPairs.{record_fields, record_data};
-ghost use Rattle.cedar_exprs.specs.BuiltNode.{builder_place, builder_data, IsMadeBy, never, IfBuilt};
+ghost use Rattle.cedar_builders.specs.Answers.{never, IfBuilt};
+ghost use Rattle.cedar_exprs.specs.BuiltNode.{builder_place, builder_data, IsMadeBy};
 
 use crate::expr::{Expr, ExprKind, clone_loc};
 use cedar_builders::keys::collect_distinct;
@@ -46,7 +47,7 @@ impl<T: Default + Copy> ExprBuilder<T> {
         alloc: Global,
         expr: &Expr<U>,
     ) -> Result<ExprBuilder<T>, AllocError>
-        ensures loc { IfOk result (λ b. builder_place b ≡ expr_place expr.now) }
+        ensures place { IfOk result (λ b. builder_place b ≡ expr_place expr.now) }
         ensures of_node { IfOk result (λ b. builder_data b ≡ builder_data self) }
     {
         Ok(ExprBuilder {
@@ -57,7 +58,7 @@ impl<T: Default + Copy> ExprBuilder<T> {
 
     /// A copy.
     pub fn clone(&self, alloc: Global) -> Result<ExprBuilder<T>, AllocError>
-        ensures loc { IfOk result (λ b. builder_place b ≡ builder_place self.now) }
+        ensures place { IfOk result (λ b. builder_place b ≡ builder_place self.now) }
         ensures of_node { IfOk result (λ b. builder_data b ≡ builder_data self.now) }
     {
         Ok(ExprBuilder {
@@ -160,7 +161,7 @@ impl<T: Default + Copy> expr_builder::ExprBuilder for ExprBuilder<T> {
         (two_children arg1 arg2) e };
 
     fn new() -> ExprBuilder<T>
-        ensures loc { builder_place result ≡ None }
+        ensures place { builder_place result ≡ None }
         ensures default { T.is_default (builder_data result) }
     {
         ExprBuilder {
@@ -170,7 +171,7 @@ impl<T: Default + Copy> expr_builder::ExprBuilder for ExprBuilder<T> {
     }
 
     fn with_data(data: T) -> ExprBuilder<T>
-        ensures loc { builder_place result ≡ None }
+        ensures place { builder_place result ≡ None }
         ensures of_node { builder_data result ≡ «data» }
     {
         ExprBuilder {
@@ -192,7 +193,7 @@ impl<T: Default + Copy> expr_builder::ExprBuilder for ExprBuilder<T> {
     }
 
     fn with_maybe_source_loc(self, source_loc: Option<Loc>) -> ExprBuilder<T>
-        ensures loc { builder_place result ≡ source_loc }
+        ensures place { builder_place result ≡ source_loc }
         ensures of_node { builder_data result ≡ builder_data self }
     {
         ExprBuilder {

@@ -164,7 +164,7 @@ impl<T: Drop> Drop for Expr<T> {
 impl<T> Expr<T> {
     pub(crate) fn new(expr_kind: ExprKind<T>, source_loc: Option<Loc>, data: T) -> Expr<T>
         ensures kind { kind_of result ≡ expr_kind }
-        ensures loc { expr_place result ≡ source_loc }
+        ensures place { expr_place result ≡ source_loc }
         ensures of_node { data_of result ≡ «data» }
     {
         Expr {
@@ -181,7 +181,7 @@ impl<T> Expr<T> {
         &self.expr_kind
     }
 
-    /// The kind, with the children, of an expression that is given up.
+    /// The kind, with the children, of a consumed expression.
     pub fn into_expr_kind(self) -> ExprKind<T>
     where
         T: Drop,
@@ -196,22 +196,7 @@ impl<T> Expr<T> {
     {
         match &self.expr_kind {
             ExprKind::Lit(literal) => literal_bool(literal),
-            ExprKind::Var(_)
-            | ExprKind::Slot(_)
-            | ExprKind::Unknown(_)
-            | ExprKind::If { .. }
-            | ExprKind::And { .. }
-            | ExprKind::Or { .. }
-            | ExprKind::UnaryApp { .. }
-            | ExprKind::BinaryApp { .. }
-            | ExprKind::ExtensionFunctionApp { .. }
-            | ExprKind::GetAttr { .. }
-            | ExprKind::HasAttr { .. }
-            | ExprKind::ExtHasAttr { .. }
-            | ExprKind::Like { .. }
-            | ExprKind::Set(_)
-            | ExprKind::Record(_)
-            | ExprKind::Is { .. } => None,
+            _ => None,
         }
     }
 
@@ -222,7 +207,7 @@ impl<T> Expr<T> {
         &self.data
     }
 
-    /// The data of the outermost node of an expression that is given up.
+    /// The data of the outermost node of a consumed expression.
     pub fn into_data(self) -> T
     where
         T: Drop,
@@ -234,7 +219,7 @@ impl<T> Expr<T> {
     /// The kind, the place and the data of the outermost node.
     pub fn into_parts(self) -> (ExprKind<T>, Option<Loc>, T)
         ensures kind { result.0 ≡ kind_of self }
-        ensures loc { result.1 ≡ expr_place self }
+        ensures place { result.1 ≡ expr_place self }
         ensures of_node { result.2 ≡ data_of self }
     {
         let Expr {
@@ -255,7 +240,7 @@ impl<T> Expr<T> {
     /// The expression with this place, or none, on its outermost node; the places inside stay.
     pub fn with_maybe_source_loc(self, source_loc: Option<Loc>) -> Expr<T>
         ensures kind { kind_of result ≡ kind_of self }
-        ensures loc { expr_place result ≡ source_loc }
+        ensures place { expr_place result ≡ source_loc }
         ensures of_node { data_of result ≡ data_of self }
     {
         let (expr_kind, _, data) = self.into_parts();
@@ -267,7 +252,7 @@ impl<T> Expr<T> {
     where
         T: Drop,
         ensures kind { kind_of self.new ≡ kind_of self.old }
-        ensures loc { expr_place self.new ≡ expr_place self.old }
+        ensures place { expr_place self.new ≡ expr_place self.old }
         ensures of_node { data_of self.new ≡ «data» }
     {
         self.data = data;
@@ -278,7 +263,7 @@ impl<T: Copy> Expr<T> {
     /// A copy, which shares the children.
     pub fn clone(&self, alloc: Global) -> Result<Expr<T>, AllocError>
         ensures tree { IfOk result (λ e. bare_expr e ≡ bare_expr self.now) }
-        ensures loc { IfOk result (λ e. expr_place e ≡ expr_place self.now) }
+        ensures place { IfOk result (λ e. expr_place e ≡ expr_place self.now) }
         ensures at_each_position { IfOk result (λ e. data_tree e ≡ data_tree self.now) }
     {
         Ok(Expr::new(
@@ -295,9 +280,7 @@ fn literal_bool(literal: &Literal) -> Option<bool>
 {
     match literal {
         Literal::Bool(b) => Some(*b),
-        Literal::Long(_) => None,
-        Literal::String(_) => None,
-        Literal::EntityUID(_) => None,
+        _ => None,
     }
 }
 

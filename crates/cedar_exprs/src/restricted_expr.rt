@@ -49,7 +49,7 @@ impl RestrictedExpr {
         &self.expr
     }
 
-    // The expression of one that is given up.
+    // The expression of one that is consumed.
     pub(crate) fn into_expr(self) -> Expr<()>
         ensures same { result ≡ expr_of self }
         ensures restricted { IsRestricted (bare_expr result) }

@@ -9,7 +9,7 @@ ghost use Rattle.cedar_builders.specs.Errors.{OnDuplicateKey};
 ghost use Rattle.cedar_builders.specs.Answers.{Gives};
 ghost use Rattle.cedar_builders.specs.Keys.{keys_of, meant_pairs, IsRising, HasRepeat};
 ghost use Rattle.cedar_builders.specs.declared.expression_construction_errors.ExpressionConstructionError.TheVariants as error;
-ghost use Rattle.cedar_exprs.specs.BuiltNode.{never};
+ghost use Rattle.cedar_builders.specs.Answers.{never};
 ghost use Rattle.cedar_script.specs.Sketch.{annotation_texts, listed, pair_text, sketch_ops, spaced, text_of};
 
 use cedar_builders::{
