@@ -3,7 +3,6 @@ use Rattle.std.specs.Prelude.{◌≡◌, ℕ, List, [], length, Option, Some, No
 use Rattle.std.specs.declared.vec.Vec.{Vec}
 use Rattle.cedar_names.specs.declared.name.InternalName.{InternalName}
 use Rattle.cedar_names.specs.Place.{Place}
-use denote.Ref.{Bor}
 use Rattle.cedar_names.specs.Names.{BareName}
 
 -- the identifiers of a path, where none is kept as no list
@@ -22,8 +21,3 @@ internal_name_place n = n.loc
 -- the place is the whole text, in bytes
 abbrev pub IsWholeOf : List ℕ → Option Place → Type 0
 IsWholeOf s p = p ≡ Some (record { start = 0; stop = length s; src = s })
-
--- the bare name of a namespace, if one is given
-abbrev pub bare_internal_name_now : Option (Bor InternalName) → Option BareName
-bare_internal_name_now None = None
-bare_internal_name_now (Some w) = Some (bare_internal_name w.now)

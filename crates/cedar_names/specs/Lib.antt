@@ -2,7 +2,6 @@ pub mod Grammar
 pub mod Names
 pub mod NameOrder
 pub mod Place
-pub mod Texts
 pub mod InternalNames
 pub mod Readers
 pub mod PlainNames

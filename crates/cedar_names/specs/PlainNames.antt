@@ -1,11 +1,10 @@
 -- What a name without the component `__cedar` says.
-use Rattle.std.specs.Prelude.{Option, Some, None}
+use Rattle.std.specs.Prelude.{Option}
 use Rattle.cedar_names.specs.declared.name.InternalName.{InternalName}
 use Rattle.cedar_names.specs.declared.plain_name.Name.{Name}
 use Rattle.cedar_names.specs.Place.{Place}
 use Rattle.cedar_names.specs.Names.{BareName}
 use Rattle.cedar_names.specs.InternalNames.{bare_internal_name, internal_name_place}
-use denote.Ref.{Bor}
 
 -- the name, seen as one that may be reserved
 abbrev pub internal : Name → InternalName
@@ -18,8 +17,3 @@ bare_name n = bare_internal_name n.name
 -- its place, if it has one
 abbrev pub name_place : Name → Option Place
 name_place n = internal_name_place n.name
-
--- the bare name of a namespace, if one is given
-abbrev pub bare_name_now : Option (Bor Name) → Option BareName
-bare_name_now None = None
-bare_name_now (Some w) = Some (bare_name w.now)

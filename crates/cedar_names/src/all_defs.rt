@@ -1,5 +1,8 @@
 // Declared types.
 ghost use Rattle.std.specs.Prelude.{◌≡◌};
+ghost use Rattle.cedar_names.specs.Names.{BareName};
+ghost use Rattle.cedar_names.specs.InternalNames.{bare_internal_name};
+ghost use Rattle.cedar_names.specs.Resolution.{has_name, is_common, is_entity};
 
 use crate::name::InternalName;
 use std::collections::BTreeSet;
@@ -13,10 +16,6 @@ pub struct AllDefs {
 }
 
 impl AllDefs {
-    ghost use Rattle.cedar_names.specs.Names.{BareName};
-    ghost use Rattle.cedar_names.specs.InternalNames.{bare_internal_name};
-    ghost use Rattle.cedar_names.specs.Resolution.{has_name, is_common, is_entity};
-
     /// The declarations of these names.
     pub fn new(common: BTreeSet<InternalName>, entity: BTreeSet<InternalName>) -> AllDefs
         ensures common { (n : BareName) → is_common result n ≡ has_name common.keys n }

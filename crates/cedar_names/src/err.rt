@@ -1,12 +1,15 @@
 // Errors of the readers.
 ghost use Rattle.std.specs.Prelude.{◌≡◌, IfOk};
 ghost use Rattle.cedar_names.specs.declared.err.ParseErrors.TheVariants.{Memory, Reserved};
+ghost use Rattle.cedar_names.specs.InternalNames.{bare_internal_name, internal_name_place};
+ghost use Rattle.cedar_names.specs.Readers.{refused_name, refused_place};
 
 use crate::name::InternalName;
 use std::alloc::{AllocError, AllocFailed, Global};
 use thiserror::Error;
 
-/// A name has the component `__cedar` where that is not allowed (Cedar's file `name.rs`, after RFC 52).
+/// A name has the component `__cedar` where that is not allowed (Cedar's file `name.rs`, after
+/// RFC 52).
 #[derive(Debug, PartialEq, Eq, Hash, Drop, Error)]
 #[error("The name `{name}` contains `__cedar`, which is reserved")]
 pub struct ReservedNameError {
@@ -14,9 +17,6 @@ pub struct ReservedNameError {
 }
 
 impl ReservedNameError {
-    ghost use Rattle.cedar_names.specs.InternalNames.{bare_internal_name, internal_name_place};
-    ghost use Rattle.cedar_names.specs.Readers.{refused_name, refused_place};
-
     /// The name that was refused.
     pub fn name(&self) -> &InternalName
         ensures name { bare_internal_name result.now ≡ refused_name self.now }

@@ -5,9 +5,8 @@ ghost use Rattle.std.specs.Rc.{rc_str_bytes};
 ghost use Rattle.std.specs.Ordering.{nat_cmp};
 ghost use Rattle.std.specs.Hash as fed;
 ghost use Rattle.std.specs.Cmp.{partial_equiv_from_equiv};
-ghost use Rattle.std.specs.Cmp.Lexicographic.{pointwise, slice_cmp, nat_list_eq_equiv, nat_list_cmp_total, texts_ties, texts_po};
+ghost use Rattle.std.specs.Cmp.Lexicographic.{pointwise, slice_cmp, nat_list_eq_equiv, nat_list_cmp_total, texts_ties, texts_po, bytes_decides};
 ghost use Rattle.std.proofs.Common.{ap};
-ghost use Rattle.cedar_names.specs.Texts.{bytes_same};
 ghost use Rattle.cedar_names.specs.Grammar.{is_start, is_part, is_any_id, is_keyword, is_id, is_reserved, is_unreserved_id};
 ghost use Rattle.cedar_names.specs.Names.{unqualified};
 ghost use Rattle.cedar_names.specs.Readers.{OnReadError, IsNeverReserved, IsReservedId, refused_name, refused_place};
@@ -86,15 +85,113 @@ pub fn is_normalized_ident(s: &str) -> bool
     is_id_text(s) && !is_reserved_text(s)
 }
 
+// The text that an identifier or a keyword is, which compares by its bytes.
+#[derive(Debug, Drop)]
+struct Text {
+    shared: RcStr,
+}
+
+impl Model for Text {
+    ghost use Rattle.std.specs.Prelude.{List, ℕ};
+    ghost use Rattle.std.specs.Rc.{rc_str_bytes};
+
+    ghost Value = { List ℕ };
+
+    ghost view = { λ t. rc_str_bytes t.shared };
+}
+
+impl Text {
+    fn new(alloc: Global, s: &str) -> Result<Text, AllocError>
+        ensures { IfOk result (λ t. t ≡ s.now) }
+    {
+        let shared = RcStr::from_str(alloc, s)?;
+        Ok(Text { shared })
+    }
+
+    fn clone(&self) -> Result<Text, AllocError>
+        ensures { IfOk result (λ t. t ≡ self.now) }
+    {
+        let shared = self.shared.clone()?;
+        Ok(Text { shared })
+    }
+}
+
+impl AsStr for Text {
+    ghost text = { λ t. t };
+
+    fn as_str(&self) -> &str {
+        self.shared.as_str()
+    }
+}
+
+impl fmt::Display for Text {
+    ghost output = { λ t. Some t };
+
+    fn fmt<W: fmt::Write>(&self, f: &mut fmt::Formatter<W>) -> fmt::Result {
+        self.shared.fmt(f)
+    }
+}
+
+impl PartialEq for Text {
+    ghost eq = { pointwise nat_eq };
+
+    ghost laws = { partial_equiv_from_equiv nat_list_eq_equiv };
+
+    fn eq(&self, other: &Text) -> bool {
+        self.shared == other.shared
+    }
+}
+
+impl Eq for Text {
+    ghost laws = { nat_list_eq_equiv };
+}
+
+impl PartialOrd for Text {
+    ghost partial_cmp = { λ x y. Some (slice_cmp nat_cmp x y) };
+
+    ghost laws = { texts_po };
+
+    fn partial_cmp(&self, other: &Text) -> Option<Ordering> {
+        Some(self.cmp(other))
+    }
+}
+
+impl Ord for Text {
+    ghost cmp = { slice_cmp nat_cmp };
+
+    ghost total = { nat_list_cmp_total };
+
+    ghost matches_partial_cmp = { λ _ _. refl };
+
+    ghost matches_eq = { texts_ties };
+
+    fn cmp(&self, other: &Text) -> Ordering {
+        self.shared.cmp(&other.shared)
+    }
+}
+
+impl Hash for Text {
+    ghost hash_input = { λ t. fed.str t };
+
+    ghost respects_eq = { λ x y h. ap fed.str ((bytes_decides x y).0 h) };
+
+    fn hash<H: Hasher>(&self, state: &mut H) {
+        self.shared.hash(state);
+    }
+}
+
 // The identifier with this text, or an error with this word.
 pub(crate) fn read_id(alloc: Global, s: &str, kind: &'static str) -> Result<Id, ParseErrors>
     ensures ok { IfOk result (λ id. (id ≡ s.now) × IsTrue (is_id s.now)) }
-    ensures refused { IfErr result (λ e. OnReadError e kind.now (is_id s.now ≡ false) (IsNeverReserved s.now)) }
+    ensures refused {
+        IfErr result (λ e.
+            OnReadError e kind.now (is_id s.now ≡ false) (IsNeverReserved s.now))
+    }
 {
     if !is_id_text(s) {
         return Err(ParseErrors::NotNormalized { kind });
     }
-    let text = RcStr::from_str(alloc, s)?;
+    let text = Text::new(alloc, s)?;
     Ok(Id { text })
 }
 
@@ -103,21 +200,22 @@ pub(crate) fn read_id(alloc: Global, s: &str, kind: &'static str) -> Result<Id, 
 /// `id.rs`). `__cedar` is one.
 ///
 /// A contract sees it as its text. Identifiers compare by the bytes of their texts.
-#[derive(Debug, Drop)]
+#[derive(Debug, PartialEq, Eq, PartialOrd, Ord, Hash, Drop)]
 pub struct Id {
-    text: RcStr,
+    text: Text,
 }
 
 impl Model for Id {
     ghost use Rattle.std.specs.Prelude.{List, ℕ, IsTrue};
-    ghost use Rattle.std.specs.Rc.{rc_str_bytes};
     ghost use Rattle.cedar_names.specs.Grammar.{is_id};
 
     ghost Value = { List ℕ };
 
-    ghost view = { λ id. rc_str_bytes id.text };
+    ghost view = { λ id. id.text };
 
-    ghost invariant = { λ id. IsTrue (is_id (rc_str_bytes id.text)) };
+    ghost invariant = { λ id. IsTrue (is_id id.text) };
+
+    ghost inverse = { λ t. record { text = t } };
 }
 
 impl Id {
@@ -126,7 +224,7 @@ impl Id {
         ensures text { rc_str_bytes result ≡ self }
         ensures in_grammar { IsTrue (is_id self) }
     {
-        self.text
+        self.text.shared
     }
 
     /// Whether it is `__cedar` (RFC 52).
@@ -148,7 +246,7 @@ impl Id {
     pub(crate) fn reserved(alloc: Global) -> Result<Id, AllocError>
         ensures { IfOk result (λ id. id ≡ codes "__cedar") }
     {
-        let text = RcStr::from_str(alloc, RESERVED_ID)?;
+        let text = Text::new(alloc, RESERVED_ID)?;
         Ok(Id { text })
     }
 }
@@ -168,54 +266,6 @@ impl FromNormalizedStr for Id {
 
     fn from_normalized_str(alloc: Global, s: &str) -> Result<Id, ParseErrors> {
         read_id(alloc, s, "Id")
-    }
-}
-
-impl PartialEq for Id {
-    ghost eq = { pointwise nat_eq };
-
-    ghost laws = { partial_equiv_from_equiv nat_list_eq_equiv };
-
-    fn eq(&self, other: &Id) -> bool {
-        self.text == other.text
-    }
-}
-
-impl Eq for Id {
-    ghost laws = { nat_list_eq_equiv };
-}
-
-impl PartialOrd for Id {
-    ghost partial_cmp = { λ x y. Some (slice_cmp nat_cmp x y) };
-
-    ghost laws = { texts_po };
-
-    fn partial_cmp(&self, other: &Id) -> Option<Ordering> {
-        Some(self.cmp(other))
-    }
-}
-
-impl Ord for Id {
-    ghost cmp = { slice_cmp nat_cmp };
-
-    ghost total = { nat_list_cmp_total };
-
-    ghost matches_partial_cmp = { λ _ _. refl };
-
-    ghost matches_eq = { texts_ties };
-
-    fn cmp(&self, other: &Id) -> Ordering {
-        self.text.cmp(&other.text)
-    }
-}
-
-impl Hash for Id {
-    ghost hash_input = { λ id. fed.str id };
-
-    ghost respects_eq = { λ x y h. ap fed.str (bytes_same x y h) };
-
-    fn hash<H: Hasher>(&self, state: &mut H) {
-        self.text.hash(state);
     }
 }
 
@@ -313,7 +363,13 @@ impl FromNormalizedStr for UnreservedId {
 impl TryFrom<Id> for UnreservedId {
     type Error = ReservedNameError;
 
-    ghost try_from_gives = { λ id r. MatchResult r (λ u. (is_reserved id ≡ false) × (u ≡ id)) (λ e. (is_reserved id ≡ true) × (refused_name e ≡ unqualified id) × (refused_place e ≡ None)) };
+    ghost try_from_gives = { λ id r.
+        MatchResult r
+            (λ u. (is_reserved id ≡ false) × (u ≡ id))
+            (λ e. (is_reserved id ≡ true)
+                × (refused_name e ≡ unqualified id)
+                × (refused_place e ≡ None))
+    };
 
     fn try_from(value: Id) -> Result<UnreservedId, ReservedNameError> {
         if value.is_reserved() {
@@ -351,21 +407,22 @@ impl fmt::Display for UnreservedId {
 /// An identifier or a keyword (Cedar's file `id.rs`).
 ///
 /// A contract sees it as its text. It compares by the bytes of its text.
-#[derive(Debug, Drop)]
+#[derive(Debug, PartialEq, Eq, PartialOrd, Ord, Hash, Drop)]
 pub struct AnyId {
-    text: RcStr,
+    text: Text,
 }
 
 impl Model for AnyId {
     ghost use Rattle.std.specs.Prelude.{List, ℕ, IsTrue};
-    ghost use Rattle.std.specs.Rc.{rc_str_bytes};
     ghost use Rattle.cedar_names.specs.Grammar.{is_any_id};
 
     ghost Value = { List ℕ };
 
-    ghost view = { λ id. rc_str_bytes id.text };
+    ghost view = { λ id. id.text };
 
-    ghost invariant = { λ id. IsTrue (is_any_id (rc_str_bytes id.text)) };
+    ghost invariant = { λ id. IsTrue (is_any_id id.text) };
+
+    ghost inverse = { λ t. record { text = t } };
 }
 
 impl AnyId {
@@ -374,16 +431,15 @@ impl AnyId {
         ensures text { rc_str_bytes result ≡ self }
         ensures in_grammar { IsTrue (is_any_id self) }
     {
-        self.text
+        self.text.shared
     }
 
     /// A copy, which shares the text.
     pub fn clone(&self, _alloc: Global) -> Result<AnyId, AllocError>
         ensures { IfOk result (λ id. id ≡ self.now) }
     {
-        Ok(AnyId {
-            text: self.text.clone()?,
-        })
+        let text = self.text.clone()?;
+        Ok(AnyId { text })
     }
 }
 
@@ -404,56 +460,8 @@ impl FromNormalizedStr for AnyId {
         if !is_any_id_text(s) {
             return Err(ParseErrors::NotNormalized { kind: "AnyId" });
         }
-        let text = RcStr::from_str(alloc, s)?;
+        let text = Text::new(alloc, s)?;
         Ok(AnyId { text })
-    }
-}
-
-impl PartialEq for AnyId {
-    ghost eq = { pointwise nat_eq };
-
-    ghost laws = { partial_equiv_from_equiv nat_list_eq_equiv };
-
-    fn eq(&self, other: &AnyId) -> bool {
-        self.text == other.text
-    }
-}
-
-impl Eq for AnyId {
-    ghost laws = { nat_list_eq_equiv };
-}
-
-impl PartialOrd for AnyId {
-    ghost partial_cmp = { λ x y. Some (slice_cmp nat_cmp x y) };
-
-    ghost laws = { texts_po };
-
-    fn partial_cmp(&self, other: &AnyId) -> Option<Ordering> {
-        Some(self.cmp(other))
-    }
-}
-
-impl Ord for AnyId {
-    ghost cmp = { slice_cmp nat_cmp };
-
-    ghost total = { nat_list_cmp_total };
-
-    ghost matches_partial_cmp = { λ _ _. refl };
-
-    ghost matches_eq = { texts_ties };
-
-    fn cmp(&self, other: &AnyId) -> Ordering {
-        self.text.cmp(&other.text)
-    }
-}
-
-impl Hash for AnyId {
-    ghost hash_input = { λ id. fed.str id };
-
-    ghost respects_eq = { λ x y h. ap fed.str (bytes_same x y h) };
-
-    fn hash<H: Hasher>(&self, state: &mut H) {
-        self.text.hash(state);
     }
 }
 

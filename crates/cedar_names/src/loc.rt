@@ -1,9 +1,10 @@
 // Places in a source text.
-ghost use Rattle.std.specs.Prelude.{◌≡◌, nat_eq, refl, IfOk};
+ghost use Rattle.std.specs.Prelude.{◌≡◌, refl, IfOk};
+ghost use Rattle.std.specs.Option.{option_copied};
 ghost use Rattle.std.specs.Rc.{rc_str_bytes};
-ghost use Rattle.std.specs.Ordering.{nat_cmp, on, as_partial_cmp};
+ghost use Rattle.std.specs.Ordering.{as_partial_cmp};
 ghost use Rattle.std.specs.Cmp.{partial_equiv_from_equiv};
-ghost use Rattle.cedar_names.specs.Place.{Place, place_eq, place_eq_equiv, place_cmp, place_cmp_total, place_ties, place_po, place_fed, place_fed-alike};
+ghost use Rattle.cedar_names.specs.Place.{place_eq, place_eq_equiv, place_cmp, place_cmp_total, place_ties, place_po, place_fed, place_fed-alike};
 
 use std::alloc::{AllocError, Global};
 use std::cmp::Ordering;
@@ -38,7 +39,7 @@ impl Loc {
         Loc { start, stop, src }
     }
 
-    /// A copy.
+    /// A copy, which shares the text.
     pub fn clone(&self, _alloc: Global) -> Result<Loc, AllocError>
         ensures { IfOk result (λ l. l ≡ self.now) }
     {
@@ -49,15 +50,15 @@ impl Loc {
             src,
         })
     }
-}
 
-// A copy of the place, if there is one.
-pub(crate) fn clone_loc(alloc: Global, loc: &Option<Loc>) -> Result<Option<Loc>, AllocError>
-    ensures { IfOk result (λ l. l ≡ loc.now) }
-{
-    match loc {
-        None => Ok(None),
-        Some(loc) => Ok(Some(loc.clone(alloc)?)),
+    /// A copy of the place, if there is one.
+    pub fn clone_option(alloc: Global, loc: Option<&Loc>) -> Result<Option<Loc>, AllocError>
+        ensures { IfOk result (λ copy. copy ≡ option_copied loc.entry) }
+    {
+        match loc {
+            None => Ok(None),
+            Some(loc) => Ok(Some(loc.clone(alloc)?)),
+        }
     }
 }
 

@@ -1,19 +1,22 @@
 // Names with namespaces.
 ghost use Rattle.std.specs.Prelude.{◌≡◌, ◌≢◌, ℕ, [], MatchResult, Some, None, refl, IfOk, IfErr, codes, false, IsTrue, ◌↔◌, ◌++◌};
 ghost use Rattle.std.specs.List.{list_any};
-ghost use Rattle.std.specs.Option.{option_copied};
+ghost use Rattle.std.specs.Option.{option_copied, option_map};
 ghost use Rattle.std.specs.Slice.Iter.{iter_rest};
 ghost use Rattle.std.specs.String.{string_bytes};
 ghost use Rattle.std.specs.Ordering.{on, as_partial_cmp};
 ghost use Rattle.std.specs.Cmp.{partial_equiv_from_equiv, on_equiv, on_po, on_total};
 ghost use Rattle.cedar_names.specs.Grammar.{is_id, is_reserved};
-ghost use Rattle.cedar_names.specs.Names.{further_text};
+ghost use Rattle.cedar_names.specs.Names.{has_reserved, qualified, unqualified, within, joined_text, further_text, name_text, IsNameOf, IsNameText};
+ghost use Rattle.cedar_names.specs.NameOrder.{name_eq, name_eq_equiv, name_cmp, name_cmp_total, name_ties, name_po, name_fed, name_fed-alike};
+ghost use Rattle.cedar_names.specs.InternalNames.{bare_internal_name, internal_name_place, IsWholeOf};
+ghost use Rattle.cedar_names.specs.PlainNames.{bare_name};
 ghost use Rattle.cedar_names.specs.Readers.{OnReadError, IsNeverReserved};
 
 use crate::err::ParseErrors;
 use crate::from_normalized_str::FromNormalizedStr;
 use crate::id::{Id, read_id};
-use crate::loc::{Loc, clone_loc};
+use crate::loc::Loc;
 use crate::plain_name::Name;
 use std::alloc::{AllocError, Global};
 use std::cmp::Ordering;
@@ -39,7 +42,7 @@ fn clone_path(alloc: Global, path: &[Id]) -> Result<Vec<Id>, AllocError>
 }
 
 // The identifiers joined by `::`.
-fn joined(alloc: Global, first: &Id, further: &[Id]) -> Result<String, AllocError>
+fn join(alloc: Global, first: &Id, further: &[Id]) -> Result<String, AllocError>
     ensures { IfOk result (λ text. string_bytes text ≡ first.now ++ further_text further.now) }
 {
     let mut text = String::from_str(alloc, first.as_str())?;
@@ -64,14 +67,12 @@ pub struct InternalName {
 }
 
 impl InternalName {
-    ghost use Rattle.cedar_names.specs.InternalNames.{bare_internal_name, bare_internal_name_now, internal_name_place};
-    ghost use Rattle.cedar_names.specs.PlainNames.{bare_name_now};
-    ghost use Rattle.cedar_names.specs.Names.{has_reserved, qualified, unqualified, within, joined_text};
-
     /// The name with this basename, path and place.
     pub fn new(basename: Id, path: Vec<Id>, loc: Option<Loc>) -> InternalName
-        ensures name { bare_internal_name result ≡ record { path = path.items; basename = basename } }
-        ensures loc { internal_name_place result ≡ loc }
+        ensures name {
+            bare_internal_name result ≡ record { path = path.items; basename = basename }
+        }
+        ensures place { internal_name_place result ≡ loc }
     {
         let path = if path.is_empty() { None } else { Some(path) };
         InternalName {
@@ -84,7 +85,7 @@ impl InternalName {
     /// The name with no namespace.
     pub fn unqualified_name(id: Id, loc: Option<Loc>) -> InternalName
         ensures name { bare_internal_name result ≡ unqualified id }
-        ensures loc { internal_name_place result ≡ loc }
+        ensures place { internal_name_place result ≡ loc }
     {
         InternalName {
             basename: id,
@@ -96,7 +97,7 @@ impl InternalName {
     /// The namespace `__cedar`, with no place.
     pub fn cedar(alloc: Global) -> Result<InternalName, AllocError>
         ensures name { IfOk result (λ n. bare_internal_name n ≡ unqualified (codes "__cedar")) }
-        ensures loc { IfOk result (λ n. internal_name_place n ≡ None) }
+        ensures place { IfOk result (λ n. internal_name_place n ≡ None) }
     {
         Ok(InternalName::unqualified_name(Id::reserved(alloc)?, None))
     }
@@ -105,9 +106,15 @@ impl InternalName {
     ///
     /// Any other text is refused as no `Id`.
     pub fn parse_unqualified_name(alloc: Global, s: &str) -> Result<InternalName, ParseErrors>
-        ensures name { IfOk result (λ n. (bare_internal_name n ≡ unqualified s.now) × IsTrue (is_id s.now)) }
-        ensures loc { IfOk result (λ n. internal_name_place n ≡ None) }
-        ensures refused { IfErr result (λ e. OnReadError e (codes "Id") (is_id s.now ≡ false) (IsNeverReserved s.now)) }
+        ensures name {
+            IfOk result (λ n.
+                (bare_internal_name n ≡ unqualified s.now) × IsTrue (is_id s.now))
+        }
+        ensures place { IfOk result (λ n. internal_name_place n ≡ None) }
+        ensures refused {
+            IfErr result (λ e.
+                OnReadError e (codes "Id") (is_id s.now ≡ false) (IsNeverReserved s.now))
+        }
     {
         let id = read_id(alloc, s, "Id")?;
         Ok(InternalName::unqualified_name(id, None))
@@ -120,8 +127,11 @@ impl InternalName {
         namespace: InternalName,
         loc: Option<Loc>,
     ) -> Result<InternalName, AllocError>
-        ensures name { IfOk result (λ n. bare_internal_name n ≡ within (bare_internal_name namespace) basename) }
-        ensures loc { IfOk result (λ n. internal_name_place n ≡ loc) }
+        ensures name {
+            IfOk result (λ n.
+                bare_internal_name n ≡ within (bare_internal_name namespace) basename)
+        }
+        ensures place { IfOk result (λ n. internal_name_place n ≡ loc) }
     {
         let InternalName {
             basename: last,
@@ -156,11 +166,14 @@ impl InternalName {
 
     /// The text of its namespace: `foo::bar` for `foo::bar::baz`, and no text for `baz`.
     pub fn namespace(&self, alloc: Global) -> Result<String, AllocError>
-        ensures { IfOk result (λ text. string_bytes text ≡ joined_text (bare_internal_name self.now).path) }
+        ensures {
+            IfOk result (λ text.
+                string_bytes text ≡ joined_text (bare_internal_name self.now).path)
+        }
     {
         match self.path().split_first() {
             None => Ok(String::new(alloc)),
-            Some((first, further)) => joined(alloc, first, further),
+            Some((first, further)) => join(alloc, first, further),
         }
     }
 
@@ -173,15 +186,20 @@ impl InternalName {
         alloc: Global,
         namespace: Option<&InternalName>,
     ) -> Result<InternalName, AllocError>
-        ensures name { IfOk result (λ n. bare_internal_name n ≡ qualified (bare_internal_name self.now) (bare_internal_name_now namespace.entry)) }
-        ensures loc { IfOk result (λ n. internal_name_place n ≡ internal_name_place self.now) }
+        ensures name {
+            IfOk result (λ n.
+                bare_internal_name n ≡
+                    qualified (bare_internal_name self.now)
+                        (option_map bare_internal_name (option_copied namespace.entry)))
+        }
+        ensures place { IfOk result (λ n. internal_name_place n ≡ internal_name_place self.now) }
     {
         match namespace {
             Some(namespace) if self.is_unqualified() => {
                 let mut path = clone_path(alloc, namespace.path())?;
                 path.push(namespace.basename.clone(alloc)?)?;
                 let basename = self.basename.clone(alloc)?;
-                let loc = clone_loc(alloc, &self.loc)?;
+                let loc = Loc::clone_option(alloc, self.loc.as_ref())?;
                 Ok(InternalName::new(basename, path, loc))
             }
             _ => self.clone(alloc),
@@ -194,8 +212,13 @@ impl InternalName {
         alloc: Global,
         namespace: Option<&Name>,
     ) -> Result<InternalName, AllocError>
-        ensures name { IfOk result (λ n. bare_internal_name n ≡ qualified (bare_internal_name self.now) (bare_name_now namespace.entry)) }
-        ensures loc { IfOk result (λ n. internal_name_place n ≡ internal_name_place self.now) }
+        ensures name {
+            IfOk result (λ n.
+                bare_internal_name n ≡
+                    qualified (bare_internal_name self.now)
+                        (option_map bare_name (option_copied namespace.entry)))
+        }
+        ensures place { IfOk result (λ n. internal_name_place n ≡ internal_name_place self.now) }
     {
         match namespace {
             Some(namespace) => self.qualify_with(alloc, Some(namespace.as_ref())),
@@ -220,11 +243,11 @@ impl InternalName {
     /// A copy.
     pub fn clone(&self, alloc: Global) -> Result<InternalName, AllocError>
         ensures name { IfOk result (λ n. bare_internal_name n ≡ bare_internal_name self.now) }
-        ensures loc { IfOk result (λ n. internal_name_place n ≡ internal_name_place self.now) }
+        ensures place { IfOk result (λ n. internal_name_place n ≡ internal_name_place self.now) }
     {
         let basename = self.basename.clone(alloc)?;
         let path = clone_path(alloc, self.path())?;
-        let loc = clone_loc(alloc, &self.loc)?;
+        let loc = Loc::clone_option(alloc, self.loc.as_ref())?;
         Ok(InternalName::new(basename, path, loc))
     }
 
@@ -239,16 +262,15 @@ impl InternalName {
 }
 
 impl FromNormalizedStr for InternalName {
-    ghost use Rattle.cedar_names.specs.InternalNames.{bare_internal_name, internal_name_place, IsWholeOf};
-    ghost use Rattle.cedar_names.specs.Names.{IsNameOf, IsNameText};
-
     ghost kind = { codes "internal name" };
 
     ghost outside = { λ s. IsNameText s → ⊥ };
 
     ghost forbids = { IsNeverReserved };
 
-    ghost reads = { λ s n. IsNameOf s (bare_internal_name n) × IsWholeOf s (internal_name_place n) };
+    ghost reads = { λ s n.
+        IsNameOf s (bare_internal_name n) × IsWholeOf s (internal_name_place n)
+    };
 
     fn describe_self() -> &'static str {
         "internal name"
@@ -269,10 +291,9 @@ impl FromNormalizedStr for InternalName {
 }
 
 impl From<Id> for InternalName {
-    ghost use Rattle.cedar_names.specs.InternalNames.{bare_internal_name, internal_name_place};
-    ghost use Rattle.cedar_names.specs.Names.{unqualified};
-
-    ghost from_gives = { λ id n. (bare_internal_name n ≡ unqualified id) × (internal_name_place n ≡ None) };
+    ghost from_gives = { λ id n.
+        (bare_internal_name n ≡ unqualified id) × (internal_name_place n ≡ None)
+    };
 
     fn from(value: Id) -> InternalName {
         InternalName::unqualified_name(value, None)
@@ -282,10 +303,11 @@ impl From<Id> for InternalName {
 impl TryFrom<InternalName> for Id {
     type Error = ();
 
-    ghost use Rattle.cedar_names.specs.InternalNames.{bare_internal_name};
-    ghost use Rattle.cedar_names.specs.Names.{unqualified};
-
-    ghost try_from_gives = { λ n r. MatchResult r (λ id. bare_internal_name n ≡ unqualified id) (λ _. (bare_internal_name n).path ≢ []) };
+    ghost try_from_gives = { λ n r.
+        MatchResult r
+            (λ id. bare_internal_name n ≡ unqualified id)
+            (λ _. (bare_internal_name n).path ≢ [])
+    };
 
     fn try_from(value: InternalName) -> Result<Id, ()> {
         if value.is_unqualified() {
@@ -297,9 +319,6 @@ impl TryFrom<InternalName> for Id {
 }
 
 impl PartialEq for InternalName {
-    ghost use Rattle.cedar_names.specs.InternalNames.{bare_internal_name};
-    ghost use Rattle.cedar_names.specs.NameOrder.{name_eq, name_eq_equiv};
-
     ghost eq = { on bare_internal_name name_eq };
 
     ghost laws = { partial_equiv_from_equiv (on_equiv bare_internal_name name_eq_equiv) };
@@ -310,16 +329,10 @@ impl PartialEq for InternalName {
 }
 
 impl Eq for InternalName {
-    ghost use Rattle.cedar_names.specs.InternalNames.{bare_internal_name};
-    ghost use Rattle.cedar_names.specs.NameOrder.{name_eq_equiv};
-
     ghost laws = { on_equiv bare_internal_name name_eq_equiv };
 }
 
 impl PartialOrd for InternalName {
-    ghost use Rattle.cedar_names.specs.InternalNames.{bare_internal_name};
-    ghost use Rattle.cedar_names.specs.NameOrder.{name_cmp, name_po};
-
     ghost partial_cmp = { as_partial_cmp (on bare_internal_name name_cmp) };
 
     ghost laws = { on_po bare_internal_name name_po };
@@ -330,9 +343,6 @@ impl PartialOrd for InternalName {
 }
 
 impl Ord for InternalName {
-    ghost use Rattle.cedar_names.specs.InternalNames.{bare_internal_name};
-    ghost use Rattle.cedar_names.specs.NameOrder.{name_cmp, name_cmp_total, name_ties};
-
     ghost cmp = { on bare_internal_name name_cmp };
 
     ghost total = { on_total bare_internal_name name_cmp_total };
@@ -342,16 +352,14 @@ impl Ord for InternalName {
     ghost matches_eq = { λ m n. name_ties (bare_internal_name m) (bare_internal_name n) };
 
     fn cmp(&self, other: &InternalName) -> Ordering {
-        self.basename
-            .cmp(&other.basename)
-            .then_with(|| self.path().cmp(other.path()))
+        match self.basename.cmp(&other.basename) {
+            Ordering::Equal => self.path().cmp(other.path()),
+            order => order,
+        }
     }
 }
 
 impl Hash for InternalName {
-    ghost use Rattle.cedar_names.specs.InternalNames.{bare_internal_name};
-    ghost use Rattle.cedar_names.specs.NameOrder.{name_fed, name_fed-alike};
-
     ghost hash_input = { λ n. name_fed (bare_internal_name n) };
 
     ghost respects_eq = { λ m n h. name_fed-alike (bare_internal_name m) (bare_internal_name n) h };
@@ -363,9 +371,6 @@ impl Hash for InternalName {
 }
 
 impl fmt::Display for InternalName {
-    ghost use Rattle.cedar_names.specs.InternalNames.{bare_internal_name};
-    ghost use Rattle.cedar_names.specs.Names.{name_text};
-
     ghost output = { λ n. Some (name_text (bare_internal_name n)) };
 
     fn fmt<W: fmt::Write>(&self, f: &mut fmt::Formatter<W>) -> fmt::Result {

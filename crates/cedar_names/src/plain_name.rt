@@ -1,7 +1,9 @@
 // Names without the component `__cedar`.
-ghost use Rattle.std.specs.Prelude.{◌≡◌, false};
-ghost use Rattle.cedar_names.specs.InternalNames.{bare_internal_name};
-ghost use Rattle.cedar_names.specs.Names.{has_reserved};
+ghost use Rattle.std.specs.Prelude.{◌≡◌, ◌≢◌, ◌↔◌, [], IfOk, IfErr, IsTrue, MatchResult, Some, None, true, false, codes};
+ghost use Rattle.std.specs.Option.{option_copied, option_map};
+ghost use Rattle.cedar_names.specs.Grammar.{is_id};
+ghost use Rattle.cedar_names.specs.Names.{has_reserved, qualified, unqualified, name_text, IsNameOf, IsNameText};
+ghost use Rattle.cedar_names.specs.InternalNames.{bare_internal_name, internal_name_place, IsWholeOf};
 
 use crate::err::{ParseErrors, ReservedNameError};
 use crate::from_normalized_str::FromNormalizedStr;
@@ -9,28 +11,21 @@ use crate::id::{Id, UnreservedId};
 use crate::loc::Loc;
 use crate::name::InternalName;
 use std::alloc::{AllocError, Global};
-use std::cmp::Ordering;
 use std::convert::{AsRef, TryFrom};
 use std::fmt;
-use std::hash::{Hash, Hasher};
 
 /// A name that a user may define: an `InternalName` without the component `__cedar` (Cedar's
 /// file `name.rs`, after RFC 52).
 ///
 /// It compares as an `InternalName` does.
-#[derive(Debug, Drop)]
+#[derive(Debug, PartialEq, Eq, PartialOrd, Ord, Hash, Drop)]
 pub struct Name {
     name: InternalName,
     ghost not_reserved: { has_reserved (bare_internal_name name) ≡ false },
 }
 
 impl Name {
-    ghost use Rattle.std.specs.Prelude.{[], IfOk, IfErr, IsTrue, None, codes, ◌↔◌};
-    ghost use Rattle.std.specs.Option.{option_copied};
-    ghost use Rattle.cedar_names.specs.InternalNames.{bare_internal_name_now, internal_name_place};
-    ghost use Rattle.cedar_names.specs.Grammar.{is_id};
-    ghost use Rattle.cedar_names.specs.Names.{qualified, unqualified};
-    ghost use Rattle.cedar_names.specs.PlainNames.{bare_name, name_place, bare_name_now};
+    ghost use Rattle.cedar_names.specs.PlainNames.{bare_name, name_place};
     ghost use Rattle.cedar_names.specs.Readers.{OnReadError, IsReservedId};
 
     /// The name of one identifier with this text, with no place.
@@ -39,8 +34,11 @@ impl Name {
     pub fn parse_unqualified_name(alloc: Global, s: &str) -> Result<Name, ParseErrors>
         ensures name { IfOk result (λ n. (bare_name n ≡ unqualified s.now) × IsTrue (is_id s.now)) }
         ensures allowed { IfOk result (λ n. has_reserved (bare_name n) ≡ false) }
-        ensures loc { IfOk result (λ n. name_place n ≡ None) }
-        ensures refused { IfErr result (λ e. OnReadError e (codes "Id") (is_id s.now ≡ false) (IsReservedId s.now)) }
+        ensures place { IfOk result (λ n. name_place n ≡ None) }
+        ensures refused {
+            IfErr result (λ e.
+                OnReadError e (codes "Id") (is_id s.now ≡ false) (IsReservedId s.now))
+        }
     {
         let name = InternalName::parse_unqualified_name(alloc, s)?;
         Ok(Name::try_from(name)?)
@@ -49,7 +47,7 @@ impl Name {
     /// The name with no namespace and no place.
     pub fn unqualified_name(id: UnreservedId) -> Name
         ensures name { bare_name result ≡ unqualified id }
-        ensures loc { name_place result ≡ None }
+        ensures place { name_place result ≡ None }
     {
         Name {
             name: InternalName::unqualified_name(Id::from(id), None),
@@ -85,8 +83,13 @@ impl Name {
         alloc: Global,
         namespace: Option<&InternalName>,
     ) -> Result<InternalName, AllocError>
-        ensures name { IfOk result (λ n. bare_internal_name n ≡ qualified (bare_name self.now) (bare_internal_name_now namespace.entry)) }
-        ensures loc { IfOk result (λ n. internal_name_place n ≡ name_place self.now) }
+        ensures name {
+            IfOk result (λ n.
+                bare_internal_name n ≡
+                    qualified (bare_name self.now)
+                        (option_map bare_internal_name (option_copied namespace.entry)))
+        }
+        ensures place { IfOk result (λ n. internal_name_place n ≡ name_place self.now) }
     {
         self.name.qualify_with(alloc, namespace)
     }
@@ -98,8 +101,13 @@ impl Name {
         alloc: Global,
         namespace: Option<&Name>,
     ) -> Result<Name, AllocError>
-        ensures name { IfOk result (λ n. bare_name n ≡ qualified (bare_name self.now) (bare_name_now namespace.entry)) }
-        ensures loc { IfOk result (λ n. name_place n ≡ name_place self.now) }
+        ensures name {
+            IfOk result (λ n.
+                bare_name n ≡
+                    qualified (bare_name self.now)
+                        (option_map bare_name (option_copied namespace.entry)))
+        }
+        ensures place { IfOk result (λ n. name_place n ≡ name_place self.now) }
     {
         let name = self.name.qualify_with_name(alloc, namespace)?;
         Ok(Name { name })
@@ -115,7 +123,7 @@ impl Name {
     /// A copy.
     pub fn clone(&self, alloc: Global) -> Result<Name, AllocError>
         ensures name { IfOk result (λ n. bare_name n ≡ bare_name self.now) }
-        ensures loc { IfOk result (λ n. name_place n ≡ name_place self.now) }
+        ensures place { IfOk result (λ n. name_place n ≡ name_place self.now) }
     {
         let name = self.name.clone(alloc)?;
         Ok(Name { name })
@@ -123,9 +131,6 @@ impl Name {
 }
 
 impl FromNormalizedStr for Name {
-    ghost use Rattle.std.specs.Prelude.{codes};
-    ghost use Rattle.cedar_names.specs.InternalNames.{IsWholeOf};
-    ghost use Rattle.cedar_names.specs.Names.{IsNameOf, IsNameText};
     ghost use Rattle.cedar_names.specs.PlainNames.{bare_name, name_place};
     ghost use Rattle.cedar_names.specs.Readers.{IsReservedName};
 
@@ -135,7 +140,11 @@ impl FromNormalizedStr for Name {
 
     ghost forbids = { IsReservedName };
 
-    ghost reads = { λ s n. IsNameOf s (bare_name n) × (has_reserved (bare_name n) ≡ false) × IsWholeOf s (name_place n) };
+    ghost reads = { λ s n.
+        IsNameOf s (bare_name n)
+            × (has_reserved (bare_name n) ≡ false)
+            × IsWholeOf s (name_place n)
+    };
 
     fn describe_self() -> &'static str {
         "Name"
@@ -163,8 +172,6 @@ impl AsRef<InternalName> for Name {
 }
 
 impl From<UnreservedId> for Name {
-    ghost use Rattle.std.specs.Prelude.{None};
-    ghost use Rattle.cedar_names.specs.Names.{unqualified};
     ghost use Rattle.cedar_names.specs.PlainNames.{bare_name, name_place};
 
     ghost from_gives = { λ id n. (bare_name n ≡ unqualified id) × (name_place n ≡ None) };
@@ -177,12 +184,16 @@ impl From<UnreservedId> for Name {
 impl TryFrom<InternalName> for Name {
     type Error = ReservedNameError;
 
-    ghost use Rattle.std.specs.Prelude.{MatchResult, true};
-    ghost use Rattle.cedar_names.specs.InternalNames.{internal_name_place};
     ghost use Rattle.cedar_names.specs.PlainNames.{internal};
     ghost use Rattle.cedar_names.specs.Readers.{refused_name, refused_place};
 
-    ghost try_from_gives = { λ n r. MatchResult r (λ m. (has_reserved (bare_internal_name n) ≡ false) × (internal m ≡ n)) (λ e. (has_reserved (bare_internal_name n) ≡ true) × (refused_name e ≡ bare_internal_name n) × (refused_place e ≡ internal_name_place n)) };
+    ghost try_from_gives = { λ n r.
+        MatchResult r
+            (λ m. (has_reserved (bare_internal_name n) ≡ false) × (internal m ≡ n))
+            (λ e. (has_reserved (bare_internal_name n) ≡ true)
+                × (refused_name e ≡ bare_internal_name n)
+                × (refused_place e ≡ internal_name_place n))
+    };
 
     fn try_from(name: InternalName) -> Result<Name, ReservedNameError> {
         if name.is_reserved() {
@@ -205,11 +216,13 @@ impl From<Name> for InternalName {
 impl TryFrom<Name> for UnreservedId {
     type Error = ();
 
-    ghost use Rattle.std.specs.Prelude.{MatchResult, [], ◌≢◌};
-    ghost use Rattle.cedar_names.specs.Names.{unqualified};
     ghost use Rattle.cedar_names.specs.PlainNames.{bare_name};
 
-    ghost try_from_gives = { λ n r. MatchResult r (λ id. bare_name n ≡ unqualified id) (λ _. (bare_name n).path ≢ []) };
+    ghost try_from_gives = { λ n r.
+        MatchResult r
+            (λ id. bare_name n ≡ unqualified id)
+            (λ _. (bare_name n).path ≢ [])
+    };
 
     fn try_from(value: Name) -> Result<UnreservedId, ()> {
         let id = Id::try_from(value.name)?;
@@ -217,80 +230,7 @@ impl TryFrom<Name> for UnreservedId {
     }
 }
 
-impl PartialEq for Name {
-    ghost use Rattle.std.specs.Ordering.{on};
-    ghost use Rattle.std.specs.Cmp.{partial_equiv_from_equiv, on_equiv};
-    ghost use Rattle.cedar_names.specs.NameOrder.{name_eq, name_eq_equiv};
-    ghost use Rattle.cedar_names.specs.PlainNames.{bare_name};
-
-    ghost eq = { on bare_name name_eq };
-
-    ghost laws = { partial_equiv_from_equiv (on_equiv bare_name name_eq_equiv) };
-
-    fn eq(&self, other: &Name) -> bool {
-        self.name == other.name
-    }
-}
-
-impl Eq for Name {
-    ghost use Rattle.std.specs.Cmp.{on_equiv};
-    ghost use Rattle.cedar_names.specs.NameOrder.{name_eq_equiv};
-    ghost use Rattle.cedar_names.specs.PlainNames.{bare_name};
-
-    ghost laws = { on_equiv bare_name name_eq_equiv };
-}
-
-impl PartialOrd for Name {
-    ghost use Rattle.std.specs.Ordering.{on, as_partial_cmp};
-    ghost use Rattle.std.specs.Cmp.{on_po};
-    ghost use Rattle.cedar_names.specs.NameOrder.{name_cmp, name_po};
-    ghost use Rattle.cedar_names.specs.PlainNames.{bare_name};
-
-    ghost partial_cmp = { as_partial_cmp (on bare_name name_cmp) };
-
-    ghost laws = { on_po bare_name name_po };
-
-    fn partial_cmp(&self, other: &Name) -> Option<Ordering> {
-        Some(self.cmp(other))
-    }
-}
-
-impl Ord for Name {
-    ghost use Rattle.std.specs.Prelude.{refl};
-    ghost use Rattle.std.specs.Ordering.{on};
-    ghost use Rattle.std.specs.Cmp.{on_total};
-    ghost use Rattle.cedar_names.specs.NameOrder.{name_cmp, name_cmp_total, name_ties};
-    ghost use Rattle.cedar_names.specs.PlainNames.{bare_name};
-
-    ghost cmp = { on bare_name name_cmp };
-
-    ghost total = { on_total bare_name name_cmp_total };
-
-    ghost matches_partial_cmp = { λ _ _. refl };
-
-    ghost matches_eq = { λ m n. name_ties (bare_name m) (bare_name n) };
-
-    fn cmp(&self, other: &Name) -> Ordering {
-        self.name.cmp(&other.name)
-    }
-}
-
-impl Hash for Name {
-    ghost use Rattle.cedar_names.specs.NameOrder.{name_fed, name_fed-alike};
-    ghost use Rattle.cedar_names.specs.PlainNames.{bare_name};
-
-    ghost hash_input = { λ n. name_fed (bare_name n) };
-
-    ghost respects_eq = { λ m n h. name_fed-alike (bare_name m) (bare_name n) h };
-
-    fn hash<H: Hasher>(&self, state: &mut H) {
-        self.name.hash(state);
-    }
-}
-
 impl fmt::Display for Name {
-    ghost use Rattle.std.specs.Prelude.{Some};
-    ghost use Rattle.cedar_names.specs.Names.{name_text};
     ghost use Rattle.cedar_names.specs.PlainNames.{bare_name};
 
     ghost output = { λ n. Some (name_text (bare_name n)) };

@@ -1,10 +1,10 @@
 // Names that are not yet qualified, and what they may stand for.
 ghost use Rattle.std.specs.Prelude.{◌≡◌, ◌↔◌, [], ◌∷◌, All, IsTrue, IfOk, IfErr, MatchResult, None, Some, codes, false, map, position};
-ghost use Rattle.std.specs.Option.{option_copied};
+ghost use Rattle.std.specs.Option.{option_copied, option_map};
 ghost use Rattle.cedar_names.specs.Grammar.{is_id};
 ghost use Rattle.cedar_names.specs.Names.{unqualified, qualified, name_text, IsNameOf, IsNameText};
-ghost use Rattle.cedar_names.specs.InternalNames.{bare_internal_name, internal_name_place, bare_internal_name_now, IsWholeOf};
-ghost use Rattle.cedar_names.specs.PlainNames.{bare_name_now};
+ghost use Rattle.cedar_names.specs.InternalNames.{bare_internal_name, internal_name_place, IsWholeOf};
+ghost use Rattle.cedar_names.specs.PlainNames.{bare_name};
 ghost use Rattle.cedar_names.specs.Readers.{OnReadError, IsNeverReserved};
 ghost use Rattle.cedar_names.specs.RawNames.{written, bare_raw_name, raw_name_place, possible_names, raw_of, possibilities_of, kind_of};
 ghost use Rattle.cedar_names.specs.Resolution.{is_declared, resolved};
@@ -31,7 +31,7 @@ impl RawName {
     /// The raw name of one identifier.
     pub fn new(id: Id, loc: Option<Loc>) -> RawName
         ensures name { bare_raw_name result ≡ unqualified id }
-        ensures loc { raw_name_place result ≡ loc }
+        ensures place { raw_name_place result ≡ loc }
     {
         RawName(InternalName::unqualified_name(id, loc))
     }
@@ -39,7 +39,7 @@ impl RawName {
     /// The raw name of one identifier that is not reserved.
     pub fn new_from_unreserved(id: UnreservedId, loc: Option<Loc>) -> RawName
         ensures name { bare_raw_name result ≡ unqualified id }
-        ensures loc { raw_name_place result ≡ loc }
+        ensures place { raw_name_place result ≡ loc }
     {
         RawName::new(Id::from(id), loc)
     }
@@ -55,9 +55,14 @@ impl RawName {
     ///
     /// Any other text is refused as no `Id`.
     pub fn parse_unqualified_name(alloc: Global, s: &str) -> Result<RawName, ParseErrors>
-        ensures name { IfOk result (λ r. (bare_raw_name r ≡ unqualified s.now) × IsTrue (is_id s.now)) }
-        ensures loc { IfOk result (λ r. raw_name_place r ≡ None) }
-        ensures refused { IfErr result (λ e. OnReadError e (codes "Id") (is_id s.now ≡ false) (IsNeverReserved s.now)) }
+        ensures name {
+            IfOk result (λ r. (bare_raw_name r ≡ unqualified s.now) × IsTrue (is_id s.now))
+        }
+        ensures place { IfOk result (λ r. raw_name_place r ≡ None) }
+        ensures refused {
+            IfErr result (λ e.
+                OnReadError e (codes "Id") (is_id s.now ≡ false) (IsNeverReserved s.now))
+        }
     {
         let name = InternalName::parse_unqualified_name(alloc, s)?;
         Ok(RawName(name))
@@ -66,8 +71,12 @@ impl RawName {
     /// The raw name with this text. Any other text is refused as no internal name.
     pub fn from_normalized_str(alloc: Global, s: &str) -> Result<RawName, ParseErrors>
         ensures name { IfOk result (λ r. IsNameOf s.now (bare_raw_name r)) }
-        ensures loc { IfOk result (λ r. IsWholeOf s.now (raw_name_place r)) }
-        ensures refused { IfErr result (λ e. OnReadError e (codes "internal name") (IsNameText s.now → ⊥) (IsNeverReserved s.now)) }
+        ensures place { IfOk result (λ r. IsWholeOf s.now (raw_name_place r)) }
+        ensures refused {
+            IfErr result (λ e.
+                OnReadError e (codes "internal name") (IsNameText s.now → ⊥)
+                    (IsNeverReserved s.now))
+        }
     {
         let name = InternalName::from_normalized_str(alloc, s)?;
         Ok(RawName(name))
@@ -94,8 +103,13 @@ impl RawName {
         alloc: Global,
         ns: Option<&InternalName>,
     ) -> Result<InternalName, AllocError>
-        ensures name { IfOk result (λ n. bare_internal_name n ≡ qualified (bare_raw_name self.now) (bare_internal_name_now ns.entry)) }
-        ensures loc { IfOk result (λ n. internal_name_place n ≡ raw_name_place self.now) }
+        ensures name {
+            IfOk result (λ n.
+                bare_internal_name n ≡
+                    qualified (bare_raw_name self.now)
+                        (option_map bare_internal_name (option_copied ns.entry)))
+        }
+        ensures place { IfOk result (λ n. internal_name_place n ≡ raw_name_place self.now) }
     {
         self.0.qualify_with(alloc, ns)
     }
@@ -106,8 +120,13 @@ impl RawName {
         alloc: Global,
         ns: Option<&Name>,
     ) -> Result<InternalName, AllocError>
-        ensures name { IfOk result (λ n. bare_internal_name n ≡ qualified (bare_raw_name self.now) (bare_name_now ns.entry)) }
-        ensures loc { IfOk result (λ n. internal_name_place n ≡ raw_name_place self.now) }
+        ensures name {
+            IfOk result (λ n.
+                bare_internal_name n ≡
+                    qualified (bare_raw_name self.now)
+                        (option_map bare_name (option_copied ns.entry)))
+        }
+        ensures place { IfOk result (λ n. internal_name_place n ≡ raw_name_place self.now) }
     {
         self.0.qualify_with_name(alloc, ns)
     }
@@ -121,8 +140,16 @@ impl RawName {
         ns: Option<&InternalName>,
         reference_type: ReferenceType,
     ) -> Result<ConditionalName, AllocError>
-        ensures possibilities { IfOk result (λ c. map bare_internal_name (possibilities_of c) ≡ possible_names (bare_raw_name self) (bare_internal_name_now ns.entry)) }
-        ensures places { IfOk result (λ c. All (λ n. internal_name_place n ≡ raw_name_place self) (possibilities_of c)) }
+        ensures possibilities {
+            IfOk result (λ c.
+                map bare_internal_name (possibilities_of c) ≡
+                    possible_names (bare_raw_name self)
+                        (option_map bare_internal_name (option_copied ns.entry)))
+        }
+        ensures places {
+            IfOk result (λ c.
+                All (λ n. internal_name_place n ≡ raw_name_place self) (possibilities_of c))
+        }
         ensures raw { IfOk result (λ c. raw_of c ≡ self) }
         ensures kind { IfOk result (λ c. kind_of c ≡ reference_type) }
     {
@@ -141,7 +168,7 @@ impl RawName {
     /// A copy.
     pub fn clone(&self, alloc: Global) -> Result<RawName, AllocError>
         ensures name { IfOk result (λ r. bare_raw_name r ≡ bare_raw_name self.now) }
-        ensures loc { IfOk result (λ r. raw_name_place r ≡ raw_name_place self.now) }
+        ensures place { IfOk result (λ r. raw_name_place r ≡ raw_name_place self.now) }
     {
         let name = self.0.clone(alloc)?;
         Ok(RawName(name))
@@ -183,8 +210,14 @@ impl ConditionalName {
         name: InternalName,
         reference_type: ReferenceType,
     ) -> Result<ConditionalName, AllocError>
-        ensures possibilities { IfOk result (λ c. map bare_internal_name (possibilities_of c) ≡ bare_internal_name name ∷ []) }
-        ensures places { IfOk result (λ c. All (λ n. internal_name_place n ≡ internal_name_place name) (possibilities_of c)) }
+        ensures possibilities {
+            IfOk result (λ c.
+                map bare_internal_name (possibilities_of c) ≡ bare_internal_name name ∷ [])
+        }
+        ensures places {
+            IfOk result (λ c.
+                All (λ n. internal_name_place n ≡ internal_name_place name) (possibilities_of c))
+        }
         ensures raw { IfOk result (λ c. written (raw_of c) ≡ name) }
         ensures kind { IfOk result (λ c. kind_of c ≡ reference_type) }
     {
@@ -216,10 +249,17 @@ impl ConditionalName {
     /// An earlier possibility wins over a later one, also as an entity type over a common type.
     /// Where none is declared, the error holds the reference.
     pub fn resolve(mut self, all_defs: &AllDefs) -> Result<InternalName, TypeNotDefinedError>
-        ensures ok { IfOk result (λ n. resolved all_defs.now (kind_of self) (possibilities_of self) ≡ Some n) }
-        ensures refused { IfErr result (λ e. (resolved all_defs.now (kind_of self) (possibilities_of self) ≡ None) × (e.undefined_types ≡ self)) }
+        ensures ok {
+            IfOk result (λ n.
+                resolved all_defs.now (kind_of self) (possibilities_of self) ≡ Some n)
+        }
+        ensures refused {
+            IfErr result (λ e.
+                (resolved all_defs.now (kind_of self) (possibilities_of self) ≡ None)
+                    × (e.undefined_types ≡ self))
+        }
     {
-        match self.first_declared(all_defs) {
+        match self.find_declared(all_defs) {
             None => Err(TypeNotDefinedError {
                 undefined_types: self,
             }),
@@ -229,10 +269,22 @@ impl ConditionalName {
 
     /// A copy.
     pub fn clone(&self, alloc: Global) -> Result<ConditionalName, AllocError>
-        ensures possibilities { IfOk result (λ c. map bare_internal_name (possibilities_of c) ≡ map bare_internal_name (possibilities_of self.now)) }
-        ensures places { IfOk result (λ c. map internal_name_place (possibilities_of c) ≡ map internal_name_place (possibilities_of self.now)) }
-        ensures raw { IfOk result (λ c. bare_raw_name (raw_of c) ≡ bare_raw_name (raw_of self.now)) }
-        ensures raw_place { IfOk result (λ c. raw_name_place (raw_of c) ≡ raw_name_place (raw_of self.now)) }
+        ensures possibilities {
+            IfOk result (λ c.
+                map bare_internal_name (possibilities_of c) ≡
+                    map bare_internal_name (possibilities_of self.now))
+        }
+        ensures places {
+            IfOk result (λ c.
+                map internal_name_place (possibilities_of c) ≡
+                    map internal_name_place (possibilities_of self.now))
+        }
+        ensures raw {
+            IfOk result (λ c. bare_raw_name (raw_of c) ≡ bare_raw_name (raw_of self.now))
+        }
+        ensures raw_place {
+            IfOk result (λ c. raw_name_place (raw_of c) ≡ raw_name_place (raw_of self.now))
+        }
         ensures kind { IfOk result (λ c. kind_of c ≡ kind_of self.now) }
     {
         let possibilities = clone_names(alloc, &self.possibilities)?;
@@ -244,8 +296,12 @@ impl ConditionalName {
         })
     }
 
-    fn first_declared(&self, all_defs: &AllDefs) -> Option<usize>
-        ensures { result ≡ position (λ n. is_declared all_defs.now (kind_of self.now) (bare_internal_name n)) (possibilities_of self.now) }
+    fn find_declared(&self, all_defs: &AllDefs) -> Option<usize>
+        ensures {
+            result ≡
+                position (λ n. is_declared all_defs.now (kind_of self.now) (bare_internal_name n))
+                    (possibilities_of self.now)
+        }
     {
         let kind = self.reference_type;
         self.possibilities
@@ -267,8 +323,13 @@ fn is_declared_as(all_defs: &AllDefs, kind: ReferenceType, name: &InternalName) 
 }
 
 fn clone_names(alloc: Global, names: &[InternalName]) -> Result<Vec<InternalName>, AllocError>
-    ensures names { IfOk result (λ copy. map bare_internal_name copy.items ≡ map bare_internal_name names.now) }
-    ensures places { IfOk result (λ copy. map internal_name_place copy.items ≡ map internal_name_place names.now) }
+    ensures names {
+        IfOk result (λ copy. map bare_internal_name copy.items ≡ map bare_internal_name names.now)
+    }
+    ensures places {
+        IfOk result (λ copy.
+            map internal_name_place copy.items ≡ map internal_name_place names.now)
+    }
 {
     let mut copy = Vec::new(alloc);
     for name in names {

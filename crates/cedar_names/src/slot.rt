@@ -2,7 +2,7 @@
 ghost use Rattle.std.specs.Prelude.{◌≡◌, ◌↔◌, IsTrue, IfOk, Some};
 ghost use Rattle.cedar_names.specs.Slots.{slot_of, slot_text};
 
-use crate::loc::{Loc, clone_loc};
+use crate::loc::Loc;
 use std::alloc::{AllocError, Global};
 use std::fmt;
 
@@ -88,7 +88,7 @@ impl Slot {
     pub fn clone(&self, alloc: Global) -> Result<Slot, AllocError>
         ensures { IfOk result (λ slot. slot ≡ self.now) }
     {
-        let loc = clone_loc(alloc, &self.loc)?;
+        let loc = Loc::clone_option(alloc, self.loc.as_ref())?;
         Ok(Slot { id: self.id, loc })
     }
 }

@@ -1,7 +1,7 @@
 use Rattle.std.proofs.Common.{rules, arith, ◌≡◌, ◌∷◌, ◌++◌, [], ◌∙◌}
 use Rattle.std.specs.String.{string_bytes}
 use Rattle.cedar_names.proofs.Split.{joined-step}
-use Rattle.cedar_names.proofs.name.joined.Goals as goal
+use Rattle.cedar_names.proofs.name.join.Goals as goal
 
 pub loop-id-preserved : goal.loop-id-preserved
 loop-id-preserved c =
