@@ -1,3 +1,4 @@
 pub mod Split
 pub mod LookUps
 pub mod SameReference
+pub mod Clones
