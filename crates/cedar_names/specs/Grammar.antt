@@ -1,4 +1,5 @@
--- The texts of identifiers, as lists of bytes (Cedar's files `id.rs` and `name.rs`, and RFC 52 for `__cedar`).
+-- The texts of identifiers, as lists of bytes (Cedar's files `id.rs` and `name.rs`, and RFC 52 for
+-- `__cedar`).
 use Rattle.std.specs.Prelude.{ℕ, List, [], ◌∷◌, Bool, false, not, ◌&&◌, ◌||◌, ◌==◌, codes}
 use Rattle.std.specs.List.{list_all}
 use Rattle.std.specs.Str.{bytes_eq}
@@ -19,7 +20,10 @@ is_any_id (b ∷ bs) = is_start b && list_all is_part bs
 
 -- the nine words that are no identifiers (`name.rs`)
 abbrev pub is_keyword : List ℕ → Bool
-is_keyword s = bytes_eq s (codes "true") || bytes_eq s (codes "false") || bytes_eq s (codes "if") || bytes_eq s (codes "then") || bytes_eq s (codes "else") || bytes_eq s (codes "in") || bytes_eq s (codes "is") || bytes_eq s (codes "like") || bytes_eq s (codes "has")
+is_keyword s =
+    bytes_eq s (codes "true") || bytes_eq s (codes "false") || bytes_eq s (codes "if")
+    || bytes_eq s (codes "then") || bytes_eq s (codes "else") || bytes_eq s (codes "in")
+    || bytes_eq s (codes "is") || bytes_eq s (codes "like") || bytes_eq s (codes "has")
 
 -- an identifier that is no keyword: `Id` of `id.rs`
 abbrev pub is_id : List ℕ → Bool

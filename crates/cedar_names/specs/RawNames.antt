@@ -20,13 +20,14 @@ bare_raw_name r = bare_internal_name (written r)
 abbrev pub raw_name_place : RawName → Option Place
 raw_name_place r = internal_name_place (written r)
 
--- the possibilities of a path and a basename in a namespace: within it and as written, or as written where the path is not empty
+-- the possibilities of a path and a basename in a namespace: within it and as written, or as
+-- written alone where the path is not empty
 abbrev pub possible_within : List (List ℕ) → List ℕ → BareName → List BareName
 possible_within [] b ns = within ns b ∷ unqualified b ∷ []
 possible_within (p ∷ ps) b ns = record { path = p ∷ ps; basename = b } ∷ []
 
--- the names that a raw name may stand for, the first before the others: as written alone where no namespace is given
--- (`conditionally_qualify_with` in `raw_name.rs`)
+-- the names that a raw name may stand for, the first before the others: as written alone where no
+-- namespace is given (`conditionally_qualify_with` in `raw_name.rs`)
 abbrev pub possible_names : BareName → Option BareName → List BareName
 possible_names n None = n ∷ []
 possible_names n (Some ns) = possible_within n.path n.basename ns
@@ -43,8 +44,10 @@ possibilities_of c = c.possibilities.items
 abbrev pub kind_of : ConditionalName → ReferenceType
 kind_of c = c.reference_type
 
--- two references have the same raw name, possibilities in order and kind (`ConditionalName` in `raw_name.rs`)
+-- two references have the same raw name, possibilities in order and kind (`ConditionalName` in
+-- `raw_name.rs`)
 pub record IsSameReference (c d : ConditionalName) : Type 0 where
   pub raw : bare_raw_name (raw_of c) ≡ bare_raw_name (raw_of d)
-  pub possibilities : map bare_internal_name (possibilities_of c) ≡ map bare_internal_name (possibilities_of d)
+  pub possibilities :
+      map bare_internal_name (possibilities_of c) ≡ map bare_internal_name (possibilities_of d)
   pub kind : kind_of c ≡ kind_of d

@@ -1,4 +1,5 @@
--- Which names are declared, and what a list of possibilities resolves to (Cedar's file `raw_name.rs`, after RFC 24).
+-- Which names are declared, and what a list of possibilities resolves to (Cedar's file
+-- `raw_name.rs`, after RFC 24).
 use Rattle.std.specs.Prelude.{List, Bool, ◌||◌, Option, find}
 use Rattle.std.specs.List.{list_any}
 use Rattle.cedar_names.specs.declared.name.InternalName.{InternalName}
@@ -27,6 +28,7 @@ is_declared d Common n = is_common d n
 is_declared d Entity n = is_entity d n
 is_declared d CommonOrEntity n = is_common d n || is_entity d n
 
--- the first possibility that is declared: an earlier one wins, also as an entity type over a later common type
+-- the first possibility that is declared: an earlier one wins, also as an entity type over a later
+-- common type
 abbrev pub resolved : AllDefs → ReferenceType → List InternalName → Option InternalName
 resolved d kind possibilities = find (λ n. is_declared d kind (bare_internal_name n)) possibilities

@@ -183,10 +183,8 @@ impl Hash for Text {
 // The identifier with this text, or an error with this word.
 pub(crate) fn read_id(alloc: Global, s: &str, kind: &'static str) -> Result<Id, ParseErrors>
     ensures ok { IfOk result (λ id. (id ≡ s.now) × IsTrue (is_id s.now)) }
-    ensures refused {
-        IfErr result (λ e.
-            OnReadError e kind.now (is_id s.now ≡ false) (IsNeverReserved s.now))
-    }
+    ensures refused { IfErr result (λ e.
+        OnReadError e kind.now (is_id s.now ≡ false) (IsNeverReserved s.now)) }
 {
     if !is_id_text(s) {
         return Err(ParseErrors::NotNormalized { kind });
@@ -365,11 +363,10 @@ impl TryFrom<Id> for UnreservedId {
 
     ghost try_from_gives = { λ id r.
         MatchResult r
-            (λ u. (is_reserved id ≡ false) × (u ≡ id))
-            (λ e. (is_reserved id ≡ true)
-                × (refused_name e ≡ unqualified id)
-                × (refused_place e ≡ None))
-    };
+        (λ u. (is_reserved id ≡ false) × (u ≡ id))
+        (λ e. (is_reserved id ≡ true)
+        × (refused_name e ≡ unqualified id)
+        × (refused_place e ≡ None)) };
 
     fn try_from(value: Id) -> Result<UnreservedId, ReservedNameError> {
         if value.is_reserved() {

@@ -1,5 +1,5 @@
 // Names with namespaces.
-ghost use Rattle.std.specs.Prelude.{◌≡◌, ◌≢◌, ℕ, [], MatchResult, Some, None, refl, IfOk, IfErr, codes, false, IsTrue, ◌↔◌, ◌++◌};
+ghost use Rattle.std.specs.Prelude.{◌≡◌, ◌≢◌, ℕ, [], MatchResult, Some, None, refl, IfOk, IfErr, codes, false, IsTrue, ◌↔◌, ◌∷◌};
 ghost use Rattle.std.specs.List.{list_any};
 ghost use Rattle.std.specs.Option.{option_copied, option_map};
 ghost use Rattle.std.specs.Slice.Iter.{iter_rest};
@@ -7,7 +7,7 @@ ghost use Rattle.std.specs.String.{string_bytes};
 ghost use Rattle.std.specs.Ordering.{on, as_partial_cmp};
 ghost use Rattle.std.specs.Cmp.{partial_equiv_from_equiv, on_equiv, on_po, on_total};
 ghost use Rattle.cedar_names.specs.Grammar.{is_id, is_reserved};
-ghost use Rattle.cedar_names.specs.Names.{has_reserved, qualified, unqualified, within, joined_text, further_text, name_text, IsNameOf, IsNameText};
+ghost use Rattle.cedar_names.specs.Names.{has_reserved, qualified, unqualified, within, joined_text, name_text, IsNameOf, IsNameText};
 ghost use Rattle.cedar_names.specs.NameOrder.{name_eq, name_eq_equiv, name_cmp, name_cmp_total, name_ties, name_po, name_fed, name_fed-alike};
 ghost use Rattle.cedar_names.specs.InternalNames.{bare_internal_name, internal_name_place, IsWholeOf};
 ghost use Rattle.cedar_names.specs.PlainNames.{bare_name};
@@ -43,7 +43,7 @@ fn clone_path(alloc: Global, path: &[Id]) -> Result<Vec<Id>, AllocError>
 
 // The identifiers joined by `::`.
 fn join(alloc: Global, first: &Id, further: &[Id]) -> Result<String, AllocError>
-    ensures { IfOk result (λ text. string_bytes text ≡ first.now ++ further_text further.now) }
+    ensures { IfOk result (λ text. string_bytes text ≡ joined_text (first.now ∷ further.now)) }
 {
     let mut text = String::from_str(alloc, first.as_str())?;
     for id in further {
@@ -69,9 +69,8 @@ pub struct InternalName {
 impl InternalName {
     /// The name with this basename, path and place.
     pub fn new(basename: Id, path: Vec<Id>, loc: Option<Loc>) -> InternalName
-        ensures name {
-            bare_internal_name result ≡ record { path = path.items; basename = basename }
-        }
+        ensures name { bare_internal_name result ≡
+            record { path = path.items; basename = basename } }
         ensures place { internal_name_place result ≡ loc }
     {
         let path = if path.is_empty() { None } else { Some(path) };
@@ -106,15 +105,11 @@ impl InternalName {
     ///
     /// Any other text is refused as no `Id`.
     pub fn parse_unqualified_name(alloc: Global, s: &str) -> Result<InternalName, ParseErrors>
-        ensures name {
-            IfOk result (λ n.
-                (bare_internal_name n ≡ unqualified s.now) × IsTrue (is_id s.now))
-        }
+        ensures name { IfOk result (λ n.
+            (bare_internal_name n ≡ unqualified s.now) × IsTrue (is_id s.now)) }
         ensures place { IfOk result (λ n. internal_name_place n ≡ None) }
-        ensures refused {
-            IfErr result (λ e.
-                OnReadError e (codes "Id") (is_id s.now ≡ false) (IsNeverReserved s.now))
-        }
+        ensures refused { IfErr result (λ e.
+            OnReadError e (codes "Id") (is_id s.now ≡ false) (IsNeverReserved s.now)) }
     {
         let id = read_id(alloc, s, "Id")?;
         Ok(InternalName::unqualified_name(id, None))
@@ -127,10 +122,8 @@ impl InternalName {
         namespace: InternalName,
         loc: Option<Loc>,
     ) -> Result<InternalName, AllocError>
-        ensures name {
-            IfOk result (λ n.
-                bare_internal_name n ≡ within (bare_internal_name namespace) basename)
-        }
+        ensures name { IfOk result (λ n.
+            bare_internal_name n ≡ within (bare_internal_name namespace) basename) }
         ensures place { IfOk result (λ n. internal_name_place n ≡ loc) }
     {
         let InternalName {
@@ -166,10 +159,8 @@ impl InternalName {
 
     /// The text of its namespace: `foo::bar` for `foo::bar::baz`, and no text for `baz`.
     pub fn namespace(&self, alloc: Global) -> Result<String, AllocError>
-        ensures {
-            IfOk result (λ text.
-                string_bytes text ≡ joined_text (bare_internal_name self.now).path)
-        }
+        ensures { IfOk result (λ text.
+            string_bytes text ≡ joined_text (bare_internal_name self.now).path) }
     {
         match self.path().split_first() {
             None => Ok(String::new(alloc)),
@@ -186,12 +177,10 @@ impl InternalName {
         alloc: Global,
         namespace: Option<&InternalName>,
     ) -> Result<InternalName, AllocError>
-        ensures name {
-            IfOk result (λ n.
-                bare_internal_name n ≡
-                    qualified (bare_internal_name self.now)
-                        (option_map bare_internal_name (option_copied namespace.entry)))
-        }
+        ensures name { IfOk result (λ n.
+            bare_internal_name n ≡
+            qualified (bare_internal_name self.now)
+            (option_map bare_internal_name (option_copied namespace.entry))) }
         ensures place { IfOk result (λ n. internal_name_place n ≡ internal_name_place self.now) }
     {
         match namespace {
@@ -212,12 +201,10 @@ impl InternalName {
         alloc: Global,
         namespace: Option<&Name>,
     ) -> Result<InternalName, AllocError>
-        ensures name {
-            IfOk result (λ n.
-                bare_internal_name n ≡
-                    qualified (bare_internal_name self.now)
-                        (option_map bare_name (option_copied namespace.entry)))
-        }
+        ensures name { IfOk result (λ n.
+            bare_internal_name n ≡
+            qualified (bare_internal_name self.now)
+            (option_map bare_name (option_copied namespace.entry))) }
         ensures place { IfOk result (λ n. internal_name_place n ≡ internal_name_place self.now) }
     {
         match namespace {
@@ -269,8 +256,7 @@ impl FromNormalizedStr for InternalName {
     ghost forbids = { IsNeverReserved };
 
     ghost reads = { λ s n.
-        IsNameOf s (bare_internal_name n) × IsWholeOf s (internal_name_place n)
-    };
+        IsNameOf s (bare_internal_name n) × IsWholeOf s (internal_name_place n) };
 
     fn describe_self() -> &'static str {
         "internal name"
@@ -292,8 +278,7 @@ impl FromNormalizedStr for InternalName {
 
 impl From<Id> for InternalName {
     ghost from_gives = { λ id n.
-        (bare_internal_name n ≡ unqualified id) × (internal_name_place n ≡ None)
-    };
+        (bare_internal_name n ≡ unqualified id) × (internal_name_place n ≡ None) };
 
     fn from(value: Id) -> InternalName {
         InternalName::unqualified_name(value, None)
@@ -305,9 +290,8 @@ impl TryFrom<InternalName> for Id {
 
     ghost try_from_gives = { λ n r.
         MatchResult r
-            (λ id. bare_internal_name n ≡ unqualified id)
-            (λ _. (bare_internal_name n).path ≢ [])
-    };
+        (λ id. bare_internal_name n ≡ unqualified id)
+        (λ _. (bare_internal_name n).path ≢ []) };
 
     fn try_from(value: InternalName) -> Result<Id, ()> {
         if value.is_unqualified() {

@@ -41,10 +41,8 @@ impl NonEmpty<RcStr> {
     /// A copy, which shares the texts.
     #[tactic(auto, using(crate::proofs::Clones::map_clones))]
     pub fn clone(&self, _alloc: Global) -> Result<NonEmpty<RcStr>, AllocError>
-        ensures {
-            IfOk result (λ copy.
-                map rc_str_bytes (list_of copy) ≡ map rc_str_bytes (list_of self.now))
-        }
+        ensures { IfOk result (λ copy.
+            map rc_str_bytes (list_of copy) ≡ map rc_str_bytes (list_of self.now)) }
     {
         let head = self.head.clone()?;
         let tail = self.tail.clone()?;

@@ -35,10 +35,8 @@ impl Name {
         ensures name { IfOk result (λ n. (bare_name n ≡ unqualified s.now) × IsTrue (is_id s.now)) }
         ensures allowed { IfOk result (λ n. has_reserved (bare_name n) ≡ false) }
         ensures place { IfOk result (λ n. name_place n ≡ None) }
-        ensures refused {
-            IfErr result (λ e.
-                OnReadError e (codes "Id") (is_id s.now ≡ false) (IsReservedId s.now))
-        }
+        ensures refused { IfErr result (λ e.
+            OnReadError e (codes "Id") (is_id s.now ≡ false) (IsReservedId s.now)) }
     {
         let name = InternalName::parse_unqualified_name(alloc, s)?;
         Ok(Name::try_from(name)?)
@@ -83,12 +81,10 @@ impl Name {
         alloc: Global,
         namespace: Option<&InternalName>,
     ) -> Result<InternalName, AllocError>
-        ensures name {
-            IfOk result (λ n.
-                bare_internal_name n ≡
-                    qualified (bare_name self.now)
-                        (option_map bare_internal_name (option_copied namespace.entry)))
-        }
+        ensures name { IfOk result (λ n.
+            bare_internal_name n ≡
+            qualified (bare_name self.now)
+            (option_map bare_internal_name (option_copied namespace.entry))) }
         ensures place { IfOk result (λ n. internal_name_place n ≡ name_place self.now) }
     {
         self.name.qualify_with(alloc, namespace)
@@ -101,12 +97,10 @@ impl Name {
         alloc: Global,
         namespace: Option<&Name>,
     ) -> Result<Name, AllocError>
-        ensures name {
-            IfOk result (λ n.
-                bare_name n ≡
-                    qualified (bare_name self.now)
-                        (option_map bare_name (option_copied namespace.entry)))
-        }
+        ensures name { IfOk result (λ n.
+            bare_name n ≡
+            qualified (bare_name self.now)
+            (option_map bare_name (option_copied namespace.entry))) }
         ensures place { IfOk result (λ n. name_place n ≡ name_place self.now) }
     {
         let name = self.name.qualify_with_name(alloc, namespace)?;
@@ -142,9 +136,8 @@ impl FromNormalizedStr for Name {
 
     ghost reads = { λ s n.
         IsNameOf s (bare_name n)
-            × (has_reserved (bare_name n) ≡ false)
-            × IsWholeOf s (name_place n)
-    };
+        × (has_reserved (bare_name n) ≡ false)
+        × IsWholeOf s (name_place n) };
 
     fn describe_self() -> &'static str {
         "Name"
@@ -189,11 +182,10 @@ impl TryFrom<InternalName> for Name {
 
     ghost try_from_gives = { λ n r.
         MatchResult r
-            (λ m. (has_reserved (bare_internal_name n) ≡ false) × (internal m ≡ n))
-            (λ e. (has_reserved (bare_internal_name n) ≡ true)
-                × (refused_name e ≡ bare_internal_name n)
-                × (refused_place e ≡ internal_name_place n))
-    };
+        (λ m. (has_reserved (bare_internal_name n) ≡ false) × (internal m ≡ n))
+        (λ e. (has_reserved (bare_internal_name n) ≡ true)
+        × (refused_name e ≡ bare_internal_name n)
+        × (refused_place e ≡ internal_name_place n)) };
 
     fn try_from(name: InternalName) -> Result<Name, ReservedNameError> {
         if name.is_reserved() {
@@ -220,9 +212,8 @@ impl TryFrom<Name> for UnreservedId {
 
     ghost try_from_gives = { λ n r.
         MatchResult r
-            (λ id. bare_name n ≡ unqualified id)
-            (λ _. (bare_name n).path ≢ [])
-    };
+        (λ id. bare_name n ≡ unqualified id)
+        (λ _. (bare_name n).path ≢ []) };
 
     fn try_from(value: Name) -> Result<UnreservedId, ()> {
         let id = Id::try_from(value.name)?;

@@ -55,14 +55,11 @@ impl RawName {
     ///
     /// Any other text is refused as no `Id`.
     pub fn parse_unqualified_name(alloc: Global, s: &str) -> Result<RawName, ParseErrors>
-        ensures name {
-            IfOk result (λ r. (bare_raw_name r ≡ unqualified s.now) × IsTrue (is_id s.now))
-        }
+        ensures name { IfOk result (λ r.
+            (bare_raw_name r ≡ unqualified s.now) × IsTrue (is_id s.now)) }
         ensures place { IfOk result (λ r. raw_name_place r ≡ None) }
-        ensures refused {
-            IfErr result (λ e.
-                OnReadError e (codes "Id") (is_id s.now ≡ false) (IsNeverReserved s.now))
-        }
+        ensures refused { IfErr result (λ e.
+            OnReadError e (codes "Id") (is_id s.now ≡ false) (IsNeverReserved s.now)) }
     {
         let name = InternalName::parse_unqualified_name(alloc, s)?;
         Ok(RawName(name))
@@ -72,11 +69,9 @@ impl RawName {
     pub fn from_normalized_str(alloc: Global, s: &str) -> Result<RawName, ParseErrors>
         ensures name { IfOk result (λ r. IsNameOf s.now (bare_raw_name r)) }
         ensures place { IfOk result (λ r. IsWholeOf s.now (raw_name_place r)) }
-        ensures refused {
-            IfErr result (λ e.
-                OnReadError e (codes "internal name") (IsNameText s.now → ⊥)
-                    (IsNeverReserved s.now))
-        }
+        ensures refused { IfErr result (λ e.
+            OnReadError e (codes "internal name") (IsNameText s.now → ⊥)
+            (IsNeverReserved s.now)) }
     {
         let name = InternalName::from_normalized_str(alloc, s)?;
         Ok(RawName(name))
@@ -103,12 +98,10 @@ impl RawName {
         alloc: Global,
         ns: Option<&InternalName>,
     ) -> Result<InternalName, AllocError>
-        ensures name {
-            IfOk result (λ n.
-                bare_internal_name n ≡
-                    qualified (bare_raw_name self.now)
-                        (option_map bare_internal_name (option_copied ns.entry)))
-        }
+        ensures name { IfOk result (λ n.
+            bare_internal_name n ≡
+            qualified (bare_raw_name self.now)
+            (option_map bare_internal_name (option_copied ns.entry))) }
         ensures place { IfOk result (λ n. internal_name_place n ≡ raw_name_place self.now) }
     {
         self.0.qualify_with(alloc, ns)
@@ -120,12 +113,10 @@ impl RawName {
         alloc: Global,
         ns: Option<&Name>,
     ) -> Result<InternalName, AllocError>
-        ensures name {
-            IfOk result (λ n.
-                bare_internal_name n ≡
-                    qualified (bare_raw_name self.now)
-                        (option_map bare_name (option_copied ns.entry)))
-        }
+        ensures name { IfOk result (λ n.
+            bare_internal_name n ≡
+            qualified (bare_raw_name self.now)
+            (option_map bare_name (option_copied ns.entry))) }
         ensures place { IfOk result (λ n. internal_name_place n ≡ raw_name_place self.now) }
     {
         self.0.qualify_with_name(alloc, ns)
@@ -140,16 +131,12 @@ impl RawName {
         ns: Option<&InternalName>,
         reference_type: ReferenceType,
     ) -> Result<ConditionalName, AllocError>
-        ensures possibilities {
-            IfOk result (λ c.
-                map bare_internal_name (possibilities_of c) ≡
-                    possible_names (bare_raw_name self)
-                        (option_map bare_internal_name (option_copied ns.entry)))
-        }
-        ensures places {
-            IfOk result (λ c.
-                All (λ n. internal_name_place n ≡ raw_name_place self) (possibilities_of c))
-        }
+        ensures possibilities { IfOk result (λ c.
+            map bare_internal_name (possibilities_of c) ≡
+            possible_names (bare_raw_name self)
+            (option_map bare_internal_name (option_copied ns.entry))) }
+        ensures places { IfOk result (λ c.
+            All (λ n. internal_name_place n ≡ raw_name_place self) (possibilities_of c)) }
         ensures raw { IfOk result (λ c. raw_of c ≡ self) }
         ensures kind { IfOk result (λ c. kind_of c ≡ reference_type) }
     {
@@ -210,14 +197,10 @@ impl ConditionalName {
         name: InternalName,
         reference_type: ReferenceType,
     ) -> Result<ConditionalName, AllocError>
-        ensures possibilities {
-            IfOk result (λ c.
-                map bare_internal_name (possibilities_of c) ≡ bare_internal_name name ∷ [])
-        }
-        ensures places {
-            IfOk result (λ c.
-                All (λ n. internal_name_place n ≡ internal_name_place name) (possibilities_of c))
-        }
+        ensures possibilities { IfOk result (λ c.
+            map bare_internal_name (possibilities_of c) ≡ bare_internal_name name ∷ []) }
+        ensures places { IfOk result (λ c.
+            All (λ n. internal_name_place n ≡ internal_name_place name) (possibilities_of c)) }
         ensures raw { IfOk result (λ c. written (raw_of c) ≡ name) }
         ensures kind { IfOk result (λ c. kind_of c ≡ reference_type) }
     {
@@ -249,15 +232,11 @@ impl ConditionalName {
     /// An earlier possibility wins over a later one, also as an entity type over a common type.
     /// Where none is declared, the error holds the reference.
     pub fn resolve(mut self, all_defs: &AllDefs) -> Result<InternalName, TypeNotDefinedError>
-        ensures ok {
-            IfOk result (λ n.
-                resolved all_defs.now (kind_of self) (possibilities_of self) ≡ Some n)
-        }
-        ensures refused {
-            IfErr result (λ e.
-                (resolved all_defs.now (kind_of self) (possibilities_of self) ≡ None)
-                    × (e.undefined_types ≡ self))
-        }
+        ensures ok { IfOk result (λ n.
+            resolved all_defs.now (kind_of self) (possibilities_of self) ≡ Some n) }
+        ensures refused { IfErr result (λ e.
+            (resolved all_defs.now (kind_of self) (possibilities_of self) ≡ None)
+            × (e.undefined_types ≡ self)) }
     {
         match self.find_declared(all_defs) {
             None => Err(TypeNotDefinedError {
@@ -269,22 +248,16 @@ impl ConditionalName {
 
     /// A copy.
     pub fn clone(&self, alloc: Global) -> Result<ConditionalName, AllocError>
-        ensures possibilities {
-            IfOk result (λ c.
-                map bare_internal_name (possibilities_of c) ≡
-                    map bare_internal_name (possibilities_of self.now))
-        }
-        ensures places {
-            IfOk result (λ c.
-                map internal_name_place (possibilities_of c) ≡
-                    map internal_name_place (possibilities_of self.now))
-        }
-        ensures raw {
-            IfOk result (λ c. bare_raw_name (raw_of c) ≡ bare_raw_name (raw_of self.now))
-        }
-        ensures raw_place {
-            IfOk result (λ c. raw_name_place (raw_of c) ≡ raw_name_place (raw_of self.now))
-        }
+        ensures possibilities { IfOk result (λ c.
+            map bare_internal_name (possibilities_of c) ≡
+            map bare_internal_name (possibilities_of self.now)) }
+        ensures places { IfOk result (λ c.
+            map internal_name_place (possibilities_of c) ≡
+            map internal_name_place (possibilities_of self.now)) }
+        ensures raw { IfOk result (λ c.
+            bare_raw_name (raw_of c) ≡ bare_raw_name (raw_of self.now)) }
+        ensures raw_place { IfOk result (λ c.
+            raw_name_place (raw_of c) ≡ raw_name_place (raw_of self.now)) }
         ensures kind { IfOk result (λ c. kind_of c ≡ kind_of self.now) }
     {
         let possibilities = clone_names(alloc, &self.possibilities)?;
@@ -297,11 +270,9 @@ impl ConditionalName {
     }
 
     fn find_declared(&self, all_defs: &AllDefs) -> Option<usize>
-        ensures {
-            result ≡
-                position (λ n. is_declared all_defs.now (kind_of self.now) (bare_internal_name n))
-                    (possibilities_of self.now)
-        }
+        ensures { result ≡
+            position (λ n. is_declared all_defs.now (kind_of self.now) (bare_internal_name n))
+            (possibilities_of self.now) }
     {
         let kind = self.reference_type;
         self.possibilities
@@ -323,13 +294,10 @@ fn is_declared_as(all_defs: &AllDefs, kind: ReferenceType, name: &InternalName) 
 }
 
 fn clone_names(alloc: Global, names: &[InternalName]) -> Result<Vec<InternalName>, AllocError>
-    ensures names {
-        IfOk result (λ copy. map bare_internal_name copy.items ≡ map bare_internal_name names.now)
-    }
-    ensures places {
-        IfOk result (λ copy.
-            map internal_name_place copy.items ≡ map internal_name_place names.now)
-    }
+    ensures names { IfOk result (λ copy.
+        map bare_internal_name copy.items ≡ map bare_internal_name names.now) }
+    ensures places { IfOk result (λ copy.
+        map internal_name_place copy.items ≡ map internal_name_place names.now) }
 {
     let mut copy = Vec::new(alloc);
     for name in names {

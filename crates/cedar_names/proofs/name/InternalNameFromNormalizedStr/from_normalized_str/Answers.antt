@@ -1,7 +1,8 @@
-use Rattle.std.proofs.Common.{rules, ◌≡◌, ◌∷◌, ◌++◌, [], ap, ◌∙◌}
-use Rattle.cedar_names.proofs.Split.{IsNameText-later, part_refused, last_refused, path_text-more, split_parts, all-push, OnReadError-part}
-use Rattle.cedar_names.specs.Names.{path_text}
+use Rattle.std.proofs.Common.{rules, ◌≡◌, ◌∷◌, ◌++◌, [], ◌∙◌}
+use Rattle.std.proofs.lemmas.Bool.{and_from}
+use Rattle.std.proofs.lemmas.List.Folds.{list_all-append}
 use Rattle.std.proofs.lemmas.Result.{err_from_is_err_and}
+use Rattle.cedar_names.proofs.Split.{IsNameText-later, part_refused, last_refused, path_text-more, split_parts, OnReadError-part}
 use Rattle.cedar_names.proofs.name.InternalNameFromNormalizedStr.from_normalized_str.Goals as goal
 
 pub returns-in_err-read_id-clause-refused : goal.returns-in_err-read_id-clause-refused
@@ -16,8 +17,8 @@ parts-preserved c =
     let items : c.push.new.self.items ≡ c.parts.path.items ++ (c.in-Some.first.now ∷ []) = search rules in
     record {
       rest_utf8 = search rules;
-      made = ap (λ x. path_text x ++ c.in-Some.later.now) items ∙ (path_text-more c.parts.path.items c.in-Some.first.now c.parts.rest.now c.in-Some.later.now r.0 ∙ i.made);
-      ids = search (rules, all-push);
+      made = rw items (path_text-more _ _ _ _ r.0 ∙ i.made);
+      ids = rw (items, list_all-append) (and_from _ _ i.ids (search rules));
       still = λ n. IsNameText-later c.parts.rest.now c.in-Some.first.now c.in-Some.later.now c.in-Some.ensures.cases (i.still n);
     }
 
