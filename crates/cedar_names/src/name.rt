@@ -188,7 +188,7 @@ impl InternalName {
                 let mut path = clone_path(alloc, namespace.path())?;
                 path.push(namespace.basename.clone(alloc)?)?;
                 let basename = self.basename.clone(alloc)?;
-                let loc = Loc::clone_option(alloc, self.loc.as_ref())?;
+                let loc = Loc::clone_option(alloc, self.loc())?;
                 Ok(InternalName::new(basename, path, loc))
             }
             _ => self.clone(alloc),
@@ -234,7 +234,7 @@ impl InternalName {
     {
         let basename = self.basename.clone(alloc)?;
         let path = clone_path(alloc, self.path())?;
-        let loc = Loc::clone_option(alloc, self.loc.as_ref())?;
+        let loc = Loc::clone_option(alloc, self.loc())?;
         Ok(InternalName::new(basename, path, loc))
     }
 

@@ -44,9 +44,10 @@ impl NonEmpty<RcStr> {
         ensures { IfOk result (λ copy.
             map rc_str_bytes (list_of copy) ≡ map rc_str_bytes (list_of self.now)) }
     {
-        let head = self.head.clone()?;
-        let tail = self.tail.clone()?;
-        Ok(NonEmpty { head, tail })
+        Ok(NonEmpty {
+            head: self.head.clone()?,
+            tail: self.tail.clone()?,
+        })
     }
 }
 
