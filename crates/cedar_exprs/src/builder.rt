@@ -17,7 +17,7 @@ ghost use Rattle.cedar_exprs.specs.RecordPairs.{record_fields, record_data};
 ghost use Rattle.cedar_builders.specs.Answers.{never, IfBuilt};
 ghost use Rattle.cedar_exprs.specs.BuiltNode.{builder_place, builder_data, IsMadeBy};
 
-use crate::expr::{Expr, ExprKind, clone_loc};
+use crate::expr::{Expr, ExprKind};
 use cedar_builders::keys::collect_distinct;
 use cedar_builders::{
     BuildFault, ExprBuilderInfallibleBuild, ExpressionConstructionError, LawfulExprBuilder,
@@ -51,7 +51,7 @@ impl<T: Default + Copy> ExprBuilder<T> {
         ensures of_node { IfOk result (λ b. builder_data b ≡ builder_data self) }
     {
         Ok(ExprBuilder {
-            source_loc: clone_loc(alloc, expr.source_loc())?,
+            source_loc: Loc::clone_option(alloc, expr.source_loc())?,
             data: self.data,
         })
     }
@@ -62,7 +62,7 @@ impl<T: Default + Copy> ExprBuilder<T> {
         ensures of_node { IfOk result (λ b. builder_data b ≡ builder_data self.now) }
     {
         Ok(ExprBuilder {
-            source_loc: clone_loc(alloc, self.source_loc.as_ref())?,
+            source_loc: Loc::clone_option(alloc, self.source_loc.as_ref())?,
             data: self.data,
         })
     }

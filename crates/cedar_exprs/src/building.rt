@@ -14,7 +14,7 @@ ghost use Rattle.cedar_builders.specs.Answers.{Gives, GivesAll, GivesPairs};
 ghost use Rattle.cedar_builders.specs.Keys.{keys_of, IsRising};
 ghost use Rattle.cedar_exprs.specs.BareExpr.{bare_expr, bare_exprs, bare_fields, further};
 
-use crate::expr::{Expr, ExprKind, clone_loc};
+use crate::expr::{Expr, ExprKind};
 use cedar_builders::{
     BuildFault, ExprBuilder, ExprBuilderInfallibleBuild, ExpressionConstructionError,
 };
@@ -55,7 +55,7 @@ impl<T> Expr<T> {
 fn builder_at<B: ExprBuilder>(alloc: Global, loc: Option<&Loc>) -> Result<B, AllocError>
     ensures { IfOk result B.is_new }
 {
-    Ok(B::new().with_maybe_source_loc(clone_loc(alloc, loc)?))
+    Ok(B::new().with_maybe_source_loc(Loc::clone_option(alloc, loc)?))
 }
 
 #[cycle(built)]

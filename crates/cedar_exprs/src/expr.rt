@@ -268,7 +268,7 @@ impl<T: Copy> Expr<T> {
     {
         Ok(Expr::new(
             self.expr_kind.clone(alloc)?,
-            clone_loc(alloc, self.source_loc())?,
+            Loc::clone_option(alloc, self.source_loc())?,
             self.data,
         ))
     }
@@ -281,16 +281,6 @@ fn literal_bool(literal: &Literal) -> Option<bool>
     match literal {
         Literal::Bool(b) => Some(*b),
         _ => None,
-    }
-}
-
-// A copy of a place, if there is one.
-pub(crate) fn clone_loc(alloc: Global, loc: Option<&Loc>) -> Result<Option<Loc>, AllocError>
-    ensures { IfOk result (λ l. l ≡ option_copied loc.entry) }
-{
-    match loc {
-        None => Ok(None),
-        Some(loc) => Ok(Some(loc.clone(alloc)?)),
     }
 }
 

@@ -7,7 +7,7 @@ ghost use Rattle.cedar_builders.specs.BareExpr.{BareExpr, Lit};
 ghost use Rattle.cedar_builders.specs.Restricted.{IsRestricted};
 ghost use Rattle.cedar_exprs.specs.BareExpr.{bare_expr};
 
-use crate::expr::{Expr, clone_loc};
+use crate::expr::Expr;
 use crate::not_restricted::first_not_restricted;
 use cedar_names::Loc;
 use cedar_terms::{Literal, StaticallyTyped, Type};
@@ -35,7 +35,7 @@ impl RestrictedExpr {
     {
         match first_not_restricted(&expr) {
             Some(node) => Err(RestrictedExprError::NotRestricted {
-                loc: clone_loc(alloc, node.source_loc())?,
+                loc: Loc::clone_option(alloc, node.source_loc())?,
             }),
             None => Ok(RestrictedExpr { expr }),
         }

@@ -20,7 +20,7 @@ ghost use Rattle.cedar_exprs.specs.RestrictedExprs.{env_of};
 ghost use Rattle.cedar_exprs.specs.Refusals.{Refuses};
 
 use crate::builder::ExprBuilder;
-use crate::expr::{Expr, ExprKind, clone_loc};
+use crate::expr::{Expr, ExprKind};
 use crate::restricted_expr::SubstituteValue;
 use crate::type_check::{TypeCheck, Unchecked};
 use cedar_builders::laws::{built_after, restricted_rebuilt, substituted_by_fold};
@@ -147,7 +147,7 @@ fn literal_at<C: TypeCheck>(
     ensures refused { Refuses C.types_of None result }
 {
     let literal = literal.clone(alloc)?;
-    Ok(Expr::new(ExprKind::Lit(literal), clone_loc(alloc, loc)?, ()))
+    Ok(Expr::new(ExprKind::Lit(literal), Loc::clone_option(alloc, loc)?, ()))
 }
 
 // A copy of another leaf that stays as it is.
