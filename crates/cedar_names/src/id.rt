@@ -435,8 +435,9 @@ impl AnyId {
     pub fn clone(&self, _alloc: Global) -> Result<AnyId, AllocError>
         ensures { IfOk result (λ id. id ≡ self.now) }
     {
-        let text = self.text.clone()?;
-        Ok(AnyId { text })
+        Ok(AnyId {
+            text: self.text.clone()?,
+        })
     }
 }
 

