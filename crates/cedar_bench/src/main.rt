@@ -9,6 +9,7 @@ mod args;
 mod case;
 mod expressions;
 mod names;
+mod patterns;
 mod script;
 mod timing;
 
@@ -45,6 +46,7 @@ fn work(rt: &HostRuntime) -> Result<(), BenchFault> {
 // Every case, layer by layer.
 fn all_cases<V: Visit>(visit: &mut V) -> Result<(), BenchFault> {
     names::cases(visit)?;
+    patterns::cases(visit)?;
     expressions::cases(visit)?;
     script::cases(visit)
 }

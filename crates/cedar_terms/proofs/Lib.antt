@@ -1,5 +1,8 @@
 pub mod EscapeLemmas
-pub mod Matching
+pub mod Ends
+pub mod Decision
+pub mod LatestWildcard
+pub mod Attempt
 pub mod PatternTexts
 pub mod AttributeLemmas
 pub mod SchemaEquality

@@ -25,6 +25,11 @@ matches (Char c ∷ q) [] = false
 matches (Char c ∷ q) (d ∷ s) = c == d && matches q s
 matches (Wildcard ∷ q) t = some_end (matches q) t
 
+-- which elements are wildcards
+abbrev pub is_wildcard : PatternElem → Bool
+is_wildcard (Char c) = false
+is_wildcard Wildcard = true
+
 -- a wildcard is `*`, the character `*` is `\*`, any other character is its escape
 abbrev pub elem_text : PatternElem → List ℕ
 elem_text (Char c) = if c == 42 then codes "\\*" else escape_char c

@@ -1,13 +1,13 @@
 //! Patterns of `like` (Cedar's file `pattern.rs`).
-ghost use Rattle.std.specs.Prelude.{◌≡◌, ◌∷◌, ◌↔◌, [], IfOk, IsTrue, List, MatchOption, Some, length, refl};
+ghost use Rattle.std.specs.Prelude.{◌≡◌, ◌↔◌, [], IfOk, IsTrue, List, Some, length, refl};
 ghost use Rattle.std.specs.Fmt.{WritesOnOk};
 ghost use Rattle.std.specs.Iterator.{IsFinite};
 ghost use Rattle.std.specs.Iterator.Runs.{WholeRun};
 ghost use Rattle.std.specs.Ordering.{as_partial_cmp};
 ghost use Rattle.std.specs.Cmp.{partial_equiv_from_equiv};
 ghost use Rattle.std.specs.Slice.Iter.{iter_rest};
-ghost use Rattle.std.specs.Str.{chars, encode_utf8_all};
-ghost use Rattle.cedar_terms.specs.Patterns.{Matches, elem_text, matches, pattern_text};
+ghost use Rattle.std.specs.Str.{encode_utf8_all};
+ghost use Rattle.cedar_terms.specs.Patterns.{elem_text, pattern_text};
 ghost use Rattle.cedar_terms.specs.PatternOrder.{pattern_eq, pattern_eq_equiv, pattern_cmp, pattern_cmp_total, pattern_ties, pattern_po, pattern_fed, pattern_fed-alike};
 
 use crate::escape::EscapedChar;
@@ -106,45 +106,6 @@ impl Pattern {
         ensures { IsTrue result ↔ (self.now ≡ []) }
     {
         self.elems.is_empty()
-    }
-
-    /// Whether the pattern matches the text, as lists of characters. It takes no memory.
-    pub fn wildcard_match(&self, text: &str) -> bool
-        ensures decides { IsTrue result ↔ Matches self.now (chars text.now) }
-        ensures value { result ≡ matches self.now (chars text.now) }
-    {
-        matches_from(self.get_elems(), text)
-    }
-}
-
-// The first character of a text and what follows it.
-fn first_char(text: &str) -> Option<(char, &str)>
-    ensures { MatchOption result (chars text.now ≡ []) (λ x. chars text.now ≡ x.0 ∷ chars x.1.now) }
-{
-    let mut rest = text.chars();
-    let first = rest.next()?;
-    Some((first, rest.as_str()))
-}
-
-// Whether the elements match the text.
-fn matches_from(elems: &[PatternElem], text: &str) -> bool
-    ensures { result ≡ matches elems.now (chars text.now) }
-{
-    match elems.split_first() {
-        None => first_char(text).is_none(),
-        Some((PatternElem::Char(wanted), later)) => match first_char(text) {
-            None => false,
-            Some((found, rest)) => found == *wanted && matches_from(later, rest),
-        },
-        Some((PatternElem::Wildcard, later)) => {
-            if matches_from(later, text) {
-                return true;
-            }
-            match first_char(text) {
-                None => false,
-                Some((_, rest)) => matches_from(elems, rest),
-            }
-        }
     }
 }
 

@@ -188,6 +188,68 @@ fn matches_of_wildcards(rt: HostRuntime) -> Result<(), Fail> {
     Ok(())
 }
 
+// The count is set by each call, whatever it held before.
+#[test]
+fn turns_of_matches(rt: HostRuntime) -> Result<(), Fail> {
+    let mut turns = Turns::new();
+    assert_eq!(rt; turns.get(), 0);
+    for (elems, value, want, count, bound) in [
+        ("*ab", "aab", true, 5, 12),
+        ("*", "abc", true, 1, 6),
+        ("abc", "abc", true, 3, 12),
+        ("ab", "ac", false, 2, 6),
+        ("*a", "bb", false, 3, 6),
+        ("*a*b", "aaab", true, 6, 20),
+        ("", "foo bar", false, 0, 7),
+        ("*", "", true, 0, 0),
+        ("*a*a*b", "aaaa", false, 7, 28),
+        (
+            "********************b",
+            "aaaaaaaaaaaaaaaaaaaaaaaaaaaaaaaaaaaaaaaa",
+            false,
+            60,
+            880,
+        ),
+    ] {
+        let p = pattern(&rt, elems)?;
+        let answer = p.wildcard_match_counted(value, &mut turns);
+        assert_eq!(rt; answer, want, "{elems} on {value}");
+        assert_eq!(rt; p.wildcard_match(value), want, "{elems} on {value}");
+        assert_eq!(rt; turns.get(), count, "{elems} on {value}");
+        let most = value
+            .chars()
+            .count()
+            .saturating_mul(p.len().saturating_add(1));
+        assert_eq!(rt; most, bound, "{elems} on {value}");
+    }
+    Ok(())
+}
+
+// Each character of the text takes one turn here, and each wildcard one.
+#[test]
+fn matches_of_long_texts(rt: HostRuntime) -> Result<(), Fail> {
+    let mut value = String::new(rt.alloc());
+    for _i in 0..1_000_000 {
+        value.push('a')?;
+    }
+    let itself = pattern(&rt, value.as_str())?;
+    assert!(rt; itself.wildcard_match(value.as_str()));
+    let mut turns = Turns::new();
+    for (elems, want, count) in [
+        ("*b", false, 1_000_001),
+        ("*a*", true, 3),
+        ("a*", true, 2),
+        ("*\u{306}", false, 1_000_001),
+        ("b", false, 1),
+    ] {
+        let p = pattern(&rt, elems)?;
+        let answer = p.wildcard_match_counted(value.as_str(), &mut turns);
+        assert_eq!(rt; answer, want, "{elems}");
+        assert_eq!(rt; turns.get(), count, "{elems}");
+    }
+    Ok(())
+}
+
 // Whether the elements match the text: after each element, the lengths of the beginnings of the text that the elements
 // so far match.
 fn matches_by_lengths(rt: &HostRuntime, elems: &[PatternElem], text: &str) -> Result<bool, Fail> {

@@ -1,6 +1,6 @@
 use Rattle.std.proofs.Common.{rules}
 use Rattle.std.specs.Str.{chars}
-use Rattle.cedar_terms.proofs.Matching.{matches-decides}
+use Rattle.cedar_terms.proofs.Decision.{matches-decides}
 use Rattle.cedar_terms.proofs.pattern.Pattern.wildcard_match.Goals as goal
 
 pub returns-clause-decides : goal.returns-clause-decides

@@ -1,42 +1,20 @@
 -- The test `matches` decides the relation `Matches`.
-use Rattle.std.proofs.Common.{◌≡◌, ℕ, zero, suc, List, [], ◌∷◌, length, take, drop, Bool, true, false, ◌||◌, ◌↔◌, IsTrue, refl, sym, ◌∙◌, ap, arith}
+use Rattle.std.proofs.Common.{◌≡◌, ℕ, List, [], ◌∷◌, length, take, drop, Bool, true, ◌↔◌, IsTrue, refl, sym, ◌∙◌, ap, arith}
 use Rattle.std.specs.Bool.{◌==◌}
 use Rattle.std.proofs.lemmas.Bool.{false≢true}
 use Rattle.std.proofs.lemmas.Bool.Decides.{nat_tests}
 use Rattle.std.proofs.lemmas.List.{drop_at, take-append-drop}
 use Rattle.cedar_terms.specs.declared.pattern.PatternElem.{PatternElem}
 use Rattle.cedar_terms.specs.declared.pattern.PatternElem.TheVariants.{Char, Wildcard}
-use Rattle.cedar_terms.specs.Patterns.{Matches, matches, some_end}
+use Rattle.cedar_terms.specs.Patterns.{Matches, matches}
+use Rattle.cedar_terms.proofs.Ends.{some_end-at, some_end-where}
 use Rattle.cedar_terms.proofs.EscapeLemmas.{and-left, and-right}
 
-same_code : (c : ℕ) → (c == c) ≡ true
+pub same_code : (c : ℕ) → (c == c) ≡ true
 same_code c = grind (arith, nat_tests)
 
 code_from_test : (c d : ℕ) → (c == d) ≡ true → d ≡ c
 code_from_test c d h = grind (arith, nat_tests)
-
--- a test that passes here, passes at some end
-pub some_end-here : (f : List ℕ → Bool) (t : List ℕ) → f t ≡ true → some_end f t ≡ true
-some_end-here f [] h = h
-some_end-here f (c ∷ s) h = rw h
-
--- where it passes
-some_end-where : (f : List ℕ → Bool) (t : List ℕ) → some_end f t ≡ true → (k : ℕ) × (f (drop k t) ≡ true)
-some_end-where f [] h = (0, h)
-some_end-where f (c ∷ t) h =
-    elim (f (c ∷ t)) as (λ v. f (c ∷ t) ≡ v → (v || some_end f t) ≡ true → (k : ℕ) × (f (drop k (c ∷ t)) ≡ true)) [
-      | true ↦ λ e _. (0, e)
-      | false ↦ λ e g. let r = some_end-where f t g in (suc r.0, r.1)
-    ] refl h
-
-or-right : (a b : Bool) → b ≡ true → (a || b) ≡ true
-or-right true b h = refl
-or-right false b h = h
-
-some_end-at : (f : List ℕ → Bool) (k : ℕ) (t : List ℕ) → f (drop k t) ≡ true → some_end f t ≡ true
-some_end-at f zero t h = some_end-here f t h
-some_end-at f (suc k) [] h = h
-some_end-at f (suc k) (c ∷ t) h = or-right (f (c ∷ t)) (some_end f t) (some_end-at f k t h)
 
 Matches-from_matches : (p : List PatternElem) (t : List ℕ) → matches p t ≡ true → Matches p t
 Matches-from_matches [] [] h = refl
@@ -57,7 +35,3 @@ matches-from_Matches (Wildcard ∷ q) t h =
 
 pub matches-decides : (p : List PatternElem) (t : List ℕ) (r : Bool) → r ≡ matches p t → IsTrue r ↔ Matches p t
 matches-decides p t r e = (λ h. Matches-from_matches p t (sym e ∙ h), λ m. e ∙ matches-from_Matches p t m)
-
--- a first element that is a wildcard, whose rest matches the whole text
-pub matches-here : (p q : List PatternElem) (x : PatternElem) (t : List ℕ) → p ≡ x ∷ q → x ≡ Wildcard → true ≡ matches q t → true ≡ matches p t
-matches-here p q x t e w h = rw (e, w) (sym (some_end-here (matches q) t (sym h)))

@@ -1,6 +1,6 @@
 use Rattle.std.proofs.Common.{sym, ◌∙◌}
 use Rattle.std.proofs.lemmas.Str.{chars_past_char}
-use Rattle.cedar_terms.proofs.pattern.first_char.Goals as goal
+use Rattle.cedar_terms.proofs.text.first_char.Goals as goal
 
 pub returns : goal.returns
 returns c =
