@@ -24,7 +24,7 @@ pub fn cases<V: Visit>(visit: &mut V) -> Result<(), BenchFault> {
 
 // A pattern, and a text to match it with.
 #[derive(Drop)]
-struct Wild {
+struct WildCase {
     pattern: Pattern,
     text: String,
 }
@@ -50,37 +50,37 @@ fn repeated(alloc: Global, c: char, count: usize) -> Result<String, CaseFault> {
     Ok(text)
 }
 
-fn restarted(alloc: Global, count: usize) -> Result<Wild, CaseFault> {
+fn restarted(alloc: Global, count: usize) -> Result<WildCase, CaseFault> {
     let half = repeated(alloc, 'a', count / 2)?;
     let pattern = pattern_of(alloc, &format!(in alloc; "*{half}b")?)?;
     let text = repeated(alloc, 'a', count)?;
-    Ok(Wild { pattern, text })
+    Ok(WildCase { pattern, text })
 }
 
-fn starred(alloc: Global, count: usize) -> Result<Wild, CaseFault> {
+fn starred(alloc: Global, count: usize) -> Result<WildCase, CaseFault> {
     let mut stars = String::new(alloc);
     for _i in 0..20 {
         stars.push_str("*a")?;
     }
     let pattern = pattern_of(alloc, &format!(in alloc; "{stars}*b")?)?;
     let text = repeated(alloc, 'a', count)?;
-    Ok(Wild { pattern, text })
+    Ok(WildCase { pattern, text })
 }
 
-fn literal(alloc: Global, count: usize) -> Result<Wild, CaseFault> {
+fn literal(alloc: Global, count: usize) -> Result<WildCase, CaseFault> {
     let text = repeated(alloc, 'a', count)?;
     let pattern = pattern_of(alloc, &text)?;
-    Ok(Wild { pattern, text })
+    Ok(WildCase { pattern, text })
 }
 
-fn unicode(alloc: Global, count: usize) -> Result<Wild, CaseFault> {
+fn unicode(alloc: Global, count: usize) -> Result<WildCase, CaseFault> {
     let pattern = pattern_of(alloc, "*日*é日")?;
     let mut text = repeated(alloc, 'é', count.saturating_sub(2))?;
     text.push_str("é日")?;
-    Ok(Wild { pattern, text })
+    Ok(WildCase { pattern, text })
 }
 
-fn accept(_: Global, wild: &mut Wild) -> Result<(), CaseFault> {
+fn accept(_: Global, wild: &mut WildCase) -> Result<(), CaseFault> {
     if wild.pattern.wildcard_match(&wild.text) {
         Ok(())
     } else {
@@ -88,7 +88,7 @@ fn accept(_: Global, wild: &mut Wild) -> Result<(), CaseFault> {
     }
 }
 
-fn refuse(_: Global, wild: &mut Wild) -> Result<(), CaseFault> {
+fn refuse(_: Global, wild: &mut WildCase) -> Result<(), CaseFault> {
     if wild.pattern.wildcard_match(&wild.text) {
         Err(CaseFault::Answer)
     } else {
@@ -98,12 +98,12 @@ fn refuse(_: Global, wild: &mut Wild) -> Result<(), CaseFault> {
 
 // Patterns as policies have them, and texts to match each with.
 #[derive(Drop)]
-struct Usual {
+struct UsualCase {
     patterns: Vec<Pattern>,
     texts: Vec<String>,
 }
 
-fn usual(alloc: Global, count: usize) -> Result<Usual, CaseFault> {
+fn usual(alloc: Global, count: usize) -> Result<UsualCase, CaseFault> {
     let mut patterns = Vec::new(alloc);
     for text in [
         "users/*/photos/*.jpg",
@@ -122,10 +122,10 @@ fn usual(alloc: Global, count: usize) -> Result<Usual, CaseFault> {
             _ => format!(in alloc; "tmp/{i}")?,
         })?;
     }
-    Ok(Usual { patterns, texts })
+    Ok(UsualCase { patterns, texts })
 }
 
-fn count_usual(_: Global, input: &mut Usual) -> Result<(), CaseFault> {
+fn count_usual(_: Global, input: &mut UsualCase) -> Result<(), CaseFault> {
     let mut count = 0u64;
     for text in input.texts.iter() {
         for pattern in input.patterns.iter() {

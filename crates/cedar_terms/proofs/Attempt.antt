@@ -29,10 +29,6 @@ literal-push : (s : List ℕ) (c : ℕ) (q : List PatternElem) → literal s ++ 
 literal-push [] c q = refl
 literal-push (d ∷ s) c q = ap (λ x. Char d ∷ x) (literal-push s c q)
 
-no-rest : (s : List ℕ) (q : List PatternElem) → [] ≡ literal s ++ q → q ≡ []
-no-rest [] q h = sym h
-no-rest (d ∷ s) q h = cc
-
 wildcard : {p : List PatternElem} {t : List ℕ} {rp : List PatternElem} {rt : List ℕ} {u : List ℕ} {seen : Bool} {q : List PatternElem} → IsAttempt p t seen rp rt (Wildcard ∷ q) u → IsAttempt p t true q u q u
 wildcard {u = u} {seen = true} {q = q} a = record {
   passed = [];
@@ -104,11 +100,9 @@ module _ {p : List PatternElem} {t : List ℕ} {rp : List PatternElem} {rt : Lis
   answer-at_end {seen = false} a e = sym a.answer ∙ rw (a.pattern_passed, a.text_passed, e) (matches-literal a.passed q [])
 
   -- nothing stands behind the latest wildcard
-  pub answer-open : {seen : Bool} → IsAttempt p t seen rp rt q u → seen ≡ true → length rp ≡ 0 → matches p t ≡ matches q []
+  pub answer-open : {seen : Bool} → IsAttempt p t seen rp rt q u → seen ≡ true → length rp ≡ 0 → matches p t ≡ true
   answer-open {seen = false} a s n = absurd (false≢true s)
-  answer-open {seen = true} a s n =
-      let e : rp ≡ [] = length-nil rp n in
-      sym a.answer ∙ (ap (λ x. some_end (matches x) rt) e ∙ (some_end-nil rt ∙ sym (ap (λ x. matches x []) (no-rest a.passed q (sym e ∙ a.pattern_passed)))))
+  answer-open {seen = true} a s n = sym a.answer ∙ (ap (λ x. some_end (matches x) rt) (length-nil rp n) ∙ some_end-nil rt)
 
   -- the place reached is no earlier than the latest beginning
   pub lengths : {seen : Bool} → IsAttempt p t seen rp rt q u → (length u ≤ length rt) × (length q ≤ length rp) × (length rt + length q ≡ length rp + length u)

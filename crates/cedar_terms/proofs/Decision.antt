@@ -7,7 +7,7 @@ use Rattle.std.proofs.lemmas.List.{drop_at, take-append-drop}
 use Rattle.cedar_terms.specs.declared.pattern.PatternElem.{PatternElem}
 use Rattle.cedar_terms.specs.declared.pattern.PatternElem.TheVariants.{Char, Wildcard}
 use Rattle.cedar_terms.specs.Patterns.{Matches, matches}
-use Rattle.cedar_terms.proofs.Ends.{some_end-at, some_end-where}
+use Rattle.cedar_terms.proofs.Ends.{some_end-at, some_end-here, some_end-where}
 use Rattle.cedar_terms.proofs.EscapeLemmas.{and-left, and-right}
 
 pub same_code : (c : ℕ) → (c == c) ≡ true
@@ -35,3 +35,7 @@ matches-from_Matches (Wildcard ∷ q) t h =
 
 pub matches-decides : (p : List PatternElem) (t : List ℕ) (r : Bool) → r ≡ matches p t → IsTrue r ↔ Matches p t
 matches-decides p t r e = (λ h. Matches-from_matches p t (sym e ∙ h), λ m. e ∙ matches-from_Matches p t m)
+
+-- a first element that is a wildcard, whose rest matches the whole text
+pub matches-here : (p q : List PatternElem) (x : PatternElem) (t : List ℕ) → p ≡ x ∷ q → x ≡ Wildcard → true ≡ matches q t → true ≡ matches p t
+matches-here p q x t e w h = rw (e, w) (sym (some_end-here (matches q) t (sym h)))

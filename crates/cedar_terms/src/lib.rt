@@ -29,5 +29,7 @@ pub use types::{StaticallyTyped, Type};
 pub use unknown::Unknown;
 pub use var::Var;
 
+#[cfg(test)] // what the loop is compared with
+mod splits;
 #[cfg(test)]
 mod tests;

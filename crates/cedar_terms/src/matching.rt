@@ -82,12 +82,12 @@ fn match_counted(pattern: &[PatternElem], text: &str) -> (bool, u128)
     let mut rest_pattern = pattern;
     let mut rest_text = text;
     'passages: while let Some((found, after)) = first_char(rest_text) {
-        if seen && retry_pattern.is_empty() {
-            break;
-        }
         turns += 1;
         match rest_pattern.split_first() {
             Some((PatternElem::Wildcard, later)) => {
+                if later.is_empty() {
+                    return (true, turns);
+                }
                 seen = true;
                 retry_pattern = later;
                 retry_text = rest_text;

@@ -1,5 +1,6 @@
 // Values from outside: texts, matching, orders, and each call once.
 use super::*;
+use crate::splits::try_splits;
 use cedar_names::{FromNormalizedStr, Id, InternalName, Loc, Name, PrincipalOrResource};
 use std::boxed::Box;
 use std::collections::{BTreeMap, HashSet};
@@ -222,6 +223,18 @@ fn turns_of_matches(rt: HostRuntime) -> Result<(), Fail> {
             .saturating_mul(p.len().saturating_add(1));
         assert_eq!(rt; most, bound, "{elems} on {value}");
     }
+    Ok(())
+}
+
+// Where the loop goes back to the latest wildcard alone, trying every split takes more steps than the bound has turns.
+#[test]
+fn turns_beside_every_split(rt: HostRuntime) -> Result<(), Fail> {
+    let p = pattern(&rt, "*a*a*b")?;
+    let (answer, steps) = try_splits(p.get_elems(), "aaaaaaaa");
+    let mut turns = Turns::new();
+    assert!(rt; !answer && !p.wildcard_match_counted("aaaaaaaa", &mut turns));
+    assert_eq!(rt; turns.get(), 11);
+    assert!(rt; steps > 56, "{steps}");
     Ok(())
 }
 

@@ -1,9 +1,8 @@
-use Rattle.std.proofs.Common.{rules, ◌≤◌, ◌*◌, ◌+◌, length, arith, ap, sym, ◌∙◌}
+use Rattle.std.proofs.Common.{rules, refl, ◌≤◌, ◌*◌, ◌+◌, length, arith, ap, sym, ◌∙◌}
 use Rattle.std.specs.Str.{chars}
 use Rattle.cedar_terms.proofs.Attempt.{lengths, one-more, fits-turns, length-chars, IsAttempt-wildcard, IsAttempt-char, IsAttempt-retry, answer-none, answer-at_end, answer-open, spent-wildcard, matches-nil, is_none, matches-other, matches-none, spent-retry}
 use Rattle.cedar_terms.proofs.matching.match_counted.Goals as goal
 use Rattle.cedar_terms.proofs.matching.match_counted.Goals.{in_default-split_first-via-in-Some-Char-default+else-wanted-found, in_default-split_first-via-in_default}
-use Rattle.cedar_terms.proofs.matching.match_counted.Goals.{in-Some+then-seen+then-is_empty-2, in_default}
 
 pub overflow_add-turns : goal.overflow_add-turns
 overflow_add-turns c =
@@ -84,7 +83,10 @@ passages-preserved-in-Some-first_char c =
 pub returns-clause-answer : goal.returns-clause-answer
 returns-clause-answer c =
     let a = c.passages.invariant.attempt in
-    elim c.match-first_char.branch [
-      | in-Some+then-seen+then-is_empty-2 w ↦ c.are_wildcards.ensures ∙ (matches-nil c.passages.rest_pattern.now ∙ sym (answer-open a w.if-seen.true (is_none _ w.if-is_empty-2.ensures)))
-      | in_default w ↦ c.are_wildcards.ensures ∙ (matches-nil c.passages.rest_pattern.now ∙ sym (answer-at_end a w.in_default.ensures))
-    ]
+    c.are_wildcards.ensures ∙ (matches-nil c.passages.rest_pattern.now ∙ sym (answer-at_end a c.in_default.ensures))
+
+pub returns-then-is_empty-2-clause-answer : goal.returns-then-is_empty-2-clause-answer
+returns-then-is_empty-2-clause-answer c =
+    let q = c.in-Some-Wildcard-default.ensures.cases in
+    let a = IsAttempt-wildcard c.passages.invariant.attempt _ _ q.0 c.in-Some-Wildcard-default.field-0-0-is in
+    sym (answer-open a refl (is_none _ c.if-is_empty-2.ensures))
