@@ -1,7 +1,7 @@
 -- The test `matches` decides the relation `Matches`.
 use Rattle.std.proofs.Common.{◌≡◌, ℕ, List, [], ◌∷◌, length, take, drop, Bool, true, ◌↔◌, IsTrue, refl, sym, ◌∙◌, ap, arith}
 use Rattle.std.specs.Bool.{◌==◌}
-use Rattle.std.proofs.lemmas.Bool.{false≢true}
+use Rattle.std.proofs.lemmas.Bool.{eqb-true, false≢true}
 use Rattle.std.proofs.lemmas.Bool.Decides.{nat_tests}
 use Rattle.std.proofs.lemmas.List.{drop_at, take-append-drop}
 use Rattle.cedar_terms.specs.declared.pattern.PatternElem.{PatternElem}
@@ -13,15 +13,12 @@ use Rattle.cedar_terms.proofs.EscapeLemmas.{and-left, and-right}
 pub same_code : (c : ℕ) → (c == c) ≡ true
 same_code c = grind (arith, nat_tests)
 
-code_from_test : (c d : ℕ) → (c == d) ≡ true → d ≡ c
-code_from_test c d h = grind (arith, nat_tests)
-
 Matches-from_matches : (p : List PatternElem) (t : List ℕ) → matches p t ≡ true → Matches p t
 Matches-from_matches [] [] h = refl
 Matches-from_matches [] (d ∷ t) h = absurd (false≢true h)
 Matches-from_matches (Char c ∷ q) [] h = absurd (false≢true h)
 Matches-from_matches (Char c ∷ q) (d ∷ t) h =
-    (t, ap (λ x. x ∷ t) (code_from_test c d (and-left (c == d) (matches q t) h)), Matches-from_matches q t (and-right (c == d) (matches q t) h))
+    (t, ap (λ x. x ∷ t) (sym (eqb-true c d (and-left (c == d) (matches q t) h))), Matches-from_matches q t (and-right (c == d) (matches q t) h))
 Matches-from_matches (Wildcard ∷ q) t h =
     let r = some_end-where (matches q) t h in
     (take r.0 t, drop r.0 t, sym (take-append-drop r.0 t), Matches-from_matches q (drop r.0 t) r.1)

@@ -9,6 +9,8 @@ use Rattle.std.proofs.lemmas.Bool.{false≢true}
 use Rattle.std.proofs.lemmas.Bool.Decides.{nat_tests}
 use Rattle.std.proofs.lemmas.Fmt.{hex_one_digit, hex_two_digits}
 use Rattle.std.proofs.lemmas.Grind.{flat_map-append}
+use Rattle.std.proofs.lemmas.List.Folds.{list_all-append}
+use Rattle.std.specs.Cmp.Derive.{both_true}
 use Rattle.std.proofs.lemmas.Str.{encode_ascii, encodes-append}
 use mathlib.Core.List.{append-nil}
 use Rattle.cedar_terms.specs.Escape.{escape_char, hexadecimal}
@@ -21,9 +23,6 @@ pub and-right : (a b : Bool) → (a && b) ≡ true → b ≡ true
 and-right true b h = h
 and-right false b h = absurd (false≢true h)
 
-pub and-both : (a b : Bool) → a ≡ true → b ≡ true → (a && b) ≡ true
-and-both a b h k = rw (h, k) refl
-
 below_128 : (c : ℕ) → is_ascii c ≡ true → c < 128
 below_128 c h = grind (arith, nat_tests)
 
@@ -34,19 +33,14 @@ encode_all_ascii (c ∷ cs) h =
     ap (λ x. x ++ encode_utf8_all cs) (encode_ascii c (below_128 c (and-left (is_ascii c) (list_all is_ascii cs) h)))
     ∙ ap (λ x. c ∷ x) (encode_all_ascii cs (and-right (is_ascii c) (list_all is_ascii cs) h))
 
-pub all_ascii-append : (xs ys : List ℕ) → list_all is_ascii xs ≡ true → list_all is_ascii ys ≡ true → list_all is_ascii (xs ++ ys) ≡ true
-all_ascii-append [] ys h k = k
-all_ascii-append (x ∷ xs) ys h k =
-    and-both (is_ascii x) (list_all is_ascii (xs ++ ys)) (and-left (is_ascii x) (list_all is_ascii xs) h) (all_ascii-append xs ys (and-right (is_ascii x) (list_all is_ascii xs) h) k)
-
 glyph_ascii : (d : ℕ) → d < 16 → is_ascii (digit_glyph false d) ≡ true
 glyph_ascii d h = grind (arith, nat_tests)
 
 one_glyph : (d : ℕ) → d < 16 → list_all is_ascii (digit_glyph false d ∷ []) ≡ true
-one_glyph d h = and-both (is_ascii (digit_glyph false d)) true (glyph_ascii d h) refl
+one_glyph d h = both_true (glyph_ascii d h) refl
 
 two_glyphs : (d e : ℕ) → d < 16 → e < 16 → list_all is_ascii (digit_glyph false d ∷ digit_glyph false e ∷ []) ≡ true
-two_glyphs d e h k = and-both (is_ascii (digit_glyph false d)) (list_all is_ascii (digit_glyph false e ∷ [])) (glyph_ascii d h) (one_glyph e k)
+two_glyphs d e h k = both_true (glyph_ascii d h) (one_glyph e k)
 
 hexadecimal_small : (c : ℕ) → c < 16 → list_all is_ascii (hexadecimal c) ≡ true
 hexadecimal_small c h = ap (list_all is_ascii) (hex_one_digit false c h) ∙ one_glyph c h
@@ -71,7 +65,7 @@ pub encode_control : (c : ℕ) → is_ascii_control c ≡ true → c ≢ 0 → c
 encode_control c h h0 h9 h10 h13 =
     ap encode_utf8_all (escape_control c h h0 h9 h10 h13)
     ∙ encode_all_ascii (codes "\\u{" ++ (hexadecimal c ++ codes "}"))
-    (all_ascii-append (codes "\\u{") (hexadecimal c ++ codes "}") refl (all_ascii-append (hexadecimal c) (codes "}") (hexadecimal_ascii c (control_is_small c h)) refl))
+    (list_all-append is_ascii (hexadecimal c) (codes "}") ∙ both_true (hexadecimal_ascii c (control_is_small c h)) refl)
 
 -- one item more
 pub encode_flat_map-push : {X : Type 0} (f : X → List ℕ) (xs : List X) (x : X) → encode_utf8_all (flat_map f xs) ++ encode_utf8_all (f x) ≡ encode_utf8_all (flat_map f (xs ++ (x ∷ [])))

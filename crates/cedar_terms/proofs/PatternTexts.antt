@@ -5,7 +5,7 @@ use Rattle.std.specs.Fmt.{digit_glyph}
 use Rattle.std.specs.Option.{is_some, unwrap_or}
 use Rattle.std.specs.Prelude.{codes, if◌then◌else◌}
 use Rattle.std.specs.Str.{encode_utf8_all}
-use Rattle.std.proofs.lemmas.Bool.{false≢true}
+use Rattle.std.proofs.lemmas.Bool.{eqb-true, false≢true}
 use Rattle.std.proofs.lemmas.Bool.Decides.{nat_tests}
 use Rattle.std.proofs.lemmas.Fmt.{hex_one_digit, hex_two_digits}
 use Rattle.std.proofs.lemmas.List.{take_more}
@@ -84,13 +84,10 @@ reads_code c h = elim (nat_lt c 16) as (λ v. nat_lt c 16 ≡ v → Reads (code_
       subst (λ t. Reads (code_text t) c) (sym (hex_two_digits false c l h)) (two_digits c l h)
 ] refl
 
-code_from_test : (c k : ℕ) → (c == k) ≡ true → k ≡ c
-code_from_test c k h = grind (arith, nat_tests)
-
 -- one level of the table
 level : (c k : ℕ) (text rest : List ℕ) → Reads text k → ((c == k) ≡ false → Reads rest c) → Reads (if c == k then text else rest) c
 level c k text rest here later = elim (c == k) as (λ v. (c == k) ≡ v → Reads (if v then text else rest) c) [
-  | true ↦ λ e. subst (λ n. Reads text n) (code_from_test c k e) here
+  | true ↦ λ e. subst (λ n. Reads text n) (sym (eqb-true c k e)) here
   | false ↦ λ e. later e
 ] refl
 

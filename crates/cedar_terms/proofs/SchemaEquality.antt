@@ -1,6 +1,7 @@
 -- A comparison of schema types that goes level by level decides whether their bare types are the same.
 use Rattle.std.proofs.Common.{◌≡◌, Bool, true, false, ◌&&◌, nat_eq, List, [], ◌∷◌, map, refl, ap, sym, subst, ◌∙◌, true≢false}
 use Rattle.std.specs.Bool.{Decides}
+use Rattle.std.proofs.lemmas.Bool.Decides.{Decides-and, Decides-like}
 use Rattle.std.specs.Global.{Global}
 use Rattle.std.specs.Rc.{rc_str_bytes}
 use Rattle.std.specs.Cmp.Lexicographic.{pointwise, bytes_decides}
@@ -10,14 +11,6 @@ use Rattle.cedar_names.specs.PlainNames.{bare_name}
 use Rattle.cedar_terms.specs.Entities.{bare_entity_type}
 use Rattle.cedar_terms.specs.SchemaTypes.{BareSchemaType, SchemaSet, SchemaRecord, SchemaEntity, SchemaExtension, attributes_of, bare_schema_step, bare_schema_type}
 use Rattle.cedar_terms.specs.declared.schema_type.SchemaType.{SchemaType, SchemaType-F, out-SchemaType, roll-SchemaType, out-roll-SchemaType, fold-roll-SchemaType, fold_out-SchemaType, map-SchemaType, ind-SchemaType}
-
-both : {A B : Type 0} (x y : Bool) → Decides x A → Decides y B → Decides (x && y) (A × B)
-both true true p q = (λ e. (p.0 refl, q.0 refl), λ e. refl)
-both true false p q = (λ e. absurd (true≢false (sym e)), λ e. q.1 e.1)
-both false y p q = (λ e. absurd (true≢false (sym e)), λ e. p.1 e.0)
-
-exactly : {A B : Type 0} (x : Bool) → Decides x A → (A → B) → (B → A) → Decides x B
-exactly x p f g = (λ e. f (p.0 e), λ b. p.1 (g b))
 
 never : {A : Type 0} → (A → ⊥) → Decides false A
 never f = (λ e. absurd (true≢false (sym e)), λ a. absurd (f a))
@@ -54,9 +47,12 @@ module _ (V : SchemaType → SchemaType → Bool) where
   pairs [] (b ∷ bs) = never (λ h. cc)
   pairs (a ∷ as_) [] = never (λ h. cc)
   pairs (a ∷ as_) (b ∷ bs) =
-      exactly _ (both _ _ (both _ _ (bytes_decides (rc_str_bytes a.0) (rc_str_bytes b.0)) (a.1.1 b.1)) (pairs as_ bs))
+      Decides-like _
       (λ h. cc (h.0.0, h.0.1, h.1))
       (λ h. ((cc (h), cc (h)), cc (h)))
+      (Decides-and _ _
+      (Decides-and _ _ (bytes_decides (rc_str_bytes a.0) (rc_str_bytes b.0)) (a.1.1 b.1))
+      (pairs as_ bs))
 
   abbrev Layer : SchemaType-F SchemaType → SchemaType-F SchemaType → Type 0
   Layer a b =
@@ -68,11 +64,11 @@ module _ (V : SchemaType → SchemaType → Bool) where
   layer SchemaType-F.Bool SchemaType-F.Bool = always refl
   layer SchemaType-F.Long SchemaType-F.Long = always refl
   layer SchemaType-F.String SchemaType-F.String = always refl
-  layer (SchemaType-F.Set s) (SchemaType-F.Set t) = exactly _ (s.value.1 t.value) (λ h. ap SchemaSet h) (λ h. cc (h))
+  layer (SchemaType-F.Set s) (SchemaType-F.Set t) = Decides-like _ (λ h. ap SchemaSet h) (λ h. cc (h)) (s.value.1 t.value)
   layer SchemaType-F.EmptySet SchemaType-F.EmptySet = always refl
-  layer (SchemaType-F.Record m) (SchemaType-F.Record n) = exactly _ (pairs m.entries n.entries) (λ h. ap SchemaRecord h) (λ h. cc (h))
-  layer (SchemaType-F.Entity s) (SchemaType-F.Entity t) = exactly _ (name_eq_decides (bare_entity_type s) (bare_entity_type t)) (λ h. ap SchemaEntity h) (λ h. cc (h))
-  layer (SchemaType-F.Extension m) (SchemaType-F.Extension n) = exactly _ (name_eq_decides (bare_name m) (bare_name n)) (λ h. ap SchemaExtension h) (λ h. cc (h))
+  layer (SchemaType-F.Record m) (SchemaType-F.Record n) = Decides-like _ (λ h. ap SchemaRecord h) (λ h. cc (h)) (pairs m.entries n.entries)
+  layer (SchemaType-F.Entity s) (SchemaType-F.Entity t) = Decides-like _ (λ h. ap SchemaEntity h) (λ h. cc (h)) (name_eq_decides (bare_entity_type s) (bare_entity_type t))
+  layer (SchemaType-F.Extension m) (SchemaType-F.Extension n) = Decides-like _ (λ h. ap SchemaExtension h) (λ h. cc (h)) (name_eq_decides (bare_name m) (bare_name n))
   layer a b = never (λ h. cc (h))
 
   at_types : {x y : Bool} {a b c d : BareSchemaType} → x ≡ y → a ≡ c → b ≡ d → Decides y (c ≡ d) → Decides x (a ≡ b)

@@ -63,14 +63,10 @@ value_type (SchemaExtension n) = ExtensionType n
 -- the names of the extension types inside, from the outermost inwards, attributes by key; repeats are kept
 abbrev mutual
   pub extension_names : BareSchemaType → List BareName
-  extension_names SchemaBool = []
-  extension_names SchemaLong = []
-  extension_names SchemaString = []
   extension_names (SchemaSet t) = extension_names t
-  extension_names SchemaEmptySet = []
   extension_names (SchemaRecord a) = attribute_extension_names a
-  extension_names (SchemaEntity n) = []
   extension_names (SchemaExtension n) = n ∷ []
+  extension_names other = []
 
   pub attribute_extension_names : Attributes → List BareName
   attribute_extension_names no_attributes = []

@@ -5,7 +5,7 @@ use Rattle.std.specs.Cmp.{IsEquivalence, IsTotalOrder, IsPartialOrder, decided, 
 use Rattle.std.specs.Cmp.Lexicographic.{options_total}
 use Rattle.std.specs.Hash as fed
 use Rattle.std.specs.Hash.{HashWrites}
-use Rattle.std.specs.Option.{option_eq, option_cmp}
+use Rattle.std.specs.Option.{option_eq, option_cmp, option_map_or}
 use Rattle.std.specs.declared.cmp.Ordering.{Ordering}
 use Rattle.std.specs.Ordering.{nat_cmp, on, then_cmp, eq_of_both, as_partial_cmp, eq_by_cmp}
 use Rattle.std.proofs.Common.{ap, arith}
@@ -37,12 +37,8 @@ type_eq = eq_of_both (on type_number nat_eq) (on type_name (option_eq name_eq))
 abbrev pub type_cmp : BareType → BareType → Ordering
 type_cmp = then_cmp (on type_number nat_cmp) (on type_name (option_cmp name_cmp))
 
-abbrev pub name_within_fed : Option BareName → HashWrites
-name_within_fed None = []
-name_within_fed (Some n) = name_fed n
-
 abbrev pub type_fed : BareType → HashWrites
-type_fed t = fed.u8 (type_number t) ++ name_within_fed (type_name t)
+type_fed t = fed.u8 (type_number t) ++ option_map_or name_fed (type_name t) []
 
 -- ---- it is a total order, and what is equal is the same
 
@@ -56,11 +52,13 @@ same_type (EntityOfType m) (EntityOfType n) e f = cc
 same_type (ExtensionType m) (ExtensionType n) e f = cc
 same_type s t e f = absurd (omega arith)
 
-names_decide : (m n : Option BareName) → Decides (option_eq name_eq m n) (m ≡ n)
-names_decide None None = (λ _. refl, λ _. refl)
-names_decide None (Some n) = (λ h. absurd (false≢true h), λ e. cc)
-names_decide (Some m) None = (λ h. absurd (false≢true h), λ e. cc)
-names_decide (Some m) (Some n) = Decides-like (name_eq m n) (λ e. ap Some e) (λ e. cc) (name_eq_decides m n)
+pub options_decide : {A : Type 0} {f : A → A → Bool} → ((a b : A) → Decides (f a b) (a ≡ b))
+    → (m n : Option A) → Decides (option_eq f m n) (m ≡ n)
+options_decide each None None = (λ _. refl, λ _. refl)
+options_decide each None (Some b) = (λ h. absurd (false≢true h), λ e. cc)
+options_decide each (Some a) None = (λ h. absurd (false≢true h), λ e. cc)
+options_decide {f = f} each (Some a) (Some b) =
+    Decides-like (f a b) (λ e. ap Some e) (λ e. cc) (each a b)
 
 names_tie : (m n : Option BareName) → option_eq name_eq m n ≡ eq_by_cmp (option_cmp name_cmp) m n
 names_tie None None = refl
@@ -72,7 +70,7 @@ pub type_eq_decides : (s t : BareType) → Decides (type_eq s t) (s ≡ t)
 type_eq_decides s t = Decides-like (type_eq s t)
     (λ h. same_type s t h.0 h.1)
     (λ e. (ap type_number e, ap type_name e))
-    (Decides-and (nat_eq (type_number s) (type_number t)) (option_eq name_eq (type_name s) (type_name t)) (unsigned_Decides (type_number s) (type_number t)) (names_decide (type_name s) (type_name t)))
+    (Decides-and (nat_eq (type_number s) (type_number t)) (option_eq name_eq (type_name s) (type_name t)) (unsigned_Decides (type_number s) (type_number t)) (options_decide name_eq_decides (type_name s) (type_name t)))
 
 pub type_eq_equiv : IsEquivalence type_eq
 type_eq_equiv = decided type_eq type_eq_decides

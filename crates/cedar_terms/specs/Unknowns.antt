@@ -5,17 +5,16 @@ use Rattle.std.specs.Cmp.{IsEquivalence, decided}
 use Rattle.std.specs.Cmp.Lexicographic.{pointwise, bytes_decides}
 use Rattle.std.specs.Hash as fed
 use Rattle.std.specs.Hash.{HashWrites}
-use Rattle.std.specs.Option.{option_eq, option_map}
+use Rattle.std.specs.Option.{option_and_then, option_eq, option_map}
 use Rattle.std.specs.Ordering.{on, eq_of_both}
 use Rattle.std.specs.Rc.{rc_str_bytes}
 use Rattle.std.proofs.Common.{ap}
-use Rattle.std.proofs.lemmas.Bool.{false≢true}
 use Rattle.std.proofs.lemmas.Bool.Decides.{Decides-and, Decides-like}
 use Rattle.cedar_names.specs.Place.{Place}
 use Rattle.cedar_terms.specs.declared.types.«Type».{«Type»}
 use Rattle.cedar_terms.specs.declared.unknown.Unknown.{Unknown}
 use Rattle.cedar_terms.specs.Types.{BareType, bare_type, type_place}
-use Rattle.cedar_terms.specs.TypeOrder.{type_eq, type_fed, type_eq_decides}
+use Rattle.cedar_terms.specs.TypeOrder.{options_decide, type_eq, type_fed, type_eq_decides}
 
 -- the type that an unknown is annotated with, without places
 abbrev pub bare_annotation : Option «Type» → Option BareType
@@ -31,8 +30,7 @@ bare_unknown u = record { name = rc_str_bytes u.name; annotation = bare_annotati
 
 -- the place of the name in the annotation, if there is one
 abbrev pub annotation_place : Option «Type» → Option Place
-annotation_place None = None
-annotation_place (Some ty) = type_place ty
+annotation_place a = option_and_then type_place a
 
 abbrev pub unknown_place : Unknown → Option Place
 unknown_place u = annotation_place u.type_annotation
@@ -44,12 +42,6 @@ unknown_eq = eq_of_both (on (λ u. u.name) (pointwise nat_eq)) (on (λ u. u.anno
 abbrev pub unknown_fed : BareUnknown → HashWrites
 unknown_fed u = fed.str u.name ++ fed.option type_fed u.annotation
 
-annotations_decide : (s t : Option BareType) → Decides (option_eq type_eq s t) (s ≡ t)
-annotations_decide None None = (λ _. refl, λ _. refl)
-annotations_decide None (Some t) = (λ h. absurd (false≢true h), λ e. cc)
-annotations_decide (Some s) None = (λ h. absurd (false≢true h), λ e. cc)
-annotations_decide (Some s) (Some t) = Decides-like (type_eq s t) (λ e. ap Some e) (λ e. cc) (type_eq_decides s t)
-
 same_parts : (u v : BareUnknown) → u.name ≡ v.name → u.annotation ≡ v.annotation → u ≡ v
 same_parts u v h k = λ i. record { name = h i; annotation = k i }
 
@@ -57,7 +49,7 @@ pub unknown_eq_decides : (u v : BareUnknown) → Decides (unknown_eq u v) (u ≡
 unknown_eq_decides u v = Decides-like (unknown_eq u v)
     (λ h. same_parts u v h.0 h.1)
     (λ e. (ap (λ x. x.name) e, ap (λ x. x.annotation) e))
-    (Decides-and (pointwise nat_eq u.name v.name) (option_eq type_eq u.annotation v.annotation) (bytes_decides u.name v.name) (annotations_decide u.annotation v.annotation))
+    (Decides-and (pointwise nat_eq u.name v.name) (option_eq type_eq u.annotation v.annotation) (bytes_decides u.name v.name) (options_decide type_eq_decides u.annotation v.annotation))
 
 pub unknown_eq_equiv : IsEquivalence unknown_eq
 unknown_eq_equiv = decided unknown_eq unknown_eq_decides

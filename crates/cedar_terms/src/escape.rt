@@ -31,11 +31,12 @@ impl fmt::Display for EscapedChar {
     }
 }
 
-/// A text that is shown by the escapes of its characters, as in `write!(f, "\"{}\"", Escaped(text))`.
+/// A text that is shown by the escapes of its characters, as in
+/// `write!(f, "\"{}\"", Escaped(text))`.
 ///
-/// NUL is `\0`, tab `\t`, carriage return `\r`, line feed `\n`, backslash `\\`, double quote `\"` and single quote `\'`;
-/// every other ASCII control is `\u{h}` with lower-case digits; any other character stands as itself. Writing it takes
-/// no memory.
+/// NUL is `\0`, tab `\t`, carriage return `\r`, line feed `\n`, backslash `\\`, double quote `\"`
+/// and single quote `\'`; every other ASCII control is `\u{h}` with lower-case digits; any other
+/// character stands as itself. Writing it takes no memory.
 #[derive(Clone, Copy, Debug)]
 pub struct Escaped<'a>(pub &'a str);
 

@@ -1,4 +1,5 @@
-//! The terms of Cedar: literals, types, operators, variables, unknowns and patterns as plain values.
+//! The terms of Cedar: literals, types, operators, variables, unknowns and patterns as plain
+//! values.
 #![tactic(auto)]
 
 mod entity;

@@ -5,8 +5,27 @@ ghost use Rattle.std.specs.Ordering.{as_partial_cmp, on};
 ghost use Rattle.std.specs.Rc.{rc_str_bytes};
 ghost use Rattle.std.specs.String.{string_bytes};
 ghost use Rattle.cedar_terms.specs.Entities.{bare_entity_uid};
-ghost use Rattle.cedar_terms.specs.Literals.{BoolLit, LongLit, StringLit, EntityLit, bare_literal, is_entity_literal, literal_place, literal_text};
-ghost use Rattle.cedar_terms.specs.LiteralOrder.{literal_eq, literal_eq_equiv, literal_cmp, literal_cmp_total, literal_ties, literal_po, literal_fed, literal_fed-alike, literal_number};
+ghost use Rattle.cedar_terms.specs.Literals.{
+  BoolLit,
+  LongLit,
+  StringLit,
+  EntityLit,
+  bare_literal,
+  is_entity_literal,
+  literal_place,
+  literal_text,
+};
+ghost use Rattle.cedar_terms.specs.LiteralOrder.{
+  literal_eq,
+  literal_eq_equiv,
+  literal_cmp,
+  literal_cmp_total,
+  literal_ties,
+  literal_po,
+  literal_fed,
+  literal_fed-alike,
+  literal_number,
+};
 
 use crate::entity::EntityUID;
 use crate::escape::Escaped;
@@ -17,8 +36,8 @@ use std::fmt;
 use std::hash::{Hash, Hasher};
 use std::rc::{Rc, RcStr};
 
-/// A first-class value that may stand as a literal. Literals of different kinds are not equal, and order as the kinds
-/// stand here.
+/// A first-class value that may stand as a literal. Literals of different kinds are not equal, and
+/// order as the kinds stand here.
 #[derive(Debug, Drop)]
 pub enum Literal {
     /// A Boolean.

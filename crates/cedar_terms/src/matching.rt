@@ -51,8 +51,8 @@ impl Pattern {
 
     /// The same, with the number of turns that it took, whatever `turns` held.
     ///
-    /// Where the text goes on after a mismatch, the loop goes back to the latest wildcard alone. So a text of n characters and
-    /// a pattern of m elements take at most `n * (m + 1)` turns.
+    /// Where the text goes on after a mismatch, the loop goes back to the latest wildcard alone. So
+    /// a text of n characters and a pattern of m elements take at most `n * (m + 1)` turns.
     pub fn wildcard_match_counted(&self, text: &str, turns: &mut Turns) -> bool
         ensures decides { IsTrue result ↔ Matches self.now (chars text.now) }
         ensures value { result ≡ matches self.now (chars text.now) }
@@ -65,8 +65,8 @@ impl Pattern {
     }
 }
 
-// Whether the elements match the text, and how many passages of the loop that took. What is left to match is kept beside the
-// place to go back to, which is behind the latest wildcard.
+// Whether the elements match the text, and how many passages of the loop that took. What is left to
+// match is kept beside the place to go back to, which is behind the latest wildcard.
 fn match_counted(pattern: &[PatternElem], text: &str) -> (bool, u128)
     ensures answer { result.0 ≡ matches pattern.now (chars text.now) }
     ensures bound { result.1 ≤ length (chars text.now) * (length pattern.now + 1) }

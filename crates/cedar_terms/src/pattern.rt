@@ -8,7 +8,16 @@ ghost use Rattle.std.specs.Cmp.{partial_equiv_from_equiv};
 ghost use Rattle.std.specs.Slice.Iter.{iter_rest};
 ghost use Rattle.std.specs.Str.{encode_utf8_all};
 ghost use Rattle.cedar_terms.specs.Patterns.{elem_text, pattern_text};
-ghost use Rattle.cedar_terms.specs.PatternOrder.{pattern_eq, pattern_eq_equiv, pattern_cmp, pattern_cmp_total, pattern_ties, pattern_po, pattern_fed, pattern_fed-alike};
+ghost use Rattle.cedar_terms.specs.PatternOrder.{
+  pattern_eq,
+  pattern_eq_equiv,
+  pattern_cmp,
+  pattern_cmp_total,
+  pattern_ties,
+  pattern_po,
+  pattern_fed,
+  pattern_fed-alike,
+};
 
 use crate::escape::EscapedChar;
 use std::alloc::{AllocError, Global};

@@ -1,7 +1,14 @@
 //! Types as a schema has them (what Cedar's file `extension.rs` asks of them).
 ghost use Rattle.std.specs.Prelude.{◌≡◌, ◌++◌, IfOk, OnOk};
 ghost use Rattle.cedar_terms.specs.Types.{bare_type};
-ghost use Rattle.cedar_terms.specs.SchemaTypes.{bare_attributes, bare_names, bare_schema_type, attribute_extension_names, extension_names, value_type};
+ghost use Rattle.cedar_terms.specs.SchemaTypes.{
+  bare_attributes,
+  bare_names,
+  bare_schema_type,
+  attribute_extension_names,
+  extension_names,
+  value_type,
+};
 
 use crate::entity::EntityType;
 use crate::types::Type;
@@ -11,7 +18,8 @@ use std::boxed::Box;
 use std::collections::BTreeMap;
 use std::rc::RcStr;
 
-/// A type as a schema has it: a set knows the type of its members, a record those of its attributes.
+/// A type as a schema has it: a set knows the type of its members, a record those of its
+/// attributes.
 #[derive(Debug, PartialEq, Eq, Drop)]
 pub enum SchemaType {
     /// Booleans.
@@ -53,8 +61,7 @@ impl SchemaType {
             SchemaType::Bool => Ok(Type::Bool),
             SchemaType::Long => Ok(Type::Long),
             SchemaType::String => Ok(Type::String),
-            SchemaType::Set { .. } => Ok(Type::Set),
-            SchemaType::EmptySet => Ok(Type::Set),
+            SchemaType::Set { .. } | SchemaType::EmptySet => Ok(Type::Set),
             SchemaType::Record { .. } => Ok(Type::Record),
             SchemaType::Entity { ty } => {
                 let ty = ty.clone(alloc)?;
@@ -74,9 +81,11 @@ impl SchemaType {
         clone_schema_type(alloc, self)
     }
 
-    /// The names of the extension types inside, from the outermost inwards, attributes by key. Repeats are kept.
+    /// The names of the extension types inside, from the outermost inwards, attributes by key.
+    /// Repeats are kept.
     pub fn contained_ext_types(&self, alloc: Global) -> Result<Vec<Name>, AllocError>
-        ensures { IfOk result (λ names. bare_names names.items ≡ extension_names (bare_schema_type self.now)) }
+        ensures { IfOk result (λ names.
+            bare_names names.items ≡ extension_names (bare_schema_type self.now)) }
     {
         let mut names = Vec::new(alloc);
         push_ext_types(alloc, self, &mut names)?;
@@ -120,7 +129,8 @@ fn clone_attributes(
     alloc: Global,
     attrs: &BTreeMap<RcStr, SchemaType>,
 ) -> Result<BTreeMap<RcStr, SchemaType>, AllocError>
-    ensures { IfOk result (λ copy. bare_attributes copy.entries ≡ bare_attributes attrs.now.entries) }
+    ensures { IfOk result (λ copy.
+        bare_attributes copy.entries ≡ bare_attributes attrs.now.entries) }
 {
     let mut copy = BTreeMap::new(alloc);
     for (key, ty) in attrs.iter() {
@@ -133,7 +143,9 @@ fn clone_attributes(
 // Adds the names of the extension types inside.
 #[cycle(ext_types)]
 fn push_ext_types(alloc: Global, ty: &SchemaType, names: &mut Vec<Name>) -> Result<(), AllocError>
-    ensures { OnOk result (bare_names names.new.items ≡ bare_names names.old.items ++ extension_names (bare_schema_type ty.now)) }
+    ensures { OnOk result (
+        bare_names names.new.items ≡
+        bare_names names.old.items ++ extension_names (bare_schema_type ty.now)) }
 {
     match ty {
         SchemaType::Set { element_ty } => push_ext_types(alloc, element_ty, names),
@@ -142,11 +154,7 @@ fn push_ext_types(alloc: Global, ty: &SchemaType, names: &mut Vec<Name>) -> Resu
             names.push(name.clone(alloc)?)?;
             Ok(())
         }
-        SchemaType::Bool => Ok(()),
-        SchemaType::Long => Ok(()),
-        SchemaType::String => Ok(()),
-        SchemaType::EmptySet => Ok(()),
-        SchemaType::Entity { .. } => Ok(()),
+        _ => Ok(()),
     }
 }
 
@@ -156,7 +164,10 @@ fn push_attribute_ext_types(
     attrs: &BTreeMap<RcStr, SchemaType>,
     names: &mut Vec<Name>,
 ) -> Result<(), AllocError>
-    ensures { OnOk result (bare_names names.new.items ≡ bare_names names.old.items ++ attribute_extension_names (bare_attributes attrs.now.entries)) }
+    ensures { OnOk result (
+        bare_names names.new.items ≡
+        bare_names names.old.items ++
+        attribute_extension_names (bare_attributes attrs.now.entries)) }
 {
     for (_key, ty) in attrs.iter() {
         push_ext_types(alloc, ty, names)?;

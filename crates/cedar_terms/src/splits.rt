@@ -6,7 +6,8 @@ ghost use Rattle.cedar_terms.specs.Patterns.{matches};
 use crate::pattern::PatternElem;
 use crate::text::first_char;
 
-// Whether the elements match the text, by trying every split at each wildcard, and how many steps that took.
+// Whether the elements match the text, by trying every split at each wildcard, and how many steps
+// that took.
 pub(crate) fn try_splits(pattern: &[PatternElem], text: &str) -> (bool, u128)
     ensures { result.0 ≡ matches pattern.now (chars text.now) }
 {

@@ -226,7 +226,8 @@ fn turns_of_matches(rt: HostRuntime) -> Result<(), Fail> {
     Ok(())
 }
 
-// Where the loop goes back to the latest wildcard alone, trying every split takes more steps than the bound has turns.
+// Where the loop goes back to the latest wildcard alone, trying every split takes more steps than
+// the bound has turns.
 #[test]
 fn turns_beside_every_split(rt: HostRuntime) -> Result<(), Fail> {
     let p = pattern(&rt, "*a*a*b")?;
@@ -263,8 +264,8 @@ fn matches_of_long_texts(rt: HostRuntime) -> Result<(), Fail> {
     Ok(())
 }
 
-// Whether the elements match the text: after each element, the lengths of the beginnings of the text that the elements
-// so far match.
+// Whether the elements match the text: after each element, the lengths of the beginnings of the
+// text that the elements so far match.
 fn matches_by_lengths(rt: &HostRuntime, elems: &[PatternElem], text: &str) -> Result<bool, Fail> {
     let mut reached = Vec::from_array(rt.alloc(), [true])?;
     for _c in text.chars() {

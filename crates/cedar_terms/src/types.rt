@@ -5,8 +5,26 @@ ghost use Rattle.std.specs.Ordering.{as_partial_cmp, on};
 ghost use Rattle.cedar_names.specs.PlainNames.{bare_name, name_place};
 ghost use Rattle.cedar_terms.specs.Entities.{bare_entity_uid};
 ghost use Rattle.cedar_terms.specs.Literals.{bare_literal};
-ghost use Rattle.cedar_terms.specs.Types.{BareType, EntityOfType, bare_type, entity_uid_type, literal_type, type_place, type_text};
-ghost use Rattle.cedar_terms.specs.TypeOrder.{type_number, type_eq, type_eq_equiv, type_cmp, type_cmp_total, type_ties, type_po, type_fed, type_fed-alike};
+ghost use Rattle.cedar_terms.specs.Types.{
+  BareType,
+  EntityOfType,
+  bare_type,
+  entity_uid_type,
+  literal_type,
+  type_place,
+  type_text,
+};
+ghost use Rattle.cedar_terms.specs.TypeOrder.{
+  type_number,
+  type_eq,
+  type_eq_equiv,
+  type_cmp,
+  type_cmp_total,
+  type_ties,
+  type_po,
+  type_fed,
+  type_fed-alike,
+};
 
 use crate::entity::{EntityType, EntityUID};
 use crate::literal::Literal;
@@ -16,8 +34,9 @@ use std::cmp::Ordering;
 use std::fmt;
 use std::hash::{Hash, Hasher};
 
-/// The type of a value at run time. Two entity types are equal where their names are; an entity type and an extension
-/// type never are. Types order as the kinds stand here, then by name.
+/// The type of a value at run time. Two entity types are equal where their names are; an entity
+/// type
+/// and an extension type never are. Types order as the kinds stand here, then by name.
 #[derive(Debug, Drop)]
 pub enum Type {
     /// A Boolean.

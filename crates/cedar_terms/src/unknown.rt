@@ -4,14 +4,24 @@ ghost use Rattle.std.specs.Cmp.{partial_equiv_from_equiv, on_equiv};
 ghost use Rattle.std.specs.Ordering.{on};
 ghost use Rattle.std.specs.Rc.{rc_str_bytes};
 ghost use Rattle.cedar_terms.specs.Types.{bare_type, type_place};
-ghost use Rattle.cedar_terms.specs.Unknowns.{annotation_place, bare_annotation, bare_unknown, unknown_place, unknown_eq, unknown_eq_equiv, unknown_fed, unknown_fed-alike};
+ghost use Rattle.cedar_terms.specs.Unknowns.{
+  annotation_place,
+  bare_annotation,
+  bare_unknown,
+  unknown_place,
+  unknown_eq,
+  unknown_eq_equiv,
+  unknown_fed,
+  unknown_fed-alike,
+};
 
 use crate::types::Type;
 use std::alloc::{AllocError, Global};
 use std::hash::{Hash, Hasher};
 use std::rc::RcStr;
 
-/// A value that is not known yet. Unknowns are equal where both their names and their annotations are.
+/// A value that is not known yet. Unknowns are equal where both their names and their annotations
+/// are.
 #[derive(Debug, Drop)]
 pub struct Unknown {
     /// The name.
@@ -33,7 +43,8 @@ impl Unknown {
 
     /// The unknown of this name, which values of this type may replace.
     pub fn new_with_type(name: RcStr, ty: Type) -> Unknown
-        ensures bare { bare_unknown result ≡ record { name = rc_str_bytes name; annotation = Some (bare_type ty) } }
+        ensures bare { bare_unknown result ≡
+            record { name = rc_str_bytes name; annotation = Some (bare_type ty) } }
         ensures place { unknown_place result ≡ type_place ty }
     {
         Unknown {
