@@ -12,7 +12,8 @@ is_control c = nat_lt c 0x20 || c == 0x7F
 abbrev pub hexadecimal : ℕ → List ℕ
 hexadecimal c = digits 16 false c
 
--- the escape of a character, as Rust's `char::escape_debug` has it for ASCII; past ASCII a character stands as itself
+-- the escape of a character, as Rust's `char::escape_debug` has it for ASCII; past ASCII a
+-- character stands as itself
 abbrev pub escape_char : ℕ → List ℕ
 escape_char c =
     if c == 0 then codes "\\0" else

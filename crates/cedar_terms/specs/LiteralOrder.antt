@@ -1,4 +1,5 @@
--- Literals compare by kind, in the order Bool, Long, String, EntityUID, and within a kind by what they hold.
+-- Literals compare by kind, in the order Bool, Long, String, EntityUID, and within a kind by what
+-- they hold.
 use Rattle.std.specs.Prelude.{◌≡◌, ℕ, Bool, true, false, ◌++◌, nat_eq, refl}
 use Rattle.std.specs.Bool.{Decides}
 use Rattle.std.specs.Cmp.{IsEquivalence, IsTotalOrder, IsPartialOrder, decided, po, bool_cmp_total, int_cmp_total, booleans_Decides, signed_Decides, nat_cmp_is, ranked}

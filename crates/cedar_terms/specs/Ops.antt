@@ -1,4 +1,5 @@
--- The texts and the places in their orders of operators and variables (Cedar's files `ops.rs` and `expr.rs`).
+-- The texts and the places in their orders of operators and variables (Cedar's files `ops.rs` and
+-- `expr.rs`).
 use Rattle.std.specs.Prelude.{ℕ, List, codes}
 use Rattle.cedar_names.specs.declared.slot.PrincipalOrResource.{PrincipalOrResource}
 use Rattle.cedar_names.specs.declared.slot.PrincipalOrResource.TheVariants as Scope

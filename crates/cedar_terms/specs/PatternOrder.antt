@@ -1,4 +1,5 @@
--- How patterns compare: element by element, where characters order by code and a wildcard stands behind each of them.
+-- How patterns compare: element by element, where characters order by code and a wildcard stands
+-- behind each of them.
 use Rattle.std.specs.Prelude.{◌≡◌, Bool, true, false, List, ◌++◌, pos, nat_eq, refl}
 use Rattle.std.specs.Bool.{Decides}
 use Rattle.std.specs.declared.cmp.Ordering.{Ordering}

@@ -1,12 +1,13 @@
--- What a pattern of `like` matches, and its text (Cedar's file `pattern.rs`). A bare pattern is the list of its elements.
+-- What a pattern of `like` matches, and its text (Cedar's file `pattern.rs`). A bare pattern is the
+-- list of its elements.
 use Rattle.std.specs.Prelude.{◌≡◌, ℕ, List, [], ◌∷◌, ◌++◌, Bool, true, false, ◌&&◌, ◌||◌, ◌==◌, if◌then◌else◌, codes}
 use Rattle.std.specs.List.{flat_map}
 use Rattle.cedar_terms.specs.declared.pattern.PatternElem.{PatternElem}
 use Rattle.cedar_terms.specs.declared.pattern.PatternElem.TheVariants.{Char, Wildcard}
 use Rattle.cedar_terms.specs.Escape.{escape_char}
 
--- the empty pattern matches the empty text alone, a character a text that begins with it, and a wildcard any text
--- with a split whose second part the rest matches
+-- the empty pattern matches the empty text alone, a character a text that begins with it, and a
+-- wildcard any text with a split whose second part the rest matches
 abbrev pub Matches : List PatternElem → List ℕ → Type 0
 Matches [] t = t ≡ []
 Matches (Char c ∷ q) t = (s : List ℕ) × (t ≡ c ∷ s) × Matches q s

@@ -60,7 +60,8 @@ value_type (SchemaRecord a) = RecordType
 value_type (SchemaEntity n) = EntityOfType n
 value_type (SchemaExtension n) = ExtensionType n
 
--- the names of the extension types inside, from the outermost inwards, attributes by key; repeats are kept
+-- the names of the extension types inside, from the outermost inwards, attributes by key; repeats
+-- are kept
 abbrev mutual
   pub extension_names : BareSchemaType → List BareName
   extension_names (SchemaSet t) = extension_names t

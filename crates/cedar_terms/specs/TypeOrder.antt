@@ -1,4 +1,5 @@
--- Types compare by kind, in the order Bool, Long, String, Set, Record, Entity, Extension, then by the name within.
+-- Types compare by kind, in the order Bool, Long, String, Set, Record, Entity, Extension, then by
+-- the name within.
 use Rattle.std.specs.Prelude.{◌≡◌, ℕ, Bool, true, [], ◌++◌, nat_eq, Option, Some, None, refl}
 use Rattle.std.specs.Bool.{Decides}
 use Rattle.std.specs.Cmp.{IsEquivalence, IsTotalOrder, IsPartialOrder, decided, then_total, on_total, po, both_tied, nat_cmp_total, unsigned_ties, unsigned_Decides}

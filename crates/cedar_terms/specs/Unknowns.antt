@@ -1,5 +1,5 @@
 -- Unknowns without places (Cedar's file `expr.rs`).
-use Rattle.std.specs.Prelude.{◌≡◌, ℕ, List, Bool, true, Option, Some, None, nat_eq, refl, ◌++◌}
+use Rattle.std.specs.Prelude.{◌≡◌, ℕ, List, Bool, true, Option, nat_eq, ◌++◌}
 use Rattle.std.specs.Bool.{Decides}
 use Rattle.std.specs.Cmp.{IsEquivalence, decided}
 use Rattle.std.specs.Cmp.Lexicographic.{pointwise, bytes_decides}
@@ -26,7 +26,10 @@ pub record BareUnknown : Type 0 where
   pub annotation : Option BareType
 
 abbrev pub bare_unknown : Unknown → BareUnknown
-bare_unknown u = record { name = rc_str_bytes u.name; annotation = bare_annotation u.type_annotation }
+bare_unknown u = record {
+  name = rc_str_bytes u.name;
+  annotation = bare_annotation u.type_annotation;
+}
 
 -- the place of the name in the annotation, if there is one
 abbrev pub annotation_place : Option «Type» → Option Place
@@ -37,7 +40,8 @@ unknown_place u = annotation_place u.type_annotation
 
 -- unknowns are equal where names and annotations are
 abbrev pub unknown_eq : BareUnknown → BareUnknown → Bool
-unknown_eq = eq_of_both (on (λ u. u.name) (pointwise nat_eq)) (on (λ u. u.annotation) (option_eq type_eq))
+unknown_eq =
+    eq_of_both (on (λ u. u.name) (pointwise nat_eq)) (on (λ u. u.annotation) (option_eq type_eq))
 
 abbrev pub unknown_fed : BareUnknown → HashWrites
 unknown_fed u = fed.str u.name ++ fed.option type_fed u.annotation

@@ -168,14 +168,8 @@ impl Literal {
         match self {
             Literal::Bool(b) => Ok(Literal::Bool(*b)),
             Literal::Long(n) => Ok(Literal::Long(*n)),
-            Literal::String(s) => {
-                let text = s.clone()?;
-                Ok(Literal::String(text))
-            }
-            Literal::EntityUID(uid) => {
-                let uid = uid.clone()?;
-                Ok(Literal::EntityUID(uid))
-            }
+            Literal::String(s) => Ok(Literal::String(s.clone()?)),
+            Literal::EntityUID(uid) => Ok(Literal::EntityUID(uid.clone()?)),
         }
     }
 

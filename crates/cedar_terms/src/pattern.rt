@@ -18,6 +18,7 @@ ghost use Rattle.cedar_terms.specs.PatternOrder.{
   pattern_fed,
   pattern_fed-alike,
 };
+ghost use Rattle.cedar_terms.specs.declared.pattern.PatternElem.{PatternElem};
 
 use crate::escape::EscapedChar;
 use std::alloc::{AllocError, Global};
@@ -43,9 +44,6 @@ pub struct Pattern {
 }
 
 impl Model for Pattern {
-    ghost use Rattle.std.specs.Prelude.{List};
-    ghost use Rattle.cedar_terms.specs.declared.pattern.PatternElem.{PatternElem};
-
     ghost Value = { List PatternElem };
 
     ghost view = { λ p. p.elems.value.items };

@@ -63,14 +63,12 @@ impl SchemaType {
             SchemaType::String => Ok(Type::String),
             SchemaType::Set { .. } | SchemaType::EmptySet => Ok(Type::Set),
             SchemaType::Record { .. } => Ok(Type::Record),
-            SchemaType::Entity { ty } => {
-                let ty = ty.clone(alloc)?;
-                Ok(Type::Entity { ty })
-            }
-            SchemaType::Extension { name } => {
-                let name = name.clone(alloc)?;
-                Ok(Type::Extension { name })
-            }
+            SchemaType::Entity { ty } => Ok(Type::Entity {
+                ty: ty.clone(alloc)?,
+            }),
+            SchemaType::Extension { name } => Ok(Type::Extension {
+                name: name.clone(alloc)?,
+            }),
         }
     }
 
@@ -112,14 +110,12 @@ fn clone_schema_type(alloc: Global, ty: &SchemaType) -> Result<SchemaType, Alloc
             let attrs = clone_attributes(alloc, attrs)?;
             Ok(SchemaType::Record { attrs })
         }
-        SchemaType::Entity { ty } => {
-            let ty = ty.clone(alloc)?;
-            Ok(SchemaType::Entity { ty })
-        }
-        SchemaType::Extension { name } => {
-            let name = name.clone(alloc)?;
-            Ok(SchemaType::Extension { name })
-        }
+        SchemaType::Entity { ty } => Ok(SchemaType::Entity {
+            ty: ty.clone(alloc)?,
+        }),
+        SchemaType::Extension { name } => Ok(SchemaType::Extension {
+            name: name.clone(alloc)?,
+        }),
     }
 }
 

@@ -82,14 +82,12 @@ impl Type {
             Type::String => Ok(Type::String),
             Type::Set => Ok(Type::Set),
             Type::Record => Ok(Type::Record),
-            Type::Entity { ty } => {
-                let ty = ty.clone(alloc)?;
-                Ok(Type::Entity { ty })
-            }
-            Type::Extension { name } => {
-                let name = name.clone(alloc)?;
-                Ok(Type::Extension { name })
-            }
+            Type::Entity { ty } => Ok(Type::Entity {
+                ty: ty.clone(alloc)?,
+            }),
+            Type::Extension { name } => Ok(Type::Extension {
+                name: name.clone(alloc)?,
+            }),
         }
     }
 
