@@ -9,8 +9,9 @@ const RESTART_SIZES: [usize; 4] = [1_000, 3_000, 10_000, 30_000];
 
 const USUAL_SIZES: [usize; 1] = [100_000];
 
-// How often one of the usual patterns matches one of the usual texts. Of the texts, 33,334 are of pictures, 33,333 of logs; the
-// first three patterns match all of one kind, and the last the 3,666 pictures whose user's number begins with 7.
+// How often one of the usual patterns matches one of the usual texts. Of the texts, 33,334 are of
+// pictures, 33,333 of logs; the first three patterns match all of one kind, and the last the 3,666
+// pictures whose user's number begins with 7.
 const USUAL_MATCHES: u64 = 103_666;
 
 /// The cases of patterns.
