@@ -2,11 +2,6 @@
 //! that it asks for.
 #![tactic(auto)]
 
-#[cfg(test)]
-mod raw;
-#[cfg(test)]
-mod tests;
-
 use cedar_script::run::run;
 use std::io;
 use std::process::ExitCode;

@@ -1,0 +1,9 @@
+mod building;
+mod constructors;
+mod laws;
+mod refuse_calls;
+mod restricted;
+mod samples;
+mod stored;
+mod substitution;
+mod typed;
