@@ -1,7 +1,6 @@
 //! The cases of `cedar_script`.
 use crate::case::{BenchFault, CaseFault, Visit};
-use cedar_script::RunFault;
-use cedar_script::run::run;
+use cedar_script::{RunFault, run};
 use std::alloc::Global;
 
 const LINES: [usize; 3] = [1_000, 10_000, 100_000];

@@ -2,7 +2,7 @@
 //! that it asks for.
 #![tactic(auto)]
 
-use cedar_script::run::run;
+use cedar_script::run;
 use std::io;
 use std::process::ExitCode;
 

@@ -1,3 +1,3 @@
-pub mod Tops
+pub mod Stacks
 pub mod Pairs
 pub mod Spelling

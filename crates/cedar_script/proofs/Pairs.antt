@@ -1,10 +1,10 @@
--- Keys with the expressions at their places.
+-- Keys with the expressions at their indices.
 use Rattle.std.proofs.Common.{◌≡◌, List, [], ◌∷◌, ◌++◌, ◌⊎◌, inl, inr, refl, sym, ap, ◌∙◌, length, arith}
 use Rattle.std.specs.Borrow.{Bor}
 use Rattle.std.proofs.lemmas.List.{append-nil}
 use Rattle.cedar_builders.specs.BareExpr.{Text}
 use Rattle.cedar_exprs.specs.declared.expr.Expr.{Expr}
-use Rattle.cedar_script.specs.Commands.{key_pairs}
+use Rattle.cedar_script.specs.CommandEffects.{key_pairs}
 
 none_left : (keys : List (Bor Text)) (exprs : List (Expr Unit)) → (length keys ≡ 0) ⊎ (length exprs ≡ 0) → key_pairs keys exprs ≡ []
 none_left [] exprs h = refl

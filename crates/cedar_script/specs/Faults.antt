@@ -2,8 +2,8 @@
 use Rattle.std.specs.Prelude.{◌≡◌, ◌≢◌, ℕ, ⊤}
 use Rattle.cedar_script.specs.declared.refusal.Refusal.{Refusal}
 use Rattle.cedar_script.specs.declared.refusal.Refusal.TheVariants.{Memory as no_memory}
-use Rattle.cedar_script.specs.declared.run.RunFault.{RunFault}
-use Rattle.cedar_script.specs.declared.run.RunFault.TheVariants.{Line, Input, Output, Memory}
+use Rattle.cedar_script.specs.declared.script.RunFault.{RunFault}
+use Rattle.cedar_script.specs.declared.script.RunFault.TheVariants.{Line, Input, Output, Memory}
 
 -- 1 where the script is at fault, 2 where its surroundings are
 abbrev pub status_of : RunFault → ℕ

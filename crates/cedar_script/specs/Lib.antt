@@ -2,7 +2,7 @@ pub mod Faults
 pub mod Refusals
 pub mod Words
 pub mod Patterns
+pub mod CommandWords
 pub mod Stack
-pub mod Sketch
-pub mod Commands
-pub mod Reading
+pub mod SketchTexts
+pub mod CommandEffects

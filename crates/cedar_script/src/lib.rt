@@ -1,12 +1,13 @@
-//! The language of scripts: lines that make, bind, substitute and show expressions, and `Sketch`, the builder of texts that shows them.
+//! The language of scripts: lines that make, bind, substitute and show expressions, and `Sketch`,
+//! the builder of texts that shows them.
 #![tactic(auto)]
 
 mod line;
 mod pattern;
 mod refusal;
-pub mod run;
-pub mod sketch;
+mod script;
+mod sketch;
 mod work;
 
-pub use run::RunFault;
+pub use script::{RunFault, run};
 pub use sketch::{SExpression, Sketch};

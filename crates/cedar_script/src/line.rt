@@ -1,7 +1,7 @@
 //! The lines of the script, read as commands.
 ghost use Rattle.std.specs.Prelude.{◌≡◌, ◌≢◌, ◌^◌, ◌<◌, ◌==◌, ◌⊎◌, ◌∷◌, IfOk, OnErr, IfErr, false, slice_index};
 ghost use Rattle.std.specs.Result.{OkIff};
-ghost use Rattle.std.specs.Str.Parse.{IsNumeral, digits_value, signed_digits_value};
+ghost use Rattle.std.specs.Str.Parse.{digits_value, signed_digits_value};
 ghost use Rattle.cedar_names.specs.Names.{IsNameOf, has_reserved};
 ghost use Rattle.cedar_names.specs.PlainNames.{bare_name};
 ghost use Rattle.cedar_names.specs.Slots.{slot_text};
@@ -10,11 +10,10 @@ ghost use Rattle.cedar_terms.specs.Ops.{binary_op_text, var_text};
 ghost use Rattle.cedar_terms.specs.Types.{bare_type, type_text};
 ghost use Rattle.cedar_terms.specs.declared.ops.BinaryOp.{BinaryOp};
 ghost use Rattle.cedar_terms.specs.declared.var.Var.{Var};
-ghost use Rattle.cedar_script.specs.Commands.{texts_now};
-ghost use Rattle.cedar_script.specs.Reading.{Spells};
-ghost use Rattle.cedar_script.specs.Words.{IsNoName, WritesLong};
+ghost use Rattle.cedar_script.specs.CommandWords.{texts_now, Spells};
+ghost use Rattle.cedar_script.specs.Words.{IsNoName, WritesCount, WritesLong};
 
-use crate::pattern::read_pattern;
+use crate::pattern::parse_pattern;
 use crate::refusal::Refusal;
 use cedar_names::{FromNormalizedStr as _, Name, NonEmpty, ParseErrors, SlotId};
 use cedar_terms::{BinaryOp, EntityType, Pattern, Type, UnaryOp, Var};
@@ -33,13 +32,16 @@ pub enum Command<'a> {
     Var(Var),
     /// Pushes a slot.
     Slot(SlotId),
-    /// Pushes the unknown of this name, which values of the type may replace, or any where none is given.
+    /// Pushes the unknown of this name, which values of the type may replace, or any where none is
+    /// given.
     Unknown(&'a str, Option<Type>),
     /// Takes a test and two branches, and pushes their conditional.
     If,
-    /// Takes two expressions and pushes their conjunction, simplified where both are Boolean literals.
+    /// Takes two expressions and pushes their conjunction, simplified where both are Boolean
+    /// literals.
     And,
-    /// Takes two expressions and pushes their disjunction, simplified where both are Boolean literals.
+    /// Takes two expressions and pushes their disjunction, simplified where both are Boolean
+    /// literals.
     Or,
     /// Takes two expressions and pushes the node of their conjunction.
     RawAnd,
@@ -49,7 +51,8 @@ pub enum Command<'a> {
     Unary(UnaryOp),
     /// Takes two expressions and pushes the operator applied to them.
     Binary(BinaryOp),
-    /// Takes this many expressions and pushes the call of the function on them, the lowest as the first argument.
+    /// Takes this many expressions and pushes the call of the function on them, the lowest as the
+    /// first argument.
     Call(Name, usize),
     /// Takes an expression and pushes its attribute.
     Get(&'a str),
@@ -78,38 +81,38 @@ pub enum Command<'a> {
 impl<'a> Command<'a> {
     /// Reads the text of a line that is not empty.
     ///
-    /// Words are separated by one space each, and none is empty; after `string` and `like` the rest of the line is taken as
-    /// it is. What is no command is a bad line.
+    /// Words are separated by one space each, and none is empty; after `string` and `like` the rest
+    /// of the line is taken as it is. What is no command is a bad line.
     pub fn parse(alloc: Global, text: &'a str) -> Result<Command<'a>, Refusal>
         ensures { IfErr result (λ e. (e ≡ Refusal.BadLine) ⊎ (e ≡ Refusal.Memory)) }
     {
         match text.split_once(' ') {
             Some(("string", rest)) => return Ok(Command::String(rest)),
-            Some(("like", rest)) => return Ok(Command::Like(read_pattern(alloc, rest)?)),
+            Some(("like", rest)) => return Ok(Command::Like(parse_pattern(alloc, rest)?)),
             _ => {}
         }
         let words: Vec<&str> = text.split(' ').collect(alloc)?;
         if words.iter().any(|word| word.is_empty()) {
             return Err(Refusal::BadLine);
         }
-        of_words(alloc, &words)
+        parse_words(alloc, &words)
     }
 }
 
 // The command that words spell, none of which is empty.
-fn of_words<'a>(alloc: Global, words: &[&'a str]) -> Result<Command<'a>, Refusal>
+fn parse_words<'a>(alloc: Global, words: &[&'a str]) -> Result<Command<'a>, Refusal>
     ensures spelled { IfOk result (λ command. Spells command (texts_now words.now)) }
     ensures refused { IfErr result (λ e. (e ≡ Refusal.BadLine) ⊎ (e ≡ Refusal.Memory)) }
 {
     match words {
         ["bool", "true"] => Ok(Command::Bool(true)),
         ["bool", "false"] => Ok(Command::Bool(false)),
-        ["long", number] => Ok(Command::Long(long(number)?)),
+        ["long", number] => Ok(Command::Long(parse_long(number)?)),
         ["string"] => Ok(Command::String("")),
-        ["var", name] => Ok(Command::Var(variable(name)?)),
-        ["slot", name] => Ok(Command::Slot(slot(name)?)),
+        ["var", name] => Ok(Command::Var(parse_var(name)?)),
+        ["slot", name] => Ok(Command::Slot(parse_slot(name)?)),
         ["unknown", name] => Ok(Command::Unknown(name, None)),
-        ["unknown", name, ty] => Ok(Command::Unknown(name, Some(annotation(ty)?))),
+        ["unknown", name, ty] => Ok(Command::Unknown(name, Some(parse_type(ty)?))),
         ["if"] => Ok(Command::If),
         ["and"] => Ok(Command::And),
         ["or"] => Ok(Command::Or),
@@ -118,7 +121,7 @@ fn of_words<'a>(alloc: Global, words: &[&'a str]) -> Result<Command<'a>, Refusal
         ["!"] => Ok(Command::Unary(UnaryOp::Not)),
         ["neg"] => Ok(Command::Unary(UnaryOp::Neg)),
         ["isEmpty"] => Ok(Command::Unary(UnaryOp::IsEmpty)),
-        ["call", name, number] => Ok(Command::Call(read_name(alloc, name)?, count(number)?)),
+        ["call", name, number] => Ok(Command::Call(parse_name(alloc, name)?, parse_count(number)?)),
         ["get", attribute] => Ok(Command::Get(attribute)),
         ["has", attribute] => Ok(Command::Has(attribute)),
         ["exthas", first, later @ ..] => {
@@ -126,20 +129,20 @@ fn of_words<'a>(alloc: Global, words: &[&'a str]) -> Result<Command<'a>, Refusal
             Ok(Command::ExtHas(NonEmpty::new(*first, later)))
         }
         ["like"] => Ok(Command::Like(Pattern::from_vec(alloc, Vec::new(alloc))?)),
-        ["is", name] => Ok(Command::Is(EntityType::from(read_name(alloc, name)?))),
-        ["set", number] => Ok(Command::Set(count(number)?)),
+        ["is", name] => Ok(Command::Is(EntityType::from(parse_name(alloc, name)?))),
+        ["set", number] => Ok(Command::Set(parse_count(number)?)),
         ["record", keys @ ..] => Ok(Command::Record(keys.to_vec(alloc)?)),
         ["bind", name] => Ok(Command::Bind(name)),
         ["substitute"] => Ok(Command::Substitute),
         ["typed"] => Ok(Command::Typed),
         ["show"] => Ok(Command::Show),
-        [operator] => Ok(Command::Binary(binary_operator(operator)?)),
+        [operator] => Ok(Command::Binary(parse_binary_op(operator)?)),
         _ => Err(Refusal::BadLine),
     }
 }
 
 // The integer that a word writes: an optional minus and one or more digits, within 64 bits signed.
-fn long(word: &str) -> Result<i64, Refusal>
+fn parse_long(word: &str) -> Result<i64, Refusal>
     ensures number { OkIff result (WritesLong word.now) (signed_digits_value 10 word.now) }
     ensures refused { IfErr result (λ e. e ≡ Refusal.BadLine) }
 {
@@ -150,8 +153,8 @@ fn long(word: &str) -> Result<i64, Refusal>
 }
 
 // The count that a word writes: one or more digits, within 64 bits unsigned.
-fn count(word: &str) -> Result<usize, Refusal>
-    ensures number { OkIff result (IsNumeral 10 word.now × (digits_value 10 word.now < 2 ^ 64)) (digits_value 10 word.now) }
+fn parse_count(word: &str) -> Result<usize, Refusal>
+    ensures number { OkIff result (WritesCount word.now) (digits_value 10 word.now) }
     ensures refused { IfErr result (λ e. e ≡ Refusal.BadLine) }
 {
     if starts_with_plus(word) {
@@ -168,7 +171,7 @@ fn starts_with_plus(word: &str) -> bool
 }
 
 // The variable that has this text.
-fn variable(word: &str) -> Result<Var, Refusal>
+fn parse_var(word: &str) -> Result<Var, Refusal>
     ensures named { IfOk result (λ var. word.now ≡ var_text var) }
     ensures every { OnErr result ((var : Var) → word.now ≢ var_text var) }
     ensures refused { IfErr result (λ e. e ≡ Refusal.BadLine) }
@@ -183,7 +186,7 @@ fn variable(word: &str) -> Result<Var, Refusal>
 }
 
 // The slot that has this text behind a question mark.
-fn slot(word: &str) -> Result<SlotId, Refusal>
+fn parse_slot(word: &str) -> Result<SlotId, Refusal>
     ensures named { IfOk result (λ slot. 63 ∷ word.now ≡ slot_text slot) }
     ensures every { OnErr result ((slot : SlotId) → 63 ∷ word.now ≢ slot_text slot) }
     ensures refused { IfErr result (λ e. e ≡ Refusal.BadLine) }
@@ -196,7 +199,7 @@ fn slot(word: &str) -> Result<SlotId, Refusal>
 }
 
 // The name that a word writes in its normalized form.
-fn read_name(alloc: Global, word: &str) -> Result<Name, Refusal>
+fn parse_name(alloc: Global, word: &str) -> Result<Name, Refusal>
     ensures read { IfOk result (λ name. IsNameOf word.now (bare_name name)) }
     ensures allowed { IfOk result (λ name. has_reserved (bare_name name) ≡ false) }
     ensures refused { IfErr result (λ e. (e ≡ Refusal.BadLine) ⊎ (e ≡ Refusal.Memory)) }
@@ -211,7 +214,7 @@ fn read_name(alloc: Global, word: &str) -> Result<Name, Refusal>
 }
 
 // The type without a name of its own that has this text.
-fn annotation(word: &str) -> Result<Type, Refusal>
+fn parse_type(word: &str) -> Result<Type, Refusal>
     ensures named { IfOk result (λ ty. word.now ≡ type_text (bare_type ty)) }
     ensures refused { IfErr result (λ e. e ≡ Refusal.BadLine) }
 {
@@ -226,7 +229,7 @@ fn annotation(word: &str) -> Result<Type, Refusal>
 }
 
 // The operator of two arguments that has this text.
-fn binary_operator(word: &str) -> Result<BinaryOp, Refusal>
+fn parse_binary_op(word: &str) -> Result<BinaryOp, Refusal>
     ensures named { IfOk result (λ op. word.now ≡ binary_op_text op) }
     ensures every { OnErr result ((op : BinaryOp) → word.now ≢ binary_op_text op) }
     ensures refused { IfErr result (λ e. e ≡ Refusal.BadLine) }

@@ -7,17 +7,18 @@ use crate::refusal::Refusal;
 use cedar_terms::{Pattern, PatternElem};
 use std::alloc::Global;
 
-/// The pattern that a text spells: `*` is the wildcard, `\*` and `\\` are the two characters, any other character is itself.
+/// Reads the pattern that a text spells: `*` is the wildcard, `\*` and `\\` are the two characters,
+/// any other character is itself.
 ///
 /// A text with another backslash is a bad line.
-pub fn read_pattern(alloc: Global, text: &str) -> Result<Pattern, Refusal>
+pub fn parse_pattern(alloc: Global, text: &str) -> Result<Pattern, Refusal>
     ensures spelled { IfOk result (λ p. chars text.now ≡ spelling p) }
     ensures refused { IfErr result (λ e. (e ≡ Refusal.BadLine) ⊎ (e ≡ Refusal.Memory)) }
     ensures bad { IfErr result (λ e. e ≡ Refusal.BadLine → SpellsNone (chars text.now)) }
 {
     let mut elems = Vec::new(alloc);
     let mut rest = text;
-    'elems: while let Some((elem, later)) = first_elem(rest) {
+    'elems: while let Some((elem, later)) = parse_elem(rest) {
         elems.push(elem)?;
         rest = later;
     }
@@ -27,9 +28,11 @@ pub fn read_pattern(alloc: Global, text: &str) -> Result<Pattern, Refusal>
     }
 }
 
-// The element that a text begins with, and what follows it.
-fn first_elem(text: &str) -> Option<(PatternElem, &str)>
-    ensures { MatchOption result (BeginsWithNone (chars text.now)) (λ x. chars text.now ≡ elem_spelling x.0 ++ chars x.1.now) }
+// Reads the element that a text begins with, and gives what follows it too.
+fn parse_elem(text: &str) -> Option<(PatternElem, &str)>
+    ensures { MatchOption result
+        (BeginsWithNone (chars text.now))
+        (λ x. chars text.now ≡ elem_spelling x.0 ++ chars x.1.now) }
 {
     match first_char(text)? {
         ('*', rest) => Some((PatternElem::Wildcard, rest)),

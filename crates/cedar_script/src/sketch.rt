@@ -10,7 +10,7 @@ ghost use Rattle.cedar_builders.specs.Answers.{Gives};
 ghost use Rattle.cedar_builders.specs.Keys.{keys_of, meant_pairs, IsRising, HasRepeat};
 ghost use Rattle.cedar_builders.specs.declared.expression_construction_errors.ExpressionConstructionError.TheVariants as error;
 ghost use Rattle.cedar_builders.specs.Answers.{never};
-ghost use Rattle.cedar_script.specs.Sketch.{annotation_texts, listed, pair_text, sketch_ops, spaced, text_of};
+ghost use Rattle.cedar_script.specs.SketchTexts.{annotation_texts, list_text, pair_text, sketch_ops, spaced_text, text_of};
 
 use cedar_builders::{
     BuildFault, ExprBuilder, ExprBuilderInfallibleBuild, ExpressionConstructionError,
@@ -60,7 +60,8 @@ fn push_text(out: &mut String, part: &SExpression) -> Result<(), AllocError>
 // Writes each text behind a space.
 #[cycle(writing)]
 fn push_spaced(out: &mut String, parts: &Vec<SExpression>) -> Result<(), AllocError>
-    ensures { OnOk result (string_bytes out.new ≡ string_bytes out.old ++ spaced (map text_of parts.now.items)) }
+    ensures { OnOk result
+        (string_bytes out.new ≡ string_bytes out.old ++ spaced_text (map text_of parts.now.items)) }
 {
     for part in parts {
         out.push_str(" ")?;
@@ -69,15 +70,15 @@ fn push_spaced(out: &mut String, parts: &Vec<SExpression>) -> Result<(), AllocEr
     Ok(())
 }
 
-// The list of a word and these parts.
-fn list(alloc: Global, word: &str, parts: Vec<SExpression>) -> Result<SExpression, AllocError>
-    ensures { IfOk result (λ e. text_of e ≡ listed word.now (map text_of parts.items)) }
+// Makes the list of a word and these parts.
+fn make_list(alloc: Global, word: &str, parts: Vec<SExpression>) -> Result<SExpression, AllocError>
+    ensures { IfOk result (λ e. text_of e ≡ list_text word.now (map text_of parts.items)) }
 {
     let word = String::from_str(alloc, word)?;
     Ok(SExpression::List(word, parts))
 }
 
-// A text in double quotes, with its escapes.
+// Puts a text into double quotes, with its escapes.
 fn quote(alloc: Global, text: &str) -> Result<SExpression, AllocError>
     ensures { IfOk result (λ e. text_of e ≡ quoted text.now) }
 {
@@ -85,16 +86,18 @@ fn quote(alloc: Global, text: &str) -> Result<SExpression, AllocError>
     Ok(SExpression::Atom(quoted))
 }
 
-// The name of a function or a type.
-fn name_atom(alloc: Global, name: &Name) -> Result<SExpression, AllocError>
+// Writes the name of a function or a type.
+fn make_name(alloc: Global, name: &Name) -> Result<SExpression, AllocError>
     ensures { IfOk result (λ e. text_of e ≡ name_text (bare_name name.now)) }
 {
     Ok(SExpression::Atom(format!(in alloc; "{name}")?))
 }
 
-// The name of an unknown, and its type, if it has one.
-fn unknown_parts(alloc: Global, unknown: &Unknown) -> Result<Vec<SExpression>, AllocError>
-    ensures { IfOk result (λ parts. map text_of parts.items ≡ (bare_unknown unknown.now).name ∷ annotation_texts (bare_unknown unknown.now).annotation) }
+// Lists the name of an unknown, and its type, if it has one.
+fn list_unknown_parts(alloc: Global, unknown: &Unknown) -> Result<Vec<SExpression>, AllocError>
+    ensures { let bare = bare_unknown unknown.now in
+        IfOk result (λ parts.
+        map text_of parts.items ≡ bare.name ∷ annotation_texts bare.annotation) }
 {
     let name = SExpression::Atom(String::from_str(alloc, &unknown.name)?);
     match &unknown.type_annotation {
@@ -106,13 +109,15 @@ fn unknown_parts(alloc: Global, unknown: &Unknown) -> Result<Vec<SExpression>, A
     }
 }
 
-// Each attribute in quotes, behind the parts that are there.
+// Pushes each attribute in quotes behind the parts that are there.
 fn push_attributes(
     alloc: Global,
     parts: &mut Vec<SExpression>,
     attributes: &[RcStr],
 ) -> Result<(), AllocError>
-    ensures { OnOk result (map text_of parts.new.items ≡ map text_of parts.old.items ++ map quoted (map rc_str_bytes attributes.now)) }
+    ensures { OnOk result
+        (map text_of parts.new.items
+        ≡ map text_of parts.old.items ++ map quoted (map rc_str_bytes attributes.now)) }
 {
     for attribute in attributes {
         parts.push(quote(alloc, attribute)?)?;
@@ -120,22 +125,23 @@ fn push_attributes(
     Ok(())
 }
 
-// The list of each key and its value.
-fn pair_lists(
+// Makes the list of each key and its value.
+fn make_pair_lists(
     alloc: Global,
     pairs: Vec<(RcStr, SExpression)>,
 ) -> Result<Vec<SExpression>, AllocError>
-    ensures { IfOk result (λ parts. map text_of parts.items ≡ map pair_text (meant_pairs text_of pairs.items)) }
+    ensures { IfOk result (λ parts.
+        map text_of parts.items ≡ map pair_text (meant_pairs text_of pairs.items)) }
 {
     let mut parts = Vec::with_capacity(alloc, pairs.len())?;
     for (key, value) in pairs {
-        parts.push(pair_list(alloc, &key, value)?)?;
+        parts.push(make_pair_list(alloc, &key, value)?)?;
     }
     Ok(parts)
 }
 
-// The list of a key and its value.
-fn pair_list(alloc: Global, key: &str, value: SExpression) -> Result<SExpression, AllocError>
+// Makes the list of a key and its value.
+fn make_pair_list(alloc: Global, key: &str, value: SExpression) -> Result<SExpression, AllocError>
     ensures { IfOk result (λ e. text_of e ≡ pair_text (key.now, text_of value)) }
 {
     let key = format!(in alloc; "\"{}\"", Escaped(key))?;
@@ -209,8 +215,8 @@ impl ExprBuilder for Sketch {
     }
 
     fn unknown(self, alloc: Global, unknown: Unknown) -> Result<SExpression, AllocError> {
-        let parts = unknown_parts(alloc, &unknown)?;
-        list(alloc, "unknown", parts)
+        let parts = list_unknown_parts(alloc, &unknown)?;
+        make_list(alloc, "unknown", parts)
     }
 
     fn ite(
@@ -220,7 +226,7 @@ impl ExprBuilder for Sketch {
         then_expr: SExpression,
         else_expr: SExpression,
     ) -> Result<SExpression, AllocError> {
-        list(
+        make_list(
             alloc,
             "if",
             vec![in alloc; test_expr, then_expr, else_expr]?,
@@ -233,7 +239,7 @@ impl ExprBuilder for Sketch {
         left: SExpression,
         right: SExpression,
     ) -> Result<SExpression, AllocError> {
-        list(alloc, "and", vec![in alloc; left, right]?)
+        make_list(alloc, "and", vec![in alloc; left, right]?)
     }
 
     fn or(
@@ -242,7 +248,7 @@ impl ExprBuilder for Sketch {
         left: SExpression,
         right: SExpression,
     ) -> Result<SExpression, AllocError> {
-        list(alloc, "or", vec![in alloc; left, right]?)
+        make_list(alloc, "or", vec![in alloc; left, right]?)
     }
 
     fn unary_app(
@@ -272,11 +278,13 @@ impl ExprBuilder for Sketch {
         fn_name: Name,
         mut args: Vec<SExpression>,
     ) -> Result<SExpression, BuildFault<Infallible>>
-        ensures { Gives text_of never (sketch_ops.call_of (bare_name fn_name) (map text_of args.items)) result }
+        ensures { Gives text_of never
+            (sketch_ops.call_of (bare_name fn_name) (map text_of args.items))
+            result }
     {
-        let mut parts = vec![in alloc; name_atom(alloc, &fn_name)?]?;
+        let mut parts = vec![in alloc; make_name(alloc, &fn_name)?]?;
         parts.append(&mut args)?;
-        Ok(list(alloc, "call", parts)?)
+        Ok(make_list(alloc, "call", parts)?)
     }
 
     fn get_attr(
@@ -286,7 +294,7 @@ impl ExprBuilder for Sketch {
         attr: RcStr,
     ) -> Result<SExpression, AllocError> {
         let attr = quote(alloc, &attr)?;
-        list(alloc, "get", vec![in alloc; expr, attr]?)
+        make_list(alloc, "get", vec![in alloc; expr, attr]?)
     }
 
     fn has_attr(
@@ -296,7 +304,7 @@ impl ExprBuilder for Sketch {
         attr: RcStr,
     ) -> Result<SExpression, AllocError> {
         let attr = quote(alloc, &attr)?;
-        list(alloc, "has", vec![in alloc; expr, attr]?)
+        make_list(alloc, "has", vec![in alloc; expr, attr]?)
     }
 
     fn extended_has_attr(
@@ -308,7 +316,7 @@ impl ExprBuilder for Sketch {
         let first = quote(alloc, &attrs.head)?;
         let mut parts = vec![in alloc; expr, first]?;
         push_attributes(alloc, &mut parts, &attrs.tail)?;
-        list(alloc, "has", parts)
+        make_list(alloc, "has", parts)
     }
 
     fn like(
@@ -318,7 +326,7 @@ impl ExprBuilder for Sketch {
         pattern: Pattern,
     ) -> Result<SExpression, AllocError> {
         let pattern = SExpression::Atom(format!(in alloc; "\"{pattern}\"")?);
-        list(alloc, "like", vec![in alloc; expr, pattern]?)
+        make_list(alloc, "like", vec![in alloc; expr, pattern]?)
     }
 
     fn is_entity_type(
@@ -327,14 +335,14 @@ impl ExprBuilder for Sketch {
         expr: SExpression,
         entity_type: EntityType,
     ) -> Result<SExpression, AllocError> {
-        let entity_type = name_atom(alloc, entity_type.name())?;
-        list(alloc, "is", vec![in alloc; expr, entity_type]?)
+        let entity_type = make_name(alloc, entity_type.name())?;
+        make_list(alloc, "is", vec![in alloc; expr, entity_type]?)
     }
 
     fn set(self, alloc: Global, members: Vec<SExpression>) -> Result<SExpression, AllocError>
         ensures { IfOk result (λ e. text_of e ≡ sketch_ops.set_of (map text_of members.items)) }
     {
-        list(alloc, "set", members)
+        make_list(alloc, "set", members)
     }
 
     fn record(
@@ -342,12 +350,13 @@ impl ExprBuilder for Sketch {
         alloc: Global,
         pairs: Vec<(RcStr, SExpression)>,
     ) -> Result<SExpression, ExpressionConstructionError>
-        ensures means { IsRising (keys_of pairs.items) → IfOk result (λ e. text_of e ≡ sketch_ops.record_of (meant_pairs text_of pairs.items)) }
+        ensures means { IsRising (keys_of pairs.items) → IfOk result (λ e.
+            text_of e ≡ sketch_ops.record_of (meant_pairs text_of pairs.items)) }
         ensures accepts { IsRising (keys_of pairs.items) → IfErr result (λ e. e ≡ error.Memory) }
         ensures refuses { IfErr result (OnDuplicateKey (λ _. HasRepeat (keys_of pairs.items))) }
     {
-        let parts = pair_lists(alloc, pairs)?;
-        Ok(list(alloc, "record", parts)?)
+        let parts = make_pair_lists(alloc, pairs)?;
+        Ok(make_list(alloc, "record", parts)?)
     }
 }
 

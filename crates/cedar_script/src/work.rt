@@ -1,4 +1,5 @@
-//! The state of a script: a stack of expressions and the bindings of names, and what each command does to them.
+//! The state of a script: a stack of expressions and the bindings of names, and what each command
+//! does to them.
 ghost use Rattle.std.specs.Prelude.{◌≡◌, ◌≢◌, ◌∷◌, Ok, None, drop, take, reverse, ◌+◌, ◌<◌, ◌↔◌, OnOk, IfOk, IsErrOf, IfErr, map, string_bytes, vec_len};
 ghost use Rattle.std.specs.Rc.{rc_str_bytes};
 ghost use Rattle.cedar_names.specs.PlainNames.{bare_name};
@@ -11,8 +12,10 @@ ghost use Rattle.cedar_builders.specs.Trees.{tree_ops};
 ghost use Rattle.cedar_exprs.specs.BareExpr.{bare_expr, bare_exprs};
 ghost use Rattle.cedar_builders.specs.Keys.{keyed};
 ghost use Rattle.cedar_exprs.specs.Refusals.{IsClashError};
-ghost use Rattle.cedar_script.specs.Commands.{key_pairs, record_made, bound_in, bound_as, texts_now};
-ghost use Rattle.cedar_script.specs.Sketch.{sketch_ops};
+ghost use Rattle.cedar_script.specs.CommandEffects.{needed_count, left_count, key_pairs, record_of, Works, Binds, Shows};
+ghost use Rattle.cedar_script.specs.CommandWords.{texts_now};
+ghost use Rattle.cedar_script.specs.SketchTexts.{sketch_ops};
+ghost use Rattle.cedar_script.specs.Stack.{stack_of, depth, bindings_of, environment, binding_of, TopHas, ReplacesOne, ReplacesTwo, ReplacesThree, ReplacesMany};
 ghost use Rattle.cedar_script.specs.declared.line.Command.{Command};
 
 use crate::line::Command;
@@ -37,9 +40,6 @@ pub struct State {
 }
 
 impl State {
-    ghost use Rattle.cedar_script.specs.Commands.{Pushes, OfTop, OfOne, OfTwo, OfThree, Works, Binds, Shows};
-    ghost use Rattle.cedar_script.specs.Stack.{tops, bindings_of, depth, needed, left};
-
     /// An empty stack, and nothing bound.
     pub fn new(alloc: Global) -> State
         ensures { depth result ≡ 0 }
@@ -52,51 +52,48 @@ impl State {
 
     /// Works a command, and gives the text that it shows, if it shows one.
     ///
-    /// Before anything else it is checked that the stack has the expressions that the command needs. After a refusal
-    /// some of them may be gone.
+    /// Before anything else it is checked that the stack has the expressions that the command
+    /// needs. After a refusal some of them may be gone.
     pub fn work(&mut self, alloc: Global, command: Command<'_>) -> Shown
-        ensures works { OnOk result (Works (bound_in (bindings_of self.old)) command.entry (tops self.old) (tops self.new)) }
-        ensures binds { OnOk result (Binds command.entry (tops self.old) (bindings_of self.old) (bindings_of self.new)) }
-        ensures depth { OnOk result (depth self.new + needed command.entry ≡ depth self.old + left command.entry) }
-        ensures too_few { IsErrOf result Refusal.TooFewExpressions ↔ (depth self.old < needed command.entry) }
-        ensures shows { IfOk result (Shows command.entry (tops self.old)) }
+        ensures works { OnOk result
+            (Works (environment (bindings_of self.old)) command.entry
+            (stack_of self.old) (stack_of self.new)) }
+        ensures binds { OnOk result (Binds command.entry self.old self.new) }
+        ensures depth { OnOk result
+            (depth self.new + needed_count command.entry
+            ≡ depth self.old + left_count command.entry) }
+        ensures too_few { IsErrOf result Refusal.TooFewExpressions
+            ↔ (depth self.old < needed_count command.entry) }
+        ensures shows { IfOk result (Shows command.entry (stack_of self.old)) }
     {
         match command {
             Command::Bool(value) => self.push(Expr::val(Literal::Bool(value))),
             Command::Long(value) => self.push(Expr::val(Literal::Long(value))),
-            Command::String(text) => self.push(string(alloc, text)?),
+            Command::String(text) => self.push(make_string(alloc, text)?),
             Command::Var(var) => self.push(Expr::var(var)),
             Command::Slot(slot) => self.push(Expr::slot(slot)),
-            Command::Unknown(name, annotation) => self.push(unknown(alloc, name, annotation)?),
-            Command::If => self.conditional(alloc),
+            Command::Unknown(name, annotation) => self.push(make_unknown(alloc, name, annotation)?),
+            Command::If => self.make_conditional(alloc),
             Command::And => self.apply_two(alloc, Expr::and),
             Command::Or => self.apply_two(alloc, Expr::or),
-            Command::RawAnd => self.apply_two(alloc, raw_and),
-            Command::RawOr => self.apply_two(alloc, raw_or),
-            Command::Unary(op) => {
-                self.apply_one(alloc, |alloc, arg| Expr::unary_app(alloc, op, arg))
+            Command::RawAnd => self.apply_two(alloc, make_raw_and),
+            Command::RawOr => self.apply_two(alloc, make_raw_or),
+            Command::Unary(op) => self.apply_one(alloc, |alloc, e| Expr::unary_app(alloc, op, e)),
+            Command::Binary(op) => {
+                self.apply_two(alloc, |alloc, a, b| Expr::binary_app(alloc, op, a, b))
             }
-            Command::Binary(op) => self.apply_two(alloc, |alloc, arg1, arg2| {
-                Expr::binary_app(alloc, op, arg1, arg2)
-            }),
-            Command::Call(name, count) => self.call(alloc, name, count),
-            Command::Get(attribute) => {
-                self.apply_one(alloc, |alloc, expr| get(alloc, expr, attribute))
+            Command::Call(name, count) => self.make_call(alloc, name, count),
+            Command::Get(attr) => self.apply_one(alloc, |alloc, e| make_get(alloc, e, attr)),
+            Command::Has(attr) => self.apply_one(alloc, |alloc, e| make_has(alloc, e, attr)),
+            Command::ExtHas(attrs) => {
+                self.apply_one(alloc, |alloc, e| make_extended_has(alloc, e, attrs))
             }
-            Command::Has(attribute) => {
-                self.apply_one(alloc, |alloc, expr| has(alloc, expr, attribute))
-            }
-            Command::ExtHas(attributes) => self.apply_one(alloc, |alloc, expr| {
-                extended_has(alloc, expr, attributes)
-            }),
             Command::Like(pattern) => {
-                self.apply_one(alloc, |alloc, expr| Expr::like(alloc, expr, pattern))
+                self.apply_one(alloc, |alloc, e| Expr::like(alloc, e, pattern))
             }
-            Command::Is(entity_type) => self.apply_one(alloc, |alloc, expr| {
-                Expr::is_entity_type(alloc, expr, entity_type)
-            }),
-            Command::Set(count) => self.set(alloc, count),
-            Command::Record(keys) => self.record(alloc, keys),
+            Command::Is(ty) => self.apply_one(alloc, |alloc, e| Expr::is_entity_type(alloc, e, ty)),
+            Command::Set(count) => self.make_set(alloc, count),
+            Command::Record(keys) => self.make_record(alloc, keys),
             Command::Bind(name) => self.bind(alloc, name),
             Command::Substitute => self.substitute(alloc),
             Command::Typed => self.substitute_typed(alloc),
@@ -104,10 +101,10 @@ impl State {
         }
     }
 
-    #[tactic(auto, using(crate::proofs::Tops::reverse_push))]
+    #[tactic(auto, using(crate::proofs::Stacks::reverse_push))]
     fn push(&mut self, expr: Expr) -> Shown
         ensures shows { IfOk result (λ shown. shown ≡ None) }
-        ensures pushed { OnOk result (tops self.new ≡ expr ∷ tops self.old) }
+        ensures pushed { OnOk result (stack_of self.new ≡ expr ∷ stack_of self.old) }
         ensures depth { OnOk result (depth self.new ≡ depth self.old + 1) }
         ensures bindings { bindings_of self.new ≡ bindings_of self.old }
         ensures refused { IfErr result (λ e. e ≡ Refusal.Memory) }
@@ -117,23 +114,26 @@ impl State {
     }
 
     // Takes the top of the stack.
-    #[tactic(auto, using(crate::proofs::Tops::reverse_push))]
+    #[tactic(auto, using(crate::proofs::Stacks::reverse_push))]
     fn pop(&mut self) -> Result<Expr, Refusal>
-        ensures popped { IfOk result (λ top. tops self.old ≡ top ∷ tops self.new) }
+        ensures popped { IfOk result (λ top. stack_of self.old ≡ top ∷ stack_of self.new) }
         ensures bindings { bindings_of self.new ≡ bindings_of self.old }
         ensures depth { OnOk result (depth self.new + 1 ≡ depth self.old) }
-        ensures too_few { IfErr result (λ e. (e ≡ Refusal.TooFewExpressions) × (depth self.old < 1)) }
+        ensures too_few { IfErr result (λ e.
+            (e ≡ Refusal.TooFewExpressions) × (depth self.old < 1)) }
     {
         self.stack.pop().ok_or(Refusal::TooFewExpressions)
     }
 
     // Takes this many expressions, and gives the lowest first.
-    #[tactic(auto, using(crate::proofs::Tops::past_place, crate::proofs::Tops::before_place))]
+    #[tactic(auto, using(crate::proofs::Stacks::past_index, crate::proofs::Stacks::before_index))]
     fn pop_many(&mut self, count: usize) -> Result<Vec<Expr>, Refusal>
-        ensures popped { IfOk result (λ exprs. exprs.items ≡ reverse (take count (tops self.old))) }
-        ensures below { OnOk result (tops self.new ≡ drop count (tops self.old)) }
+        ensures popped { IfOk result (λ exprs.
+            exprs.items ≡ reverse (take count (stack_of self.old))) }
+        ensures below { OnOk result (stack_of self.new ≡ drop count (stack_of self.old)) }
         ensures bindings { bindings_of self.new ≡ bindings_of self.old }
-        ensures depth { IfOk result (λ exprs. (vec_len exprs ≡ count) × (depth self.new + count ≡ depth self.old)) }
+        ensures depth { IfOk result (λ exprs.
+            (vec_len exprs ≡ count) × (depth self.new + count ≡ depth self.old)) }
         ensures too_few { IsErrOf result Refusal.TooFewExpressions ↔ (depth self.old < count) }
     {
         match self.stack.len().checked_sub(count) {
@@ -149,7 +149,9 @@ impl State {
         requires { F.IsAlwaysCallable make }
         ensures shows { IfOk result (λ shown. shown ≡ None) }
         ensures bindings { bindings_of self.new ≡ bindings_of self.old }
-        ensures made { OnOk result (OfOne (λ a e. F.post make alloc a (Ok e)) (tops self.old) (tops self.new)) }
+        ensures made { OnOk result (ReplacesOne
+            (λ a e. F.post make alloc a (Ok e))
+            (stack_of self.old) (stack_of self.new)) }
         ensures depth { OnOk result (depth self.new ≡ depth self.old) }
         ensures too_few { IsErrOf result Refusal.TooFewExpressions ↔ (depth self.old < 1) }
     {
@@ -164,7 +166,9 @@ impl State {
         requires { F.IsAlwaysCallable make }
         ensures shows { IfOk result (λ shown. shown ≡ None) }
         ensures bindings { bindings_of self.new ≡ bindings_of self.old }
-        ensures made { OnOk result (OfTwo (λ a b e. F.post make alloc a b (Ok e)) (tops self.old) (tops self.new)) }
+        ensures made { OnOk result (ReplacesTwo
+            (λ a b e. F.post make alloc a b (Ok e))
+            (stack_of self.old) (stack_of self.new)) }
         ensures depth { OnOk result (depth self.new + 1 ≡ depth self.old) }
         ensures too_few { IsErrOf result Refusal.TooFewExpressions ↔ (depth self.old < 2) }
     {
@@ -174,10 +178,12 @@ impl State {
     }
 
     // Takes the test and the branches, the test lowest, and pushes their conditional.
-    fn conditional(&mut self, alloc: Global) -> Shown
+    fn make_conditional(&mut self, alloc: Global) -> Shown
         ensures shows { IfOk result (λ shown. shown ≡ None) }
         ensures bindings { bindings_of self.new ≡ bindings_of self.old }
-        ensures made { OnOk result (OfThree (λ a b c e. bare_expr e ≡ tree_ops.if_of (bare_expr a) (bare_expr b) (bare_expr c)) (tops self.old) (tops self.new)) }
+        ensures made { OnOk result (ReplacesThree
+            (λ a b c e. bare_expr e ≡ tree_ops.if_of (bare_expr a) (bare_expr b) (bare_expr c))
+            (stack_of self.old) (stack_of self.new)) }
         ensures depth { OnOk result (depth self.new + 2 ≡ depth self.old) }
         ensures too_few { IsErrOf result Refusal.TooFewExpressions ↔ (depth self.old < 3) }
     {
@@ -188,10 +194,12 @@ impl State {
     }
 
     // Takes this many expressions, and pushes the call of the function on them.
-    fn call(&mut self, alloc: Global, name: Name, count: usize) -> Shown
+    fn make_call(&mut self, alloc: Global, name: Name, count: usize) -> Shown
         ensures shows { IfOk result (λ shown. shown ≡ None) }
         ensures bindings { bindings_of self.new ≡ bindings_of self.old }
-        ensures made { OnOk result (Pushes (λ e. bare_expr e ≡ call_tree (bare_name name) (bare_exprs (reverse (take count (tops self.old))))) (drop count (tops self.old)) (tops self.new)) }
+        ensures made { OnOk result (ReplacesMany count
+            (λ args e. bare_expr e ≡ call_tree (bare_name name) (bare_exprs args))
+            (stack_of self.old) (stack_of self.new)) }
         ensures depth { OnOk result (depth self.new + count ≡ depth self.old + 1) }
         ensures too_few { IsErrOf result Refusal.TooFewExpressions ↔ (depth self.old < count) }
     {
@@ -200,10 +208,12 @@ impl State {
     }
 
     // Takes this many expressions, and pushes the set of them.
-    fn set(&mut self, alloc: Global, count: usize) -> Shown
+    fn make_set(&mut self, alloc: Global, count: usize) -> Shown
         ensures shows { IfOk result (λ shown. shown ≡ None) }
         ensures bindings { bindings_of self.new ≡ bindings_of self.old }
-        ensures made { OnOk result (Pushes (λ e. bare_expr e ≡ members (bare_exprs (reverse (take count (tops self.old))))) (drop count (tops self.old)) (tops self.new)) }
+        ensures made { OnOk result (ReplacesMany count
+            (λ es e. bare_expr e ≡ members (bare_exprs es))
+            (stack_of self.old) (stack_of self.new)) }
         ensures depth { OnOk result (depth self.new + count ≡ depth self.old + 1) }
         ensures too_few { IsErrOf result Refusal.TooFewExpressions ↔ (depth self.old < count) }
     {
@@ -212,34 +222,40 @@ impl State {
     }
 
     // Takes an expression for each key, and pushes the record of them.
-    fn record(&mut self, alloc: Global, keys: Vec<&str>) -> Shown
+    fn make_record(&mut self, alloc: Global, keys: Vec<&str>) -> Shown
         ensures shows { IfOk result (λ shown. shown ≡ None) }
         ensures bindings { bindings_of self.new ≡ bindings_of self.old }
-        ensures made { OnOk result (Pushes (λ e. bare_expr e ≡ record_made keys.entry.items (reverse (take (vec_len keys.entry) (tops self.old)))) (drop (vec_len keys.entry) (tops self.old)) (tops self.new)) }
+        ensures made { OnOk result (ReplacesMany (vec_len keys.entry)
+            (λ values e. bare_expr e ≡ record_of keys.entry.items values)
+            (stack_of self.old) (stack_of self.new)) }
         ensures depth { OnOk result (depth self.new + vec_len keys.entry ≡ depth self.old + 1) }
-        ensures too_few { IsErrOf result Refusal.TooFewExpressions ↔ (depth self.old < vec_len keys.entry) }
+        ensures too_few { IsErrOf result Refusal.TooFewExpressions
+            ↔ (depth self.old < vec_len keys.entry) }
     {
         let values = self.pop_many(keys.len())?;
-        self.push(record_of(alloc, keys, values)?)
+        self.push(build_record(alloc, keys, values)?)
     }
 
     // Takes the top as a value, and binds the name to it.
     fn bind(&mut self, alloc: Global, name: &str) -> Shown
         ensures shows { IfOk result (λ shown. shown ≡ None) }
-        ensures bound { OnOk result (OfTop (λ top. bound_in (bindings_of self.new) name.now ≡ bound_as (bare_expr top)) (tops self.old)) }
-        ensures below { OnOk result (tops self.new ≡ drop 1 (tops self.old)) }
+        ensures bound { OnOk result (TopHas
+            (λ top. environment (bindings_of self.new) name.now ≡ binding_of (bare_expr top))
+            (stack_of self.old)) }
+        ensures below { OnOk result (stack_of self.new ≡ drop 1 (stack_of self.old)) }
         ensures depth { OnOk result (depth self.new + 1 ≡ depth self.old) }
         ensures too_few { IsErrOf result Refusal.TooFewExpressions ↔ (depth self.old < 1) }
     {
-        let value = value_of(self.pop()?)?;
+        let value = into_literal(self.pop()?)?;
         self.bind_to(alloc, name, value)
     }
 
     // Binds the name to a value, in place of an earlier binding.
     fn bind_to(&mut self, alloc: Global, name: &str, value: Literal) -> Shown
         ensures shows { IfOk result (λ shown. shown ≡ None) }
-        ensures bound { OnOk result (bound_in (bindings_of self.new) name.now ≡ bound_as (Lit (bare_literal value))) }
-        ensures stack { tops self.new ≡ tops self.old }
+        ensures bound { OnOk result
+            (environment (bindings_of self.new) name.now ≡ binding_of (Lit (bare_literal value))) }
+        ensures stack { stack_of self.new ≡ stack_of self.old }
         ensures depth { depth self.new ≡ depth self.old }
         ensures refused { IfErr result (λ e. e ≡ Refusal.Memory) }
     {
@@ -252,12 +268,15 @@ impl State {
     fn substitute(&mut self, alloc: Global) -> Shown
         ensures shows { IfOk result (λ shown. shown ≡ None) }
         ensures bindings { bindings_of self.new ≡ bindings_of self.old }
-        ensures made { OnOk result (OfOne (λ a e. fold tree_ops (bound_in (bindings_of self.old)) (bare_expr a) ≡ Ok (bare_expr e)) (tops self.old) (tops self.new)) }
+        ensures made { OnOk result (ReplacesOne
+            (λ a e. fold tree_ops (environment (bindings_of self.old)) (bare_expr a)
+            ≡ Ok (bare_expr e))
+            (stack_of self.old) (stack_of self.new)) }
         ensures depth { OnOk result (depth self.new ≡ depth self.old) }
         ensures too_few { IsErrOf result Refusal.TooFewExpressions ↔ (depth self.old < 1) }
     {
         let top = self.pop()?;
-        let top = self.substituted(alloc, &top)?;
+        let top = self.replace_bound(alloc, &top)?;
         self.push(top)
     }
 
@@ -265,56 +284,67 @@ impl State {
     fn substitute_typed(&mut self, alloc: Global) -> Shown
         ensures shows { IfOk result (λ shown. shown ≡ None) }
         ensures bindings { bindings_of self.new ≡ bindings_of self.old }
-        ensures made { OnOk result (OfOne (λ a e. (fold tree_ops (bound_in (bindings_of self.old)) (bare_expr a) ≡ Ok (bare_expr e)) × (clash (bound_in (bindings_of self.old)) (bare_expr a) ≡ None)) (tops self.old) (tops self.new)) }
+        ensures made { OnOk result (ReplacesOne
+            (λ a e. (fold tree_ops (environment (bindings_of self.old)) (bare_expr a)
+            ≡ Ok (bare_expr e))
+            × (clash (environment (bindings_of self.old)) (bare_expr a) ≡ None))
+            (stack_of self.old) (stack_of self.new)) }
         ensures depth { OnOk result (depth self.new ≡ depth self.old) }
         ensures too_few { IsErrOf result Refusal.TooFewExpressions ↔ (depth self.old < 1) }
     {
         let top = self.pop()?;
-        let top = self.substituted_typed(alloc, &top)?;
+        let top = self.replace_bound_typed(alloc, &top)?;
         self.push(top)
     }
 
-    // The expression with each name that is bound replaced.
-    fn substituted(&self, alloc: Global, expr: &Expr) -> Result<Expr, AllocError>
-        ensures { IfOk result (λ e. fold tree_ops (bound_in (bindings_of self.now)) (bare_expr expr.now) ≡ Ok (bare_expr e)) }
+    // Replaces each unknown of the expression whose name is bound.
+    fn replace_bound(&self, alloc: Global, expr: &Expr) -> Result<Expr, AllocError>
+        ensures { IfOk result (λ e.
+            fold tree_ops (environment (bindings_of self.now)) (bare_expr expr.now)
+            ≡ Ok (bare_expr e)) }
     {
         expr.substitute(alloc, &self.bindings)
     }
 
     // The same, if no value has another type than is expected of it.
-    fn substituted_typed(&self, alloc: Global, expr: &Expr) -> Result<Expr, SubstitutionError>
-        ensures made { IfOk result (λ e. fold tree_ops (bound_in (bindings_of self.now)) (bare_expr expr.now) ≡ Ok (bare_expr e)) }
-        ensures passed { OnOk result (clash (bound_in (bindings_of self.now)) (bare_expr expr.now) ≡ None) }
-        ensures refused { IfErr result (IsClashError (clash (bound_in (bindings_of self.now)) (bare_expr expr.now))) }
+    fn replace_bound_typed(&self, alloc: Global, expr: &Expr) -> Result<Expr, SubstitutionError>
+        ensures made { IfOk result (λ e.
+            fold tree_ops (environment (bindings_of self.now)) (bare_expr expr.now)
+            ≡ Ok (bare_expr e)) }
+        ensures passed { OnOk result
+            (clash (environment (bindings_of self.now)) (bare_expr expr.now) ≡ None) }
+        ensures refused { IfErr result
+            (IsClashError (clash (environment (bindings_of self.now)) (bare_expr expr.now))) }
     {
         expr.substitute_typed(alloc, &self.bindings)
     }
 
     // Shows the top, which stays.
     fn show(&self, alloc: Global) -> Shown
-        ensures shows { IfOk result (Shows Command.Show (tops self.now)) }
+        ensures shows { IfOk result (Shows Command.Show (stack_of self.now)) }
         ensures too_few { IsErrOf result Refusal.TooFewExpressions ↔ (depth self.now < 1) }
     {
         let top = self.stack.last().ok_or(Refusal::TooFewExpressions)?;
-        Ok(Some(written(alloc, top)?))
+        Ok(Some(write_expr(alloc, top)?))
     }
 }
 
-// The text of an expression.
-fn written(alloc: Global, expr: &Expr) -> Result<String, AllocError>
-    ensures { IfOk result (λ text. fold sketch_ops empty (bare_expr expr.now) ≡ Ok (string_bytes text)) }
+// Writes the text of an expression.
+fn write_expr(alloc: Global, expr: &Expr) -> Result<String, AllocError>
+    ensures { IfOk result (λ text.
+        fold sketch_ops empty (bare_expr expr.now) ≡ Ok (string_bytes text)) }
 {
     expr.into_expr::<Sketch>(alloc)?.to_text(alloc)
 }
 
-fn string(alloc: Global, text: &str) -> Result<Expr, AllocError>
+fn make_string(alloc: Global, text: &str) -> Result<Expr, AllocError>
     ensures { IfOk result (λ e. bare_expr e ≡ Lit (StringLit text.now)) }
 {
     let text = RcStr::from_str(alloc, text)?;
     Ok(Expr::val(Literal::String(text)))
 }
 
-fn unknown(alloc: Global, name: &str, annotation: Option<Type>) -> Result<Expr, AllocError>
+fn make_unknown(alloc: Global, name: &str, annotation: Option<Type>) -> Result<Expr, AllocError>
     ensures { IfOk result (λ e. bare_expr e ≡ unknown_tree name.now (bare_annotation annotation)) }
 {
     let name = RcStr::from_str(alloc, name)?;
@@ -324,32 +354,35 @@ fn unknown(alloc: Global, name: &str, annotation: Option<Type>) -> Result<Expr, 
     }))
 }
 
-// The attribute of an expression.
-fn get(alloc: Global, expr: Expr, attribute: &str) -> Result<Expr, AllocError>
-    ensures { IfOk result (λ e. bare_expr e ≡ tree_ops.get_of (bare_expr expr) attribute.now) }
+// Makes the attribute of an expression.
+fn make_get(alloc: Global, expr: Expr, attr: &str) -> Result<Expr, AllocError>
+    ensures { IfOk result (λ e. bare_expr e ≡ tree_ops.get_of (bare_expr expr) attr.now) }
 {
-    let attribute = RcStr::from_str(alloc, attribute)?;
-    Expr::get_attr(alloc, expr, attribute)
+    let attr = RcStr::from_str(alloc, attr)?;
+    Expr::get_attr(alloc, expr, attr)
 }
 
-// The test for an attribute of an expression.
-fn has(alloc: Global, expr: Expr, attribute: &str) -> Result<Expr, AllocError>
-    ensures { IfOk result (λ e. bare_expr e ≡ tree_ops.has_of (bare_expr expr) attribute.now) }
+// Makes the test for an attribute of an expression.
+fn make_has(alloc: Global, expr: Expr, attr: &str) -> Result<Expr, AllocError>
+    ensures { IfOk result (λ e. bare_expr e ≡ tree_ops.has_of (bare_expr expr) attr.now) }
 {
-    let attribute = RcStr::from_str(alloc, attribute)?;
-    Expr::has_attr(alloc, expr, attribute)
+    let attr = RcStr::from_str(alloc, attr)?;
+    Expr::has_attr(alloc, expr, attr)
 }
 
-// The test for each attribute in turn.
-fn extended_has(alloc: Global, expr: Expr, attributes: NonEmpty<&str>) -> Result<Expr, AllocError>
-    ensures { IfOk result (λ e. bare_expr e ≡ tree_ops.ext_has_of (bare_expr expr) attributes.entry.head.now (texts_now attributes.entry.tail.items)) }
+// Makes the test for each attribute in turn.
+fn make_extended_has(alloc: Global, expr: Expr, attrs: NonEmpty<&str>) -> Result<Expr, AllocError>
+    ensures { let tail = texts_now attrs.entry.tail.items in
+        IfOk result (λ e.
+        bare_expr e ≡ tree_ops.ext_has_of (bare_expr expr) attrs.entry.head.now tail) }
 {
-    let head = RcStr::from_str(alloc, attributes.head)?;
-    let tail = shared_texts(alloc, &attributes.tail)?;
+    let head = RcStr::from_str(alloc, attrs.head)?;
+    let tail = share_texts(alloc, &attrs.tail)?;
     Expr::extended_has_attr(alloc, expr, NonEmpty::new(head, tail))
 }
 
-fn shared_texts(alloc: Global, texts: &[&str]) -> Result<Vec<RcStr>, AllocError>
+// Copies each text into an `RcStr`.
+fn share_texts(alloc: Global, texts: &[&str]) -> Result<Vec<RcStr>, AllocError>
     ensures { IfOk result (λ shared. map rc_str_bytes shared.items ≡ texts_now texts.now) }
 {
     let mut shared = Vec::with_capacity(alloc, texts.len())?;
@@ -359,43 +392,29 @@ fn shared_texts(alloc: Global, texts: &[&str]) -> Result<Vec<RcStr>, AllocError>
     Ok(shared)
 }
 
-// The value that an expression is: a literal.
-fn value_of(expr: Expr) -> Result<Literal, Refusal>
+// Takes the literal out of an expression that is one.
+fn into_literal(expr: Expr) -> Result<Literal, Refusal>
     ensures value { IfOk result (λ literal. bare_expr expr ≡ Lit (bare_literal literal)) }
-    ensures refused { IfErr result (λ e. (e ≡ Refusal.NotAValue) × ((l : BareLiteral) → bare_expr expr ≢ Lit l)) }
+    ensures refused { IfErr result (λ e.
+        (e ≡ Refusal.NotAValue) × ((l : BareLiteral) → bare_expr expr ≢ Lit l)) }
 {
     match expr.into_expr_kind() {
         ExprKind::Lit(literal) => Ok(literal),
-        ExprKind::Var(_)
-        | ExprKind::Slot(_)
-        | ExprKind::Unknown(_)
-        | ExprKind::If { .. }
-        | ExprKind::And { .. }
-        | ExprKind::Or { .. }
-        | ExprKind::UnaryApp { .. }
-        | ExprKind::BinaryApp { .. }
-        | ExprKind::ExtensionFunctionApp { .. }
-        | ExprKind::GetAttr { .. }
-        | ExprKind::HasAttr { .. }
-        | ExprKind::ExtHasAttr { .. }
-        | ExprKind::Like { .. }
-        | ExprKind::Set(_)
-        | ExprKind::Record(_)
-        | ExprKind::Is { .. } => Err(Refusal::NotAValue),
+        _ => Err(Refusal::NotAValue),
     }
 }
 
-// The record of keys, each with the value at its place.
-fn record_of(alloc: Global, keys: Vec<&str>, values: Vec<Expr>) -> Result<Expr, Refusal>
-    ensures made { IfOk result (λ e. bare_expr e ≡ record_made keys.entry.items values.items) }
+// Builds the record of keys, each with the value at its index.
+fn build_record(alloc: Global, keys: Vec<&str>, values: Vec<Expr>) -> Result<Expr, Refusal>
+    ensures made { IfOk result (λ e. bare_expr e ≡ record_of keys.entry.items values.items) }
     ensures refused { IfErr result (λ e. e ≢ Refusal.TooFewExpressions) }
 {
-    let pairs = pairs_of(alloc, keys, values)?;
+    let pairs = pair_up(alloc, keys, values)?;
     Ok(Expr::record(alloc, pairs)?)
 }
 
-// Each key with the value at its place.
-fn pairs_of(
+// Pairs each key with the value at its index.
+fn pair_up(
     alloc: Global,
     keys: Vec<&str>,
     values: Vec<Expr>,
@@ -409,8 +428,8 @@ fn pairs_of(
     Ok(pairs)
 }
 
-// The node of a conjunction, as it stands.
-fn raw_and(alloc: Global, left: Expr, right: Expr) -> Result<Expr, AllocError>
+// Makes the node of a conjunction, as it stands.
+fn make_raw_and(alloc: Global, left: Expr, right: Expr) -> Result<Expr, AllocError>
     ensures { IfOk result (λ e. bare_expr e ≡ And (bare_expr left) (bare_expr right)) }
 {
     Ok(ExprBuilder::new().with_expr_kind(ExprKind::And {
@@ -419,8 +438,8 @@ fn raw_and(alloc: Global, left: Expr, right: Expr) -> Result<Expr, AllocError>
     }))
 }
 
-// The node of a disjunction, as it stands.
-fn raw_or(alloc: Global, left: Expr, right: Expr) -> Result<Expr, AllocError>
+// Makes the node of a disjunction, as it stands.
+fn make_raw_or(alloc: Global, left: Expr, right: Expr) -> Result<Expr, AllocError>
     ensures { IfOk result (λ e. bare_expr e ≡ Or (bare_expr left) (bare_expr right)) }
 {
     Ok(ExprBuilder::new().with_expr_kind(ExprKind::Or {

@@ -1,14 +1,12 @@
 // Scripts, with what they show and what they end with.
-
-use cedar_script::RunFault;
-use cedar_script::run::run;
+use cedar_script::{RunFault, run};
 use std::alloc::{AllocError, Global};
 use std::io::{self, ErrorKind, Read, Write};
 use std::process::Abort;
 use std::test::Fail;
 
-// What a run of a script writes, the text of its fault, empty where it has none, and its status.
-fn played(alloc: Global, mut script: &[u8]) -> Result<(String, String, u8), Fail> {
+// Runs a script, and gives what it writes, the text of its fault, empty where it has none, and its status.
+fn play(alloc: Global, mut script: &[u8]) -> Result<(String, String, u8), Fail> {
     let mut shown = Vec::new(alloc);
     let (fault, status) = match run(alloc, &mut script, &mut shown) {
         Ok(()) => (String::new(alloc), 0),
@@ -19,7 +17,7 @@ fn played(alloc: Global, mut script: &[u8]) -> Result<(String, String, u8), Fail
 
 // Checks that a script comes to its end and shows this.
 fn assert_shows(rt: &(impl Abort + AllocGlobal), script: &str, shown: &str) -> Result<(), Fail> {
-    let played = played(rt.alloc(), script.as_bytes())?;
+    let played = play(rt.alloc(), script.as_bytes())?;
     assert_eq!(rt; played.0.as_str(), shown, "shown by {script:?}");
     assert_eq!(rt; played.1.as_str(), "", "fault of {script:?}");
     assert_eq!(rt; played.2, 0, "status of {script:?}");
@@ -33,7 +31,7 @@ fn assert_refused(
     shown: &str,
     fault: &str,
 ) -> Result<(), Fail> {
-    let played = played(rt.alloc(), script)?;
+    let played = play(rt.alloc(), script)?;
     assert_eq!(rt; played.0.as_str(), shown, "shown by {script:?}");
     assert_eq!(rt; played.1.as_str(), fault, "fault of {script:?}");
     assert_eq!(rt; played.2, 1, "status of {script:?}");
@@ -57,6 +55,7 @@ fn scripts_show_trees(rt: HostRuntime) -> Result<(), Fail> {
         ("unknown x set\nshow\n", "(unknown x set)\n"),
         ("unknown x record\nshow\n", "(unknown x record)\n"),
         ("bool true\nbool false\nand\nshow\n", "false\n"),
+        ("bool false\nbool true\nand\nshow\n", "false\n"),
         ("bool false\nbool true\nor\nshow\n", "true\n"),
         (
             "bool true\nunknown x\nand\nshow\n",
@@ -229,6 +228,15 @@ fn substitution_binds_names(rt: HostRuntime) -> Result<(), Fail> {
         (
             "unknown x\nunknown x\nrecord a\nunknown x\n!\nset 1\nif\nlong 1\nbind x\nsubstitute\nshow\n",
             "(if 1 (record (\"a\" 1)) (set (! 1)))\n",
+        ),
+        // A binding keeps those of other names, also where it takes the place of an earlier one.
+        (
+            "unknown x\nunknown y\n==\nlong 1\nbind x\nlong 2\nbind y\nsubstitute\nshow\n",
+            "(== 1 2)\n",
+        ),
+        (
+            "unknown x\nunknown y\n==\nlong 1\nbind x\nlong 2\nbind y\nlong 3\nbind x\nsubstitute\nshow\n",
+            "(== 3 2)\n",
         ),
         // Only the top is replaced.
         (
@@ -444,6 +452,11 @@ fn short_stacks_are_refused(rt: HostRuntime) -> Result<(), Fail> {
             "5\n",
             "line 3: too few expressions",
         ),
+        (
+            "long 5\nneg\nshow\nand\n",
+            "(- 5)\n",
+            "line 4: too few expressions",
+        ),
     ];
     for (script, shown, fault) in table {
         assert_refused(&rt, script.as_bytes(), shown, fault)?;
@@ -584,8 +597,8 @@ struct FullWriter<'a> {
 impl Write for FullWriter<'_> {
     fn write(&mut self, buf: &[u8]) -> io::Result<usize> {
         match (buf.first(), self.room.get_mut(self.used)) {
-            (Some(byte), Some(place)) => {
-                *place = *byte;
+            (Some(byte), Some(free)) => {
+                *free = *byte;
                 self.used = self.used.saturating_add(1);
                 Ok(1)
             }

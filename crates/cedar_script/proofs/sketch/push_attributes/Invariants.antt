@@ -1,7 +1,7 @@
 use Rattle.std.proofs.Common.{◌≡◌, ◌++◌, map, take}
 use Rattle.std.specs.Rc.{rc_str_bytes}
 use Rattle.cedar_terms.specs.Escape.{quoted}
-use Rattle.cedar_script.specs.Sketch.{text_of}
+use Rattle.cedar_script.specs.SketchTexts.{text_of}
 use Rattle.cedar_script.proofs.sketch.push_attributes.Given as goal
 
 -- what was there, and each attribute so far

@@ -1,7 +1,7 @@
 use Rattle.std.proofs.Common.{inl, inr, ◌∙◌}
 use Rattle.cedar_builders.specs.Keys.{keyed}
 use Rattle.cedar_script.proofs.Pairs.{all_paired}
-use Rattle.cedar_script.proofs.work.pairs_of.Goals as goal
+use Rattle.cedar_script.proofs.work.pair_up.Goals as goal
 
 pub returns : goal.returns
 returns c =

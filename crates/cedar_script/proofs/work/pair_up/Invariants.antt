@@ -2,8 +2,8 @@ use Rattle.std.proofs.Common.{◌≡◌, ◌++◌, length}
 use Rattle.std.specs.Iterator.Adapters.{zip_first, zip_second}
 use Rattle.std.specs.Vec.Iter.{into_iter_items, into_iter_len}
 use Rattle.cedar_builders.specs.Keys.{keyed}
-use Rattle.cedar_script.specs.Commands.{key_pairs}
-use Rattle.cedar_script.proofs.work.pairs_of.Given as goal
+use Rattle.cedar_script.specs.CommandEffects.{key_pairs}
+use Rattle.cedar_script.proofs.work.pair_up.Given as goal
 
 -- what is made, with what is left, are all pairs
 abbrev pub invariant-loop-key : goal.invariant-loop-key

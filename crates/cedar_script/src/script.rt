@@ -55,8 +55,8 @@ impl RunFault {
 
 /// Reads a script to its end, works its lines one after the other, and writes what they show.
 ///
-/// A refused line ends the run; what was shown before it stays. After an output fault nothing is known of how much of
-/// the last text went out.
+/// A refused line ends the run; what was shown before it stays. After an output fault nothing is
+/// known of how much of the last text went out.
 pub fn run<R: Read, W: Write>(alloc: Global, reader: &mut R, writer: &mut W) -> Result<(), RunFault>
     ensures { OnOk result (IsAtEnd (R.remaining reader.new)) }
 {
@@ -76,7 +76,8 @@ pub fn run<R: Read, W: Write>(alloc: Global, reader: &mut R, writer: &mut W) -> 
 
 // All that the reader gives.
 fn read_input<R: Read>(alloc: Global, reader: &mut R) -> Result<Vec<u8>, RunFault>
-    ensures bytes { IfOk result (λ input. IfSome (R.remaining reader.old) (λ bytes. input.items ≡ bytes)) }
+    ensures bytes { IfOk result (λ input.
+        IfSome (R.remaining reader.old) (λ bytes. input.items ≡ bytes)) }
     ensures end { OnOk result (IsAtEnd (R.remaining reader.new)) }
     ensures fault { IfErr result IsInputFault }
 {
@@ -99,7 +100,8 @@ fn work_line(alloc: Global, state: &mut State, line: &[u8]) -> Result<Option<Str
 
 // Writes a text and a line feed, at once.
 fn write_line<W: Write>(writer: &mut W, text: &str) -> io::Result<()>
-    ensures { OnOk result (Appends (W.contents writer.old) (W.contents writer.new) (text.now ++ 10 ∷ [])) }
+    ensures { OnOk result
+        (Appends (W.contents writer.old) (W.contents writer.new) (text.now ++ 10 ∷ [])) }
 {
     writer.write_all(text.as_bytes())?;
     writer.write_all(b"\n")?;

@@ -1,6 +1,7 @@
--- Which words ask for which command.
-use Rattle.std.specs.Prelude.{◌≡◌, ℕ, List, [], ◌∷◌, None, Some, codes}
-use Rattle.std.specs.Str.Parse.{IsNumeral, digits_value, signed_digits_value}
+-- The words that ask for each command.
+use Rattle.std.specs.Prelude.{◌≡◌, List, [], ◌∷◌, None, Some, map, codes}
+use Rattle.std.specs.Borrow.{Bor}
+use Rattle.std.specs.Str.Parse.{digits_value, signed_digits_value}
 use Rattle.cedar_names.specs.Names.{IsNameOf}
 use Rattle.cedar_names.specs.PlainNames.{bare_name}
 use Rattle.cedar_names.specs.Slots.{slot_text}
@@ -11,10 +12,13 @@ use Rattle.cedar_terms.specs.Types.{bare_type, type_text}
 use Rattle.cedar_terms.specs.declared.ops.UnaryOp.{UnaryOp}
 use Rattle.cedar_terms.specs.declared.ops.UnaryOp.TheVariants.{Not, Neg, IsEmpty}
 use Rattle.cedar_builders.specs.BareExpr.{Text}
-use Rattle.cedar_script.specs.Commands.{texts_now}
-use Rattle.cedar_script.specs.Words.{WritesLong}
+use Rattle.cedar_script.specs.Words.{WritesCount, WritesLong}
 use Rattle.cedar_script.specs.declared.line.Command.{Command}
 use Rattle.cedar_script.specs.declared.line.Command.TheVariants.{Bool, Long, String, Var, Slot, Unknown, If, And, Or, RawAnd, RawOr, Unary, Binary, Call, Get, Has, ExtHas, Like, Is, Set, Record, Bind, Substitute, Typed, Show}
+
+-- what references to texts point to
+abbrev pub texts_now : List (Bor Text) → List Text
+texts_now = map (λ t. t.now)
 
 -- a first word and nothing more
 abbrev pub Alone : Text → List Text → Type 0
@@ -35,10 +39,6 @@ WithTwo first P ws = ⊥
 abbrev pub WithThese : Text → List Text → List Text → Type 0
 WithThese first xs [] = ⊥
 WithThese first xs (w ∷ ws) = (w ≡ first) × (ws ≡ xs)
-
--- a word writes the number in decimal
-abbrev pub Writes : Text → ℕ → Type 0
-Writes word n = IsNumeral 10 word × (n ≡ digits_value 10 word)
 
 -- the word of an operator of one argument, whose minus is `neg`
 abbrev pub unary_word : UnaryOp → Text
@@ -62,13 +62,13 @@ Spells RawAnd ws = Alone (codes "raw-and") ws
 Spells RawOr ws = Alone (codes "raw-or") ws
 Spells (Unary op) ws = Alone (unary_word op) ws
 Spells (Binary op) ws = Alone (binary_op_text op) ws
-Spells (Call name n) ws = WithTwo (codes "call") (λ x y. IsNameOf x (bare_name name) × Writes y n) ws
+Spells (Call name n) ws = WithTwo (codes "call") (λ x y. IsNameOf x (bare_name name) × WritesCount y × (n ≡ digits_value 10 y)) ws
 Spells (Get k) ws = WithOne (codes "get") (λ x. x ≡ k.now) ws
 Spells (Has k) ws = WithOne (codes "has") (λ x. x ≡ k.now) ws
 Spells (ExtHas ks) ws = WithThese (codes "exthas") (ks.head.now ∷ texts_now ks.tail.items) ws
 Spells (Like p) ws = Alone (codes "like") ws × (p ≡ [])
 Spells (Is ty) ws = WithOne (codes "is") (λ x. IsNameOf x (bare_entity_type ty)) ws
-Spells (Set n) ws = WithOne (codes "set") (λ x. Writes x n) ws
+Spells (Set n) ws = WithOne (codes "set") (λ x. WritesCount x × (n ≡ digits_value 10 x)) ws
 Spells (Record ks) ws = WithThese (codes "record") (texts_now ks.items) ws
 Spells (Bind name) ws = WithOne (codes "bind") (λ x. x ≡ name.now) ws
 Spells Substitute ws = Alone (codes "substitute") ws

@@ -1,5 +1,6 @@
 -- The texts of expressions, in prefix form.
 use Rattle.std.specs.Prelude.{List, [], ◌∷◌, ◌++◌, map, codes, Option, None, Some, Ok, string_bytes}
+use Rattle.std.specs.List.{flat_map}
 use Rattle.std.specs.Str.{encode_utf8_all}
 use Rattle.cedar_names.specs.Names.{name_text}
 use Rattle.cedar_names.specs.Slots.{slot_text}
@@ -14,13 +15,12 @@ use Rattle.cedar_builders.specs.Ops.{Ops}
 use Rattle.cedar_script.specs.declared.sketch.SExpression.{SExpression, SExpression-F, fold-SExpression}
 
 -- each text behind a space
-abbrev pub spaced : List Text → Text
-spaced [] = []
-spaced (t ∷ ts) = 32 ∷ (t ++ spaced ts)
+abbrev pub spaced_text : List Text → Text
+spaced_text = flat_map (λ t. 32 ∷ t)
 
 -- a word and the texts that follow it, in round brackets
-abbrev pub listed : Text → List Text → Text
-listed word ts = 40 ∷ (word ++ (spaced ts ++ (41 ∷ [])))
+abbrev pub list_text : Text → List Text → Text
+list_text word ts = 40 ∷ (word ++ (spaced_text ts ++ (41 ∷ [])))
 
 -- the type of an unknown, if it has one
 abbrev pub annotation_texts : Option BareType → List Text
@@ -28,12 +28,12 @@ annotation_texts None = []
 annotation_texts (Some ty) = type_text ty ∷ []
 
 -- a pattern between double quotes
-abbrev pub pattern_quoted : List PatternElem → Text
-pattern_quoted p = 34 ∷ (encode_utf8_all (pattern_text p) ++ (34 ∷ []))
+abbrev pub quoted_pattern : List PatternElem → Text
+quoted_pattern p = 34 ∷ (encode_utf8_all (pattern_text p) ++ (34 ∷ []))
 
 -- a key of a record and its value
 abbrev pub pair_text : Text × Text → Text
-pair_text p = listed (quoted p.0) (p.1 ∷ [])
+pair_text p = list_text (quoted p.0) (p.1 ∷ [])
 
 -- the text of each kind of expression
 abbrev pub sketch_ops : Ops Text ⊥
@@ -41,26 +41,26 @@ sketch_ops = record {
   lit_of = literal_text;
   var_of = var_text;
   slot_of = slot_text;
-  unknown_of = λ n t. listed (codes "unknown") (n ∷ annotation_texts t);
-  if_of = λ t a b. listed (codes "if") (t ∷ a ∷ b ∷ []);
-  and_of = λ l r. listed (codes "and") (l ∷ r ∷ []);
-  or_of = λ l r. listed (codes "or") (l ∷ r ∷ []);
-  unary_of = λ op a. listed (unary_op_text op) (a ∷ []);
-  binary_of = λ op a b. listed (binary_op_text op) (a ∷ b ∷ []);
-  call_of = λ n ts. Ok (listed (codes "call") (name_text n ∷ ts));
-  get_of = λ e k. listed (codes "get") (e ∷ quoted k ∷ []);
-  has_of = λ e k. listed (codes "has") (e ∷ quoted k ∷ []);
-  ext_has_of = λ e k ks. listed (codes "has") (e ∷ quoted k ∷ map quoted ks);
-  like_of = λ e p. listed (codes "like") (e ∷ pattern_quoted p ∷ []);
-  set_of = λ ts. listed (codes "set") ts;
-  record_of = λ ps. listed (codes "record") (map pair_text ps);
-  is_of = λ e n. listed (codes "is") (e ∷ name_text n ∷ []);
+  unknown_of = λ n t. list_text (codes "unknown") (n ∷ annotation_texts t);
+  if_of = λ t a b. list_text (codes "if") (t ∷ a ∷ b ∷ []);
+  and_of = λ l r. list_text (codes "and") (l ∷ r ∷ []);
+  or_of = λ l r. list_text (codes "or") (l ∷ r ∷ []);
+  unary_of = λ op a. list_text (unary_op_text op) (a ∷ []);
+  binary_of = λ op a b. list_text (binary_op_text op) (a ∷ b ∷ []);
+  call_of = λ n ts. Ok (list_text (codes "call") (name_text n ∷ ts));
+  get_of = λ e k. list_text (codes "get") (e ∷ quoted k ∷ []);
+  has_of = λ e k. list_text (codes "has") (e ∷ quoted k ∷ []);
+  ext_has_of = λ e k ks. list_text (codes "has") (e ∷ quoted k ∷ map quoted ks);
+  like_of = λ e p. list_text (codes "like") (e ∷ quoted_pattern p ∷ []);
+  set_of = λ ts. list_text (codes "set") ts;
+  record_of = λ ps. list_text (codes "record") (map pair_text ps);
+  is_of = λ e n. list_text (codes "is") (e ∷ name_text n ∷ []);
 }
 
 -- one level, whose parts are texts already
 abbrev pub text_step : SExpression-F Text → Text
 text_step (SExpression-F.Atom word) = string_bytes word
-text_step (SExpression-F.List word parts) = listed (string_bytes word) parts.items
+text_step (SExpression-F.List word parts) = list_text (string_bytes word) parts.items
 
 -- the text of an S-expression
 abbrev pub text_of : SExpression → Text

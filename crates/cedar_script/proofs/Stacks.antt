@@ -7,7 +7,7 @@ use Rattle.std.proofs.Math.Seq.{take-append_seam, drop-append_seam}
 pub reverse_push : {A : Type 0} → (xs : List A) (x : A) → reverse (xs ++ x ∷ []) ≡ x ∷ reverse xs
 reverse_push xs x = reverse-append xs (x ∷ [])
 
--- what lies past a place is on top
+-- what lies past an index is on top
 reverse_split : {A : Type 0} → (xs : List A) (kept : ℕ) → reverse xs ≡ reverse (drop kept xs) ++ reverse (take kept xs)
 reverse_split xs kept = sym (ap reverse (take-append-drop kept xs)) ∙ reverse-append (take kept xs) (drop kept xs)
 
@@ -18,13 +18,13 @@ seam front back n h = subst (λ m. (take m (front ++ back) ≡ front) × (drop m
 length_past : {A : Type 0} → (xs : List A) (kept count : ℕ) → kept + count ≡ length xs → length (reverse (drop kept xs)) ≡ count
 length_past xs kept count h = let e : length (drop kept xs) ≡ length xs - kept = length-drop kept xs in length-reverse (drop kept xs) ∙ e ∙ omega (arith, h)
 
--- the expressions past a place are those on top, the lowest first
-pub past_place : {A : Type 0} → (xs : List A) (kept count : ℕ) → kept + count ≡ length xs → drop kept xs ≡ reverse (take count (reverse xs))
-past_place xs kept count h =
+-- the expressions past an index are those on top, the lowest first
+pub past_index : {A : Type 0} → (xs : List A) (kept count : ℕ) → kept + count ≡ length xs → drop kept xs ≡ reverse (take count (reverse xs))
+past_index xs kept count h =
     sym (reverse-reverse (drop kept xs))
     ∙ ap reverse (sym ((seam (reverse (drop kept xs)) (reverse (take kept xs)) count (length_past xs kept count h)).0) ∙ ap (take count) (sym (reverse_split xs kept)))
 
 -- and the others stay
-pub before_place : {A : Type 0} → (xs : List A) (kept count : ℕ) → kept + count ≡ length xs → reverse (take kept xs) ≡ drop count (reverse xs)
-before_place xs kept count h =
+pub before_index : {A : Type 0} → (xs : List A) (kept count : ℕ) → kept + count ≡ length xs → reverse (take kept xs) ≡ drop count (reverse xs)
+before_index xs kept count h =
     sym ((seam (reverse (drop kept xs)) (reverse (take kept xs)) count (length_past xs kept count h)).1) ∙ ap (drop count) (sym (reverse_split xs kept))

@@ -3,7 +3,7 @@ use Rattle.std.specs.Str.{chars}
 use denote.Text.{Utf8}
 use denote.Shadow.{shadow}
 use Rattle.cedar_script.specs.Patterns.{spelling}
-use Rattle.cedar_script.proofs.pattern.read_pattern.Given as goal
+use Rattle.cedar_script.proofs.pattern.parse_pattern.Given as goal
 
 -- what was read, and then the rest
 abbrev pub invariant-elems : goal.invariant-elems

@@ -1,8 +1,8 @@
 use Rattle.std.proofs.Common.{◌≡◌, ◌++◌, map}
 use Rattle.std.specs.Vec.Iter.{into_iter_items}
 use Rattle.cedar_builders.specs.Keys.{meant_pairs}
-use Rattle.cedar_script.specs.Sketch.{pair_text, text_of}
-use Rattle.cedar_script.proofs.sketch.pair_lists.Given as goal
+use Rattle.cedar_script.specs.SketchTexts.{pair_text, text_of}
+use Rattle.cedar_script.proofs.sketch.make_pair_lists.Given as goal
 
 -- what is made, and then the rest
 abbrev pub invariant-loop-key : goal.invariant-loop-key

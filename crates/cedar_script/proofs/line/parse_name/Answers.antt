@@ -1,7 +1,7 @@
 use Rattle.std.proofs.Common.{inr, codes, subst}
 use Rattle.cedar_names.specs.Names.{IsNameText}
 use Rattle.cedar_names.specs.Readers.{refused_name, IsReservedName, OnReadError}
-use Rattle.cedar_script.proofs.line.read_name.Goals as goal
+use Rattle.cedar_script.proofs.line.parse_name.Goals as goal
 
 pub returns-in-Err-Reserved-clause-bad : goal.returns-in-Err-Reserved-clause-bad
 returns-in-Err-Reserved-clause-bad c =

@@ -1,6 +1,6 @@
 use Rattle.std.specs.Str.{chars}
 use Rattle.cedar_script.proofs.Spelling.{spells_none}
-use Rattle.cedar_script.proofs.pattern.read_pattern.Goals as goal
+use Rattle.cedar_script.proofs.pattern.parse_pattern.Goals as goal
 
 pub returns-in-Some-first_char-clause-bad : goal.returns-in-Some-first_char-clause-bad
 returns-in-Some-first_char-clause-bad c =

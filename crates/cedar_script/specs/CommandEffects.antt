@@ -1,0 +1,105 @@
+-- What each command of the script makes of the stack, whose top stands first here, and of the bindings.
+use Rattle.std.specs.Prelude.{◌≡◌, ℕ, List, Ok, Option, Some, None, map, drop}
+use Rattle.std.specs.Borrow.{Bor}
+use Rattle.std.specs.Global.{Global}
+use Rattle.std.specs.List.{zip}
+use Rattle.std.specs.String.{string_bytes}
+use Rattle.std.specs.Vec.{vec_len}
+use Rattle.std.specs.declared.string.String.{String as OwnedText}
+use Rattle.cedar_names.specs.PlainNames.{bare_name}
+use Rattle.cedar_terms.specs.Entities.{bare_entity_type}
+use Rattle.cedar_terms.specs.Literals.{BoolLit, LongLit, StringLit}
+use Rattle.cedar_terms.specs.Unknowns.{bare_annotation}
+use Rattle.cedar_builders.specs.BareExpr.{Text, BareExpr, Lit, Var as variable, Unknown as unknown, And as conjunction, Or as disjunction, ExtensionFunctionApp as call, Set as members, Record as record_tree, fields_of}
+use Rattle.cedar_builders.specs.TypeClash.{clash}
+use Rattle.cedar_builders.specs.Environment.{Env, empty, fold}
+use Rattle.cedar_builders.specs.Trees.{tree_ops}
+use Rattle.cedar_builders.specs.Keys.{in_key_order}
+use Rattle.cedar_exprs.specs.BareExpr.{bare_expr, bare_exprs}
+use Rattle.cedar_exprs.specs.declared.expr.Expr.{Expr}
+use Rattle.cedar_script.specs.CommandWords.{texts_now}
+use Rattle.cedar_script.specs.SketchTexts.{sketch_ops}
+use Rattle.cedar_script.specs.Stack.{Stack, stack_of, bindings_of, environment, binding_of, Pushes, TopHas, ReplacesOne, ReplacesTwo, ReplacesThree, ReplacesMany}
+use Rattle.cedar_script.specs.declared.line.Command.{Command}
+use Rattle.cedar_script.specs.declared.line.Command.TheVariants.{Bool as Bool', Long, String, Var, Slot, Unknown, If, And, Or, RawAnd, RawOr, Unary, Binary, Call, Get, Has, ExtHas, Like, Is, Set, Record, Bind, Substitute, Typed, Show}
+use Rattle.cedar_script.specs.declared.work.State.{State}
+
+-- how many expressions a command needs on the stack
+abbrev pub needed_count : Command → ℕ
+needed_count (Bool' b) = 0
+needed_count (Long n) = 0
+needed_count (String text) = 0
+needed_count (Var var) = 0
+needed_count (Slot slot) = 0
+needed_count (Unknown name annotation) = 0
+needed_count If = 3
+needed_count And = 2
+needed_count Or = 2
+needed_count RawAnd = 2
+needed_count RawOr = 2
+needed_count (Unary op) = 1
+needed_count (Binary op) = 2
+needed_count (Call name count) = count
+needed_count (Get attribute) = 1
+needed_count (Has attribute) = 1
+needed_count (ExtHas attributes) = 1
+needed_count (Like pattern) = 1
+needed_count (Is entity_type) = 1
+needed_count (Set count) = count
+needed_count (Record keys) = vec_len keys
+needed_count (Bind name) = 1
+needed_count Substitute = 1
+needed_count Typed = 1
+needed_count Show = 1
+
+-- how many expressions stand in place of those: `bind` leaves none, and every other command one
+abbrev pub left_count : Command → ℕ
+left_count (Bind name) = 0
+left_count _ = 1
+
+-- each key with the expression at its index
+abbrev pub key_pairs : List (Bor Text) → List (Expr Unit) → List (Text × Expr Unit)
+key_pairs keys exprs = map (λ p. (p.0.now, p.1)) (zip keys exprs)
+
+-- the record of keys and expressions
+abbrev pub record_of : List (Bor Text) → List (Expr Unit) → BareExpr
+record_of keys exprs = record_tree (fields_of (map (λ p. (p.0, bare_expr p.1)) (in_key_order (key_pairs keys exprs))))
+
+-- what a command makes of the old stack, where names are bound as `env` says
+abbrev pub Works : Env → Command → Stack → Stack → Type 0
+Works env (Bool' b) old new = Pushes (λ e. bare_expr e ≡ Lit (BoolLit b)) old new
+Works env (Long n) old new = Pushes (λ e. bare_expr e ≡ Lit (LongLit n)) old new
+Works env (String text) old new = Pushes (λ e. bare_expr e ≡ Lit (StringLit text.now)) old new
+Works env (Var v) old new = Pushes (λ e. bare_expr e ≡ variable v) old new
+Works env (Slot s) old new = Pushes (λ e. bare_expr e ≡ tree_ops.slot_of s) old new
+Works env (Unknown name annotation) old new = Pushes (λ e. bare_expr e ≡ unknown name.now (bare_annotation annotation)) old new
+Works env If old new = ReplacesThree (λ a b c e. bare_expr e ≡ tree_ops.if_of (bare_expr a) (bare_expr b) (bare_expr c)) old new
+Works env And old new = ReplacesTwo (λ a b e. bare_expr e ≡ tree_ops.and_of (bare_expr a) (bare_expr b)) old new
+Works env Or old new = ReplacesTwo (λ a b e. bare_expr e ≡ tree_ops.or_of (bare_expr a) (bare_expr b)) old new
+Works env RawAnd old new = ReplacesTwo (λ a b e. bare_expr e ≡ conjunction (bare_expr a) (bare_expr b)) old new
+Works env RawOr old new = ReplacesTwo (λ a b e. bare_expr e ≡ disjunction (bare_expr a) (bare_expr b)) old new
+Works env (Unary op) old new = ReplacesOne (λ a e. bare_expr e ≡ tree_ops.unary_of op (bare_expr a)) old new
+Works env (Binary op) old new = ReplacesTwo (λ a b e. bare_expr e ≡ tree_ops.binary_of op (bare_expr a) (bare_expr b)) old new
+Works env (Call name count) old new = ReplacesMany count (λ args e. bare_expr e ≡ call (bare_name name) (bare_exprs args)) old new
+Works env (Get k) old new = ReplacesOne (λ a e. bare_expr e ≡ tree_ops.get_of (bare_expr a) k.now) old new
+Works env (Has k) old new = ReplacesOne (λ a e. bare_expr e ≡ tree_ops.has_of (bare_expr a) k.now) old new
+Works env (ExtHas ks) old new = ReplacesOne (λ a e. bare_expr e ≡ tree_ops.ext_has_of (bare_expr a) ks.head.now (texts_now ks.tail.items)) old new
+Works env (Like p) old new = ReplacesOne (λ a e. bare_expr e ≡ tree_ops.like_of (bare_expr a) p) old new
+Works env (Is ty) old new = ReplacesOne (λ a e. bare_expr e ≡ tree_ops.is_of (bare_expr a) (bare_entity_type ty)) old new
+Works env (Set count) old new = ReplacesMany count (λ es e. bare_expr e ≡ members (bare_exprs es)) old new
+Works env (Record keys) old new = ReplacesMany (vec_len keys) (λ values e. bare_expr e ≡ record_of keys.items values) old new
+Works env (Bind name) old new = new ≡ drop 1 old
+Works env Substitute old new = ReplacesOne (λ a e. fold tree_ops env (bare_expr a) ≡ Ok (bare_expr e)) old new
+Works env Typed old new = ReplacesOne (λ a e. (fold tree_ops env (bare_expr a) ≡ Ok (bare_expr e)) × (clash env (bare_expr a) ≡ None)) old new
+Works env Show old new = new ≡ old
+
+-- what is bound after a command: `bind` binds its name to the top, and every other command changes nothing
+abbrev pub Binds : Command → State → State → Type 0
+Binds (Bind name) old new = TopHas (λ top. environment (bindings_of new) name.now ≡ binding_of (bare_expr top)) (stack_of old)
+Binds _ old new = bindings_of new ≡ bindings_of old
+
+-- what a command shows of the stack that it got: `show` the text of the top, and every other command nothing
+abbrev pub Shows : Command → Stack → Option (OwnedText Global) → Type 0
+Shows Show stack None = ⊥
+Shows Show stack (Some text) = TopHas (λ top. fold sketch_ops empty (bare_expr top) ≡ Ok (string_bytes text)) stack
+Shows _ stack shown = shown ≡ None
