@@ -1,20 +1,30 @@
 //! Entity types and entities by their identifiers (Cedar's file `entity.rs`).
-ghost use Rattle.std.specs.Prelude.{◌≡◌, IfOk, Some, codes};
+ghost use Rattle.std.specs.Prelude.{◌≡◌, IfOk, Some, codes, refl};
+ghost use Rattle.std.specs.Cmp.{partial_equiv_from_equiv, on_equiv, on_po, on_total};
+ghost use Rattle.std.specs.Ordering.{as_partial_cmp, on};
 ghost use Rattle.std.specs.Rc.{rc_str_bytes};
 ghost use Rattle.cedar_names.specs.Names.{name_text, unqualified};
+ghost use Rattle.cedar_names.specs.NameOrder.{name_eq, name_eq_equiv, name_fed, name_fed-alike};
+ghost use Rattle.cedar_names.specs.NameOrder.{name_cmp, name_cmp_total, name_ties, name_po};
 ghost use Rattle.cedar_names.specs.PlainNames.{name_place};
 ghost use Rattle.cedar_terms.specs.Entities.{entity_type_name, bare_entity_type};
 ghost use Rattle.cedar_terms.specs.Entities.{bare_entity_uid, entity_type_of, entity_uid_text};
+ghost use Rattle.cedar_terms.specs.EntityOrder.{entity_uid_eq, entity_uid_eq_equiv};
+ghost use Rattle.cedar_terms.specs.EntityOrder.{entity_uid_cmp, entity_uid_cmp_total};
+ghost use Rattle.cedar_terms.specs.EntityOrder.{entity_uid_ties, entity_uid_po};
+ghost use Rattle.cedar_terms.specs.EntityOrder.{entity_uid_fed, entity_uid_fed-alike};
 
 use crate::escape::Escaped;
 use crate::known::known_unreserved_id;
 use cedar_names::Name;
 use std::alloc::{AllocError, Global};
+use std::cmp::Ordering;
 use std::fmt;
+use std::hash::{Hash, Hasher};
 use std::rc::RcStr;
 
 /// The type of an entity, which is its name. Types compare as their names do, without places.
-#[derive(Debug, PartialEq, Eq, PartialOrd, Ord, Hash, Drop)]
+#[derive(Debug, Drop)]
 pub struct EntityType {
     name: Name,
 }
@@ -46,6 +56,54 @@ impl EntityType {
     }
 }
 
+impl PartialEq for EntityType {
+    ghost eq = { on bare_entity_type name_eq };
+
+    ghost laws = { partial_equiv_from_equiv (on_equiv bare_entity_type name_eq_equiv) };
+
+    fn eq(&self, other: &EntityType) -> bool {
+        self.name == other.name
+    }
+}
+
+impl Eq for EntityType {
+    ghost laws = { on_equiv bare_entity_type name_eq_equiv };
+}
+
+impl PartialOrd for EntityType {
+    ghost partial_cmp = { as_partial_cmp (on bare_entity_type name_cmp) };
+
+    ghost laws = { on_po bare_entity_type name_po };
+
+    fn partial_cmp(&self, other: &EntityType) -> Option<Ordering> {
+        Some(self.cmp(other))
+    }
+}
+
+impl Ord for EntityType {
+    ghost cmp = { on bare_entity_type name_cmp };
+
+    ghost total = { on_total bare_entity_type name_cmp_total };
+
+    ghost matches_partial_cmp = { λ _ _. refl };
+
+    ghost matches_eq = { λ s t. name_ties (bare_entity_type s) (bare_entity_type t) };
+
+    fn cmp(&self, other: &EntityType) -> Ordering {
+        self.name.cmp(&other.name)
+    }
+}
+
+impl Hash for EntityType {
+    ghost hash_input = { λ ty. name_fed (bare_entity_type ty) };
+
+    ghost respects_eq = { λ s t h. name_fed-alike (bare_entity_type s) (bare_entity_type t) h };
+
+    fn hash<H: Hasher>(&self, state: &mut H) {
+        self.name.hash(state);
+    }
+}
+
 impl fmt::Display for EntityType {
     ghost output = { λ ty. Some (name_text (bare_entity_type ty)) };
 
@@ -55,7 +113,7 @@ impl fmt::Display for EntityType {
 }
 
 /// An entity, by its type and its identifier, which compare in this order.
-#[derive(Debug, PartialEq, Eq, PartialOrd, Ord, Hash, Drop)]
+#[derive(Debug, Drop)]
 pub struct EntityUID {
     ty: EntityType,
     eid: RcStr,
@@ -106,6 +164,57 @@ impl EntityUID {
         let ty = self.ty.clone(alloc)?;
         let eid = self.eid.clone()?;
         Ok(EntityUID { ty, eid })
+    }
+}
+
+impl PartialEq for EntityUID {
+    ghost eq = { on bare_entity_uid entity_uid_eq };
+
+    ghost laws = { partial_equiv_from_equiv (on_equiv bare_entity_uid entity_uid_eq_equiv) };
+
+    fn eq(&self, other: &EntityUID) -> bool {
+        self.ty == other.ty && self.eid == other.eid
+    }
+}
+
+impl Eq for EntityUID {
+    ghost laws = { on_equiv bare_entity_uid entity_uid_eq_equiv };
+}
+
+impl PartialOrd for EntityUID {
+    ghost partial_cmp = { as_partial_cmp (on bare_entity_uid entity_uid_cmp) };
+
+    ghost laws = { on_po bare_entity_uid entity_uid_po };
+
+    fn partial_cmp(&self, other: &EntityUID) -> Option<Ordering> {
+        Some(self.cmp(other))
+    }
+}
+
+impl Ord for EntityUID {
+    ghost cmp = { on bare_entity_uid entity_uid_cmp };
+
+    ghost total = { on_total bare_entity_uid entity_uid_cmp_total };
+
+    ghost matches_partial_cmp = { λ _ _. refl };
+
+    ghost matches_eq = { λ u v. entity_uid_ties (bare_entity_uid u) (bare_entity_uid v) };
+
+    fn cmp(&self, other: &EntityUID) -> Ordering {
+        self.ty
+            .cmp(&other.ty)
+            .then_with(|| self.eid.cmp(&other.eid))
+    }
+}
+
+impl Hash for EntityUID {
+    ghost hash_input = { λ uid. entity_uid_fed (bare_entity_uid uid) };
+
+    ghost respects_eq = { λ u v h. entity_uid_fed-alike (bare_entity_uid u) (bare_entity_uid v) h };
+
+    fn hash<H: Hasher>(&self, state: &mut H) {
+        self.ty.hash(state);
+        self.eid.hash(state);
     }
 }
 
