@@ -13,3 +13,6 @@ pub mod RisingKeys
 pub mod Errors
 pub mod Answers
 pub mod Negated
+pub mod Count
+pub mod NodeByNode
+pub mod Rebuilding
