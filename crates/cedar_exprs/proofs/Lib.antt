@@ -1,7 +1,9 @@
 pub mod Nodes
 pub mod Records
-pub mod Rebuilt
-pub mod BuildingChildren
+pub mod ChildrenOf
+pub mod KeyedValues
+pub mod Refused
+pub mod Fewer
 pub mod Leaves
 pub mod Levels
 pub mod Derived
@@ -10,3 +12,4 @@ pub mod Walks
 pub mod BareWalks
 pub mod NotRestrictedLemmas
 pub mod RecordKeys
+pub mod Running

@@ -1,4 +1,7 @@
 pub mod BareExpr
+pub mod Machine
+pub mod Steps
+pub mod Renewal
 pub mod ExprData
 pub mod BuiltNode
 pub mod RecordPairs

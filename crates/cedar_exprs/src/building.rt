@@ -1,27 +1,29 @@
-// Building by any builder.
-//
-// `built` has a small function for each kind that is not a leaf, with the last child as its first argument: a walk over
-// many kinds in one function would keep the locals of all of them on the stack at every level.
-ghost use Rattle.std.specs.Prelude.{◌≡◌, Ok, IfOk};
+//! Building by any builder, as a walk.
+//!
+//! `make` has a small function for each kind: one function would keep room for the locals of all kinds.
+ghost use Rattle.std.specs.Prelude.{◌≡◌, ◌≤◌, Ok, IfOk, length, vec_len};
 ghost use Rattle.std.specs.Rc.{rc_str_bytes};
 ghost use Rattle.cedar_names.specs.PlainNames.{bare_name};
 ghost use Rattle.cedar_terms.specs.Entities.{bare_entity_type};
 ghost use Rattle.cedar_terms.specs.Literals.{bare_literal};
 ghost use Rattle.cedar_terms.specs.Unknowns.{bare_unknown};
+ghost use Rattle.cedar_builders.specs.Answers.{Gives};
 ghost use Rattle.cedar_builders.specs.Environment.{empty, fold, own};
-ghost use Rattle.cedar_builders.specs.Fold.{on_one, and_then, fold_all, fold_fields};
-ghost use Rattle.cedar_builders.specs.Answers.{Gives, GivesAll, GivesPairs};
-ghost use Rattle.cedar_builders.specs.Keys.{keys_of, IsRising};
-ghost use Rattle.cedar_exprs.specs.BareExpr.{bare_expr, bare_exprs, bare_fields, further};
+ghost use Rattle.cedar_builders.specs.NodeByNode.{OfOne, OfTwo, OfThree, IsBuiltOf, keyed, fold_by_nodes};
+ghost use Rattle.cedar_exprs.specs.BareExpr.{bare_expr, bare_fields, further};
+ghost use Rattle.cedar_exprs.specs.Machine.{IsMade, IsMadeOfLast};
 
 use crate::expr::{Expr, ExprKind};
+use crate::machine::{Walk, WalkFault, run};
+use crate::results::{keyed, take_many, take_three, take_two};
 use cedar_builders::{
     BuildFault, ExprBuilder, ExprBuilderInfallibleBuild, ExpressionConstructionError,
 };
-use cedar_names::{Loc, Name, NonEmpty, SlotId};
-use cedar_terms::{BinaryOp, EntityType, Literal, Pattern, UnaryOp, Unknown, Var};
+use cedar_names::{Loc, Name, NonEmpty};
+use cedar_terms::{BinaryOp, EntityType, Literal, Pattern, UnaryOp, Unknown};
 use std::alloc::{AllocError, Global};
 use std::collections::BTreeMap;
+use std::marker::PhantomData;
 use std::rc::RcStr;
 
 impl<T> Expr<T> {
@@ -33,7 +35,11 @@ impl<T> Expr<T> {
     ) -> Result<B::Expr, BuildFault<B::BuildError>>
         ensures { Gives B.meaning_of B.fault_of (fold B.ops empty (bare_expr self.now)) result }
     {
-        built::<B, T>(alloc, self)
+        match run(alloc, &Building::<B> { of: PhantomData }, self) {
+            Ok(built) => Ok(built),
+            Err(WalkFault::Refused(error)) => Err(BuildFault::Build(error)),
+            Err(WalkFault::Memory) => Err(BuildFault::Memory),
+        }
     }
 
     /// What a builder makes of the expression, if none of the builder's calls is refused for a reason of its own.
@@ -51,6 +57,64 @@ impl<T> Expr<T> {
     }
 }
 
+// Each node by a new builder.
+#[derive(Drop)]
+struct Building<B> {
+    of: PhantomData<B>,
+}
+
+impl<T, B: ExprBuilder> Walk<T> for Building<B> {
+    type Out = B::Expr;
+
+    type Refusal = B::BuildError;
+
+    ghost Meaning = { B.Meaning };
+
+    ghost Fault = { B.Fault };
+
+    ghost meaning_of = { B.meaning_of };
+
+    ghost fault_of = { B.fault_of };
+
+    ghost answer = { λ _ e. fold B.ops empty e };
+
+    ghost is_made_of = { λ _ e. IsBuiltOf B.ops (own B.ops) e };
+
+    fn make(
+        &self,
+        alloc: Global,
+        node: &Expr<T>,
+        done: &mut Vec<B::Expr>,
+    ) -> Result<B::Expr, WalkFault<B::BuildError>> {
+        let builder = builder_at::<B>(alloc, node.source_loc())?;
+        match node.expr_kind() {
+            ExprKind::Lit(literal) => Ok(build_literal(alloc, builder, literal)?),
+            ExprKind::Var(var) => Ok(builder.var(alloc, *var)?),
+            ExprKind::Slot(slot) => Ok(builder.slot(alloc, *slot)?),
+            ExprKind::Unknown(unknown) => Ok(build_unknown(alloc, builder, unknown)?),
+            ExprKind::If { .. } => Ok(build_if(alloc, builder, done)?),
+            ExprKind::And { .. } => Ok(build_and(alloc, builder, done)?),
+            ExprKind::Or { .. } => Ok(build_or(alloc, builder, done)?),
+            ExprKind::UnaryApp { op, .. } => Ok(build_unary(alloc, builder, *op, done)?),
+            ExprKind::BinaryApp { op, .. } => Ok(build_binary(alloc, builder, *op, done)?),
+            ExprKind::ExtensionFunctionApp { fn_name, args } => {
+                build_call(alloc, builder, fn_name, args.len(), done)
+            }
+            ExprKind::GetAttr { attr, .. } => Ok(build_get(alloc, builder, attr, done)?),
+            ExprKind::HasAttr { attr, .. } => Ok(build_has(alloc, builder, attr, done)?),
+            ExprKind::ExtHasAttr { attrs, .. } => {
+                Ok(build_extended_has(alloc, builder, attrs, done)?)
+            }
+            ExprKind::Like { pattern, .. } => Ok(build_like(alloc, builder, pattern, done)?),
+            ExprKind::Set(members) => Ok(build_set(alloc, builder, members.len(), done)?),
+            ExprKind::Record(pairs) => Ok(build_record(alloc, builder, pairs, done)?),
+            ExprKind::Is { entity_type, .. } => Ok(build_is(alloc, builder, entity_type, done)?),
+        }
+    }
+
+    ghost by_nodes = { λ _. fold_by_nodes B.ops (own B.ops) };
+}
+
 // A new builder with a copy of this place.
 fn builder_at<B: ExprBuilder>(alloc: Global, loc: Option<&Loc>) -> Result<B, AllocError>
     ensures { IfOk result B.is_new }
@@ -58,312 +122,276 @@ fn builder_at<B: ExprBuilder>(alloc: Global, loc: Option<&Loc>) -> Result<B, All
     Ok(B::new().with_maybe_source_loc(Loc::clone_option(alloc, loc)?))
 }
 
-#[cycle(built)]
-fn built<B: ExprBuilder, T>(
+#[inline(never)]
+fn build_literal<B: ExprBuilder>(
     alloc: Global,
-    e: &Expr<T>,
-) -> Result<B::Expr, BuildFault<B::BuildError>>
-    ensures { Gives B.meaning_of B.fault_of (fold B.ops empty (bare_expr e.now)) result }
+    builder: B,
+    literal: &Literal,
+) -> Result<B::Expr, AllocError>
+    requires { B.is_new builder }
+    ensures { IfOk result (λ e. B.meaning_of e ≡ B.ops.lit_of (bare_literal literal.now)) }
 {
-    let loc = e.source_loc();
-    match e.expr_kind() {
-        ExprKind::Lit(literal) => Ok(literal_at::<B>(alloc, literal, loc)?),
-        ExprKind::Var(var) => Ok(var_at::<B>(alloc, *var, loc)?),
-        ExprKind::Slot(slot) => Ok(slot_at::<B>(alloc, *slot, loc)?),
-        ExprKind::Unknown(unknown) => Ok(unknown_at::<B>(alloc, unknown, loc)?),
-        ExprKind::If {
-            test_expr,
-            then_expr,
-            else_expr,
-        } => {
-            let test_expr = built::<B, T>(alloc, test_expr)?;
-            let then_expr = built::<B, T>(alloc, then_expr)?;
-            if_with::<B, T>(alloc, else_expr, test_expr, then_expr, loc)
-        }
-        ExprKind::And { left, right } => {
-            let left = built::<B, T>(alloc, left)?;
-            and_with::<B, T>(alloc, right, left, loc)
-        }
-        ExprKind::Or { left, right } => {
-            let left = built::<B, T>(alloc, left)?;
-            or_with::<B, T>(alloc, right, left, loc)
-        }
-        ExprKind::UnaryApp { op, arg } => unary_with::<B, T>(alloc, arg, *op, loc),
-        ExprKind::BinaryApp { op, arg1, arg2 } => {
-            let arg1 = built::<B, T>(alloc, arg1)?;
-            binary_with::<B, T>(alloc, arg2, *op, arg1, loc)
-        }
-        ExprKind::ExtensionFunctionApp { fn_name, args } => call_with::<B, T>(
-            alloc, args, fn_name, loc,
-        ),
-        ExprKind::GetAttr { expr, attr } => get_with::<B, T>(alloc, expr, attr, loc),
-        ExprKind::HasAttr { expr, attr } => has_with::<B, T>(alloc, expr, attr, loc),
-        ExprKind::ExtHasAttr { expr, attrs } => extended_has_with::<B, T>(alloc, expr, attrs, loc),
-        ExprKind::Like { expr, pattern } => like_with::<B, T>(alloc, expr, pattern, loc),
-        ExprKind::Set(members) => set_with::<B, T>(alloc, members, loc),
-        ExprKind::Record(pairs) => record_with::<B, T>(alloc, pairs, loc),
-        ExprKind::Is { expr, entity_type } => is_with::<B, T>(alloc, expr, entity_type, loc),
+    builder.val(alloc, literal.clone(alloc)?)
+}
+
+#[inline(never)]
+fn build_unknown<B: ExprBuilder>(
+    alloc: Global,
+    builder: B,
+    unknown: &Unknown,
+) -> Result<B::Expr, AllocError>
+    requires { B.is_new builder }
+    ensures {
+        IfOk result (λ e.
+            B.meaning_of e
+                ≡ B.ops.unknown_of (bare_unknown unknown.now).name
+                    (bare_unknown unknown.now).annotation)
+    }
+{
+    builder.unknown(alloc, unknown.clone(alloc)?)
+}
+
+#[inline(never)]
+fn build_if<B: ExprBuilder>(
+    alloc: Global,
+    builder: B,
+    done: &mut Vec<B::Expr>,
+) -> Result<B::Expr, AllocError>
+    requires new { B.is_new builder }
+    requires room { 3 ≤ vec_len done.old }
+    ensures {
+        IfOk result
+            (IsMadeOfLast {F = B.Fault} B.meaning_of 3 (OfThree B.ops.if_of) done.old.items done.new.items)
+    }
+{
+    let (test_expr, then_expr, else_expr) = take_three(done);
+    builder.ite(alloc, test_expr, then_expr, else_expr)
+}
+
+#[inline(never)]
+fn build_and<B: ExprBuilder>(
+    alloc: Global,
+    builder: B,
+    done: &mut Vec<B::Expr>,
+) -> Result<B::Expr, AllocError>
+    requires new { B.is_new builder }
+    requires room { 2 ≤ vec_len done.old }
+    ensures {
+        IfOk result
+            (IsMadeOfLast {F = B.Fault} B.meaning_of 2 (OfTwo B.ops.and_of) done.old.items done.new.items)
+    }
+{
+    let (left, right) = take_two(done);
+    builder.and(alloc, left, right)
+}
+
+#[inline(never)]
+fn build_or<B: ExprBuilder>(
+    alloc: Global,
+    builder: B,
+    done: &mut Vec<B::Expr>,
+) -> Result<B::Expr, AllocError>
+    requires new { B.is_new builder }
+    requires room { 2 ≤ vec_len done.old }
+    ensures {
+        IfOk result
+            (IsMadeOfLast {F = B.Fault} B.meaning_of 2 (OfTwo B.ops.or_of) done.old.items done.new.items)
+    }
+{
+    let (left, right) = take_two(done);
+    builder.or(alloc, left, right)
+}
+
+#[inline(never)]
+fn build_unary<B: ExprBuilder>(
+    alloc: Global,
+    builder: B,
+    op: UnaryOp,
+    done: &mut Vec<B::Expr>,
+) -> Result<B::Expr, AllocError>
+    requires new { B.is_new builder }
+    requires room { 1 ≤ vec_len done.old }
+    ensures {
+        IfOk result
+            (IsMadeOfLast {F = B.Fault} B.meaning_of 1 (OfOne (B.ops.unary_of op)) done.old.items done.new.items)
+    }
+{
+    builder.unary_app(alloc, op, done.take_last())
+}
+
+#[inline(never)]
+fn build_binary<B: ExprBuilder>(
+    alloc: Global,
+    builder: B,
+    op: BinaryOp,
+    done: &mut Vec<B::Expr>,
+) -> Result<B::Expr, AllocError>
+    requires new { B.is_new builder }
+    requires room { 2 ≤ vec_len done.old }
+    ensures {
+        IfOk result
+            (IsMadeOfLast {F = B.Fault} B.meaning_of 2 (OfTwo (B.ops.binary_of op)) done.old.items done.new.items)
+    }
+{
+    let (arg1, arg2) = take_two(done);
+    builder.binary_app(alloc, op, arg1, arg2)
+}
+
+#[inline(never)]
+fn build_call<B: ExprBuilder>(
+    alloc: Global,
+    builder: B,
+    fn_name: &Name,
+    count: usize,
+    done: &mut Vec<B::Expr>,
+) -> Result<B::Expr, WalkFault<B::BuildError>>
+    requires new { B.is_new builder }
+    requires room { count ≤ vec_len done.old }
+    ensures {
+        IsMade B.meaning_of B.fault_of (λ ms r. r ≡ B.ops.call_of (bare_name fn_name.now) ms) count
+            done.old.items done.new.items result
+    }
+{
+    let args = take_many(done, count)?;
+    match builder.call_extension_fn(alloc, fn_name.clone(alloc)?, args) {
+        Ok(call) => Ok(call),
+        Err(BuildFault::Build(error)) => Err(WalkFault::Refused(error)),
+        Err(BuildFault::Memory) => Err(WalkFault::Memory),
     }
 }
 
 #[inline(never)]
-fn literal_at<B: ExprBuilder>(
+fn build_get<B: ExprBuilder>(
     alloc: Global,
-    literal: &Literal,
-    loc: Option<&Loc>,
-) -> Result<B::Expr, AllocError>
-    ensures { IfOk result (λ e. B.meaning_of e ≡ B.ops.lit_of (bare_literal literal.now)) }
-{
-    let literal = literal.clone(alloc)?;
-    builder_at::<B>(alloc, loc)?.val(alloc, literal)
-}
-
-#[inline(never)]
-fn var_at<B: ExprBuilder>(alloc: Global, var: Var, loc: Option<&Loc>) -> Result<B::Expr, AllocError>
-    ensures { IfOk result (λ e. B.meaning_of e ≡ B.ops.var_of var) }
-{
-    builder_at::<B>(alloc, loc)?.var(alloc, var)
-}
-
-#[inline(never)]
-fn slot_at<B: ExprBuilder>(
-    alloc: Global,
-    slot: SlotId,
-    loc: Option<&Loc>,
-) -> Result<B::Expr, AllocError>
-    ensures { IfOk result (λ e. B.meaning_of e ≡ B.ops.slot_of slot) }
-{
-    builder_at::<B>(alloc, loc)?.slot(alloc, slot)
-}
-
-#[inline(never)]
-fn unknown_at<B: ExprBuilder>(
-    alloc: Global,
-    unknown: &Unknown,
-    loc: Option<&Loc>,
-) -> Result<B::Expr, AllocError>
-    ensures { IfOk result (λ e. B.meaning_of e ≡ B.ops.unknown_of (bare_unknown unknown.now).name (bare_unknown unknown.now).annotation) }
-{
-    let unknown = unknown.clone(alloc)?;
-    builder_at::<B>(alloc, loc)?.unknown(alloc, unknown)
-}
-
-#[cycle(built)]
-#[inline(never)]
-fn if_with<B: ExprBuilder, T>(
-    alloc: Global,
-    else_expr: &Expr<T>,
-    test_expr: B::Expr,
-    then_expr: B::Expr,
-    loc: Option<&Loc>,
-) -> Result<B::Expr, BuildFault<B::BuildError>>
-    ensures { Gives B.meaning_of B.fault_of (on_one (B.ops.if_of (B.meaning_of test_expr) (B.meaning_of then_expr)) (fold B.ops empty (bare_expr else_expr.now))) result }
-{
-    let else_expr = built::<B, T>(alloc, else_expr)?;
-    Ok(builder_at::<B>(alloc, loc)?.ite(alloc, test_expr, then_expr, else_expr)?)
-}
-
-#[cycle(built)]
-#[inline(never)]
-fn and_with<B: ExprBuilder, T>(
-    alloc: Global,
-    right: &Expr<T>,
-    left: B::Expr,
-    loc: Option<&Loc>,
-) -> Result<B::Expr, BuildFault<B::BuildError>>
-    ensures { Gives B.meaning_of B.fault_of (on_one (B.ops.and_of (B.meaning_of left)) (fold B.ops empty (bare_expr right.now))) result }
-{
-    let right = built::<B, T>(alloc, right)?;
-    Ok(builder_at::<B>(alloc, loc)?.and(alloc, left, right)?)
-}
-
-#[cycle(built)]
-#[inline(never)]
-fn or_with<B: ExprBuilder, T>(
-    alloc: Global,
-    right: &Expr<T>,
-    left: B::Expr,
-    loc: Option<&Loc>,
-) -> Result<B::Expr, BuildFault<B::BuildError>>
-    ensures { Gives B.meaning_of B.fault_of (on_one (B.ops.or_of (B.meaning_of left)) (fold B.ops empty (bare_expr right.now))) result }
-{
-    let right = built::<B, T>(alloc, right)?;
-    Ok(builder_at::<B>(alloc, loc)?.or(alloc, left, right)?)
-}
-
-#[cycle(built)]
-#[inline(never)]
-fn unary_with<B: ExprBuilder, T>(
-    alloc: Global,
-    arg: &Expr<T>,
-    op: UnaryOp,
-    loc: Option<&Loc>,
-) -> Result<B::Expr, BuildFault<B::BuildError>>
-    ensures { Gives B.meaning_of B.fault_of (on_one (B.ops.unary_of op) (fold B.ops empty (bare_expr arg.now))) result }
-{
-    let arg = built::<B, T>(alloc, arg)?;
-    Ok(builder_at::<B>(alloc, loc)?.unary_app(alloc, op, arg)?)
-}
-
-#[cycle(built)]
-#[inline(never)]
-fn binary_with<B: ExprBuilder, T>(
-    alloc: Global,
-    arg2: &Expr<T>,
-    op: BinaryOp,
-    arg1: B::Expr,
-    loc: Option<&Loc>,
-) -> Result<B::Expr, BuildFault<B::BuildError>>
-    ensures { Gives B.meaning_of B.fault_of (on_one (B.ops.binary_of op (B.meaning_of arg1)) (fold B.ops empty (bare_expr arg2.now))) result }
-{
-    let arg2 = built::<B, T>(alloc, arg2)?;
-    Ok(builder_at::<B>(alloc, loc)?.binary_app(alloc, op, arg1, arg2)?)
-}
-
-#[cycle(built)]
-#[inline(never)]
-fn call_with<B: ExprBuilder, T>(
-    alloc: Global,
-    args: &Vec<Expr<T>>,
-    fn_name: &Name,
-    loc: Option<&Loc>,
-) -> Result<B::Expr, BuildFault<B::BuildError>>
-    ensures { Gives B.meaning_of B.fault_of (and_then (B.ops.call_of (bare_name fn_name.now)) (fold_all B.ops (own B.ops) (bare_exprs args.now.items))) result }
-{
-    let args = built_all::<B, T>(alloc, args)?;
-    builder_at::<B>(alloc, loc)?.call_extension_fn(alloc, fn_name.clone(alloc)?, args)
-}
-
-#[cycle(built)]
-#[inline(never)]
-fn get_with<B: ExprBuilder, T>(
-    alloc: Global,
-    expr: &Expr<T>,
+    builder: B,
     attr: &RcStr,
-    loc: Option<&Loc>,
-) -> Result<B::Expr, BuildFault<B::BuildError>>
-    ensures { Gives B.meaning_of B.fault_of (on_one (λ m. B.ops.get_of m (rc_str_bytes attr.now)) (fold B.ops empty (bare_expr expr.now))) result }
+    done: &mut Vec<B::Expr>,
+) -> Result<B::Expr, AllocError>
+    requires new { B.is_new builder }
+    requires room { 1 ≤ vec_len done.old }
+    ensures {
+        IfOk result
+            (IsMadeOfLast {F = B.Fault} B.meaning_of 1 (OfOne (λ m. B.ops.get_of m (rc_str_bytes attr.now)))
+                done.old.items done.new.items)
+    }
 {
-    let expr = built::<B, T>(alloc, expr)?;
-    Ok(builder_at::<B>(alloc, loc)?.get_attr(alloc, expr, attr.clone()?)?)
+    builder.get_attr(alloc, done.take_last(), attr.clone()?)
 }
 
-#[cycle(built)]
 #[inline(never)]
-fn has_with<B: ExprBuilder, T>(
+fn build_has<B: ExprBuilder>(
     alloc: Global,
-    expr: &Expr<T>,
+    builder: B,
     attr: &RcStr,
-    loc: Option<&Loc>,
-) -> Result<B::Expr, BuildFault<B::BuildError>>
-    ensures { Gives B.meaning_of B.fault_of (on_one (λ m. B.ops.has_of m (rc_str_bytes attr.now)) (fold B.ops empty (bare_expr expr.now))) result }
+    done: &mut Vec<B::Expr>,
+) -> Result<B::Expr, AllocError>
+    requires new { B.is_new builder }
+    requires room { 1 ≤ vec_len done.old }
+    ensures {
+        IfOk result
+            (IsMadeOfLast {F = B.Fault} B.meaning_of 1 (OfOne (λ m. B.ops.has_of m (rc_str_bytes attr.now)))
+                done.old.items done.new.items)
+    }
 {
-    let expr = built::<B, T>(alloc, expr)?;
-    Ok(builder_at::<B>(alloc, loc)?.has_attr(alloc, expr, attr.clone()?)?)
+    builder.has_attr(alloc, done.take_last(), attr.clone()?)
 }
 
-#[cycle(built)]
 #[inline(never)]
-fn extended_has_with<B: ExprBuilder, T>(
+fn build_extended_has<B: ExprBuilder>(
     alloc: Global,
-    expr: &Expr<T>,
+    builder: B,
     attrs: &NonEmpty<RcStr>,
-    loc: Option<&Loc>,
-) -> Result<B::Expr, BuildFault<B::BuildError>>
-    ensures { Gives B.meaning_of B.fault_of (on_one (λ m. B.ops.ext_has_of m (rc_str_bytes attrs.now.head) (further attrs.now)) (fold B.ops empty (bare_expr expr.now))) result }
+    done: &mut Vec<B::Expr>,
+) -> Result<B::Expr, AllocError>
+    requires new { B.is_new builder }
+    requires room { 1 ≤ vec_len done.old }
+    ensures {
+        IfOk result
+            (IsMadeOfLast {F = B.Fault} B.meaning_of 1
+                (OfOne (λ m. B.ops.ext_has_of m (rc_str_bytes attrs.now.head) (further attrs.now)))
+                done.old.items done.new.items)
+    }
 {
-    let expr = built::<B, T>(alloc, expr)?;
-    Ok(builder_at::<B>(alloc, loc)?.extended_has_attr(alloc, expr, attrs.clone(alloc)?)?)
+    builder.extended_has_attr(alloc, done.take_last(), attrs.clone(alloc)?)
 }
 
-#[cycle(built)]
 #[inline(never)]
-fn like_with<B: ExprBuilder, T>(
+fn build_like<B: ExprBuilder>(
     alloc: Global,
-    expr: &Expr<T>,
+    builder: B,
     pattern: &Pattern,
-    loc: Option<&Loc>,
-) -> Result<B::Expr, BuildFault<B::BuildError>>
-    ensures { Gives B.meaning_of B.fault_of (on_one (λ m. B.ops.like_of m pattern.now) (fold B.ops empty (bare_expr expr.now))) result }
+    done: &mut Vec<B::Expr>,
+) -> Result<B::Expr, AllocError>
+    requires new { B.is_new builder }
+    requires room { 1 ≤ vec_len done.old }
+    ensures {
+        IfOk result
+            (IsMadeOfLast {F = B.Fault} B.meaning_of 1 (OfOne (λ m. B.ops.like_of m pattern.now))
+                done.old.items done.new.items)
+    }
 {
-    let expr = built::<B, T>(alloc, expr)?;
-    Ok(builder_at::<B>(alloc, loc)?.like(alloc, expr, pattern.clone(alloc)?)?)
+    builder.like(alloc, done.take_last(), pattern.clone(alloc)?)
 }
 
-#[cycle(built)]
 #[inline(never)]
-fn set_with<B: ExprBuilder, T>(
+fn build_set<B: ExprBuilder>(
     alloc: Global,
-    members: &Vec<Expr<T>>,
-    loc: Option<&Loc>,
-) -> Result<B::Expr, BuildFault<B::BuildError>>
-    ensures { Gives B.meaning_of B.fault_of (on_one B.ops.set_of (fold_all B.ops (own B.ops) (bare_exprs members.now.items))) result }
+    builder: B,
+    count: usize,
+    done: &mut Vec<B::Expr>,
+) -> Result<B::Expr, AllocError>
+    requires new { B.is_new builder }
+    requires room { count ≤ vec_len done.old }
+    ensures {
+        IfOk result
+            (IsMadeOfLast {F = B.Fault} B.meaning_of count (λ ms r. r ≡ Ok (B.ops.set_of ms))
+                done.old.items done.new.items)
+    }
 {
-    let members = built_all::<B, T>(alloc, members)?;
-    Ok(builder_at::<B>(alloc, loc)?.set(alloc, members)?)
+    let members = take_many(done, count)?;
+    builder.set(alloc, members)
 }
 
-#[cycle(built)]
 #[inline(never)]
-fn record_with<B: ExprBuilder, T>(
+fn build_record<B: ExprBuilder, T>(
     alloc: Global,
+    builder: B,
     pairs: &BTreeMap<RcStr, Expr<T>>,
-    loc: Option<&Loc>,
-) -> Result<B::Expr, BuildFault<B::BuildError>>
-    ensures { Gives B.meaning_of B.fault_of (on_one B.ops.record_of (fold_fields B.ops (own B.ops) (bare_fields pairs.now.entries))) result }
+    done: &mut Vec<B::Expr>,
+) -> Result<B::Expr, AllocError>
+    requires new { B.is_new builder }
+    requires room { length pairs.now.entries ≤ vec_len done.old }
+    ensures {
+        IfOk result
+            (IsMadeOfLast {F = B.Fault} B.meaning_of (length pairs.now.entries)
+                (λ ms r. r ≡ Ok (B.ops.record_of (keyed (bare_fields pairs.now.entries) ms)))
+                done.old.items done.new.items)
+    }
 {
-    let pairs = built_values::<B, T>(alloc, pairs)?;
-    match builder_at::<B>(alloc, loc)?.record(alloc, pairs) {
+    let values = take_many(done, pairs.len())?;
+    match builder.record(alloc, keyed(alloc, pairs, values)?) {
         Ok(record) => Ok(record),
-        Err(ExpressionConstructionError::Memory) => Err(BuildFault::Memory),
+        Err(ExpressionConstructionError::Memory) => Err(AllocError),
         // The keys of a map rise, and the builder accepts such pairs.
         Err(ExpressionConstructionError::DuplicateKey(_)) => unreachable!(),
     }
 }
 
-#[cycle(built)]
 #[inline(never)]
-fn is_with<B: ExprBuilder, T>(
+fn build_is<B: ExprBuilder>(
     alloc: Global,
-    expr: &Expr<T>,
+    builder: B,
     entity_type: &EntityType,
-    loc: Option<&Loc>,
-) -> Result<B::Expr, BuildFault<B::BuildError>>
-    ensures { Gives B.meaning_of B.fault_of (on_one (λ m. B.ops.is_of m (bare_entity_type entity_type.now)) (fold B.ops empty (bare_expr expr.now))) result }
-{
-    let expr = built::<B, T>(alloc, expr)?;
-    Ok(builder_at::<B>(alloc, loc)?.is_entity_type(alloc, expr, entity_type.clone(alloc)?)?)
-}
-
-// What a builder makes of each expression, in order.
-#[cycle(built)]
-fn built_all<B: ExprBuilder, T>(
-    alloc: Global,
-    members: &Vec<Expr<T>>,
-) -> Result<Vec<B::Expr>, BuildFault<B::BuildError>>
-    ensures { GivesAll B.meaning_of B.fault_of (fold_all B.ops (own B.ops) (bare_exprs members.now.items)) result }
-{
-    let mut done = Vec::with_capacity(alloc, members.len())?;
-    for member in members {
-        let one = built::<B, T>(alloc, member)?;
-        done.push(one)?;
+    done: &mut Vec<B::Expr>,
+) -> Result<B::Expr, AllocError>
+    requires new { B.is_new builder }
+    requires room { 1 ≤ vec_len done.old }
+    ensures {
+        IfOk result
+            (IsMadeOfLast {F = B.Fault} B.meaning_of 1
+                (OfOne (λ m. B.ops.is_of m (bare_entity_type entity_type.now)))
+                done.old.items done.new.items)
     }
-    Ok(done)
-}
-
-// What a builder makes of each value, with its key, in the order of the keys.
-#[cycle(built)]
-fn built_values<B: ExprBuilder, T>(
-    alloc: Global,
-    pairs: &BTreeMap<RcStr, Expr<T>>,
-) -> Result<Vec<(RcStr, B::Expr)>, BuildFault<B::BuildError>>
-    ensures means { GivesPairs B.meaning_of B.fault_of (fold_fields B.ops (own B.ops) (bare_fields pairs.now.entries)) result }
-    ensures rising { IfOk result (λ ps. IsRising (keys_of ps.items)) }
 {
-    let mut done = Vec::with_capacity(alloc, pairs.len())?;
-    for (key, value) in pairs.iter() {
-        let one = built::<B, T>(alloc, value)?;
-        done.push((key.clone()?, one))?;
-    }
-    Ok(done)
+    builder.is_entity_type(alloc, done.take_last(), entity_type.clone(alloc)?)
 }

@@ -1,15 +1,17 @@
 // Expression trees.
-ghost use Rattle.std.specs.Prelude.{◌≡◌, IfOk};
+ghost use Rattle.std.specs.Prelude.{◌≡◌, ℕ, ◌+◌, ◌<◌, suc, IfOk, IfSome};
 ghost use Rattle.std.specs.Option.{option_copied};
 ghost use Rattle.cedar_terms.specs.Literals.{bare_literal};
 ghost use Rattle.cedar_builders.specs.Trees.{bool_of, literal_bool};
 ghost use Rattle.cedar_exprs.specs.BareExpr.{bare_expr, bare_expr_kind, kind_of, expr_place, data_of};
 ghost use Rattle.cedar_exprs.specs.ExprData.{data_tree, kind_data};
+ghost use Rattle.cedar_exprs.specs.Steps.{nodes, kind_nodes, if_any, IsStep};
 
 use cedar_names::{Loc, Name, NonEmpty, SlotId};
 use cedar_terms::{BinaryOp, EntityType, Literal, Pattern, UnaryOp, Unknown, Var};
 use std::alloc::{AllocError, Global};
 use std::collections::BTreeMap;
+use std::mem;
 use std::rc::{Rc, RcStr};
 
 /// The kinds of expressions. Match on it to walk over a tree.
@@ -101,63 +103,243 @@ pub struct Expr<T = ()> {
     data: T,
 }
 
-// The last child is dropped by the loop, so that a chain of last children takes no stack.
 impl<T: Drop> Drop for Expr<T> {
-    #[cycle(dropped)]
-    fn drop(mut self) {
-        'down: loop {
-            let Expr {
-                expr_kind,
-                source_loc,
-                data,
-            } = self;
-            drop(source_loc);
-            drop(data);
-            let last = match expr_kind {
-                ExprKind::If {
-                    test_expr,
-                    then_expr,
-                    else_expr,
-                } => {
-                    drop(test_expr);
-                    drop(then_expr);
-                    else_expr
-                }
-                ExprKind::And { left, right } | ExprKind::Or { left, right } => {
-                    drop(left);
-                    right
-                }
-                ExprKind::UnaryApp { op: _, arg } => arg,
-                ExprKind::BinaryApp { op: _, arg1, arg2 } => {
-                    drop(arg1);
-                    arg2
-                }
-                ExprKind::GetAttr { expr, attr } | ExprKind::HasAttr { expr, attr } => {
-                    drop(attr);
-                    expr
-                }
-                ExprKind::ExtHasAttr { expr, attrs } => {
-                    drop(attrs);
-                    expr
-                }
-                ExprKind::Like { expr, pattern } => {
-                    drop(pattern);
-                    expr
-                }
-                ExprKind::Is { expr, entity_type } => {
-                    drop(entity_type);
-                    expr
-                }
-                leaf_or_many => {
-                    drop(leaf_or_many);
-                    return;
-                }
-            };
-            match Rc::into_inner(last) {
-                Some(expr) => self = expr,
-                None => return,
+    fn drop(self) {
+        drop_kind(self.into_parts().0);
+    }
+}
+
+// Drops a kind with all that it alone owns, without memory, and without the stack but for rows inside rows.
+//
+// A node that is done with, but for some of its children, waits: its own block holds those children and the node that
+// waits below it. So the nodes that wait are a list in blocks that are to be freed anyway.
+#[cycle(dropped)]
+fn drop_kind<T: Drop>(kind: ExprKind<T>) {
+    let mut kind = kind;
+    let mut waiting: Option<Rc<Expr<T>>> = None;
+    'down: loop {
+        match enter(kind, waiting) {
+            Step::Down(below, node) => {
+                kind = below;
+                waiting = Some(node);
             }
+            Step::Through(below, above) => {
+                kind = below;
+                waiting = above;
+            }
+            Step::Shared(rest) => {
+                kind = rest;
+                waiting = None;
+            }
+            // A node with a weak pointer keeps its block, so that the others cannot wait there.
+            Step::Watched(below, rest) => {
+                drop_kind(rest);
+                kind = below;
+                waiting = None;
+            }
+            Step::Up(next) => {
+                kind = next;
+                waiting = None;
+            }
+            Step::Row(row, above) => {
+                drop_row(row);
+                match next_of(above) {
+                    Some(next) => kind = next,
+                    None => return,
+                }
+                waiting = None;
+            }
+            Step::Fields(fields, above) => {
+                drop_fields(fields);
+                match next_of(above) {
+                    Some(next) => kind = next,
+                    None => return,
+                }
+                waiting = None;
+            }
+            Step::End => return,
         }
+    }
+}
+
+// A step of a drop.
+enum Step<T> {
+    // The kind of the first child, whose block now holds the rest.
+    Down(ExprKind<T>, Rc<Expr<T>>),
+    // The kind of an only child, and what waits.
+    Through(ExprKind<T>, Option<Rc<Expr<T>>>),
+    // The first child had another owner; this is the rest.
+    Shared(ExprKind<T>),
+    // The first child's kind, and the rest.
+    Watched(ExprKind<T>, ExprKind<T>),
+    // What waited.
+    Up(ExprKind<T>),
+    // Arguments or members, and what waits.
+    Row(Rc<Vec<Expr<T>>>, Option<Rc<Expr<T>>>),
+    // The keys and values of a record, and what waits.
+    Fields(Rc<BTreeMap<RcStr, Expr<T>>>, Option<Rc<Expr<T>>>),
+    // Nothing is left.
+    End,
+}
+
+fn enter<T: Drop>(kind: ExprKind<T>, waiting: Option<Rc<Expr<T>>>) -> Step<T>
+    ensures { IsStep (kind_nodes kind) (kind_nodes kind + if_any waiting) result }
+{
+    match kind {
+        ExprKind::Lit(literal) => {
+            drop(literal);
+            go_up(waiting)
+        }
+        ExprKind::Var(_) => go_up(waiting),
+        ExprKind::Slot(_) => go_up(waiting),
+        ExprKind::Unknown(unknown) => {
+            drop(unknown);
+            go_up(waiting)
+        }
+        ExprKind::If {
+            test_expr,
+            then_expr,
+            else_expr,
+        } => go_down(test_expr, rest_of_two(then_expr, else_expr, waiting)),
+        ExprKind::And { left, right } => go_down(left, rest_of_one(right, waiting)),
+        ExprKind::Or { left, right } => go_down(left, rest_of_one(right, waiting)),
+        ExprKind::UnaryApp { op: _, arg } => go_through(arg, waiting),
+        ExprKind::BinaryApp { op: _, arg1, arg2 } => go_down(arg1, rest_of_one(arg2, waiting)),
+        ExprKind::ExtensionFunctionApp { fn_name, args } => {
+            drop(fn_name);
+            Step::Row(args, waiting)
+        }
+        ExprKind::GetAttr { expr, attr } => {
+            drop(attr);
+            go_through(expr, waiting)
+        }
+        ExprKind::HasAttr { expr, attr } => {
+            drop(attr);
+            go_through(expr, waiting)
+        }
+        ExprKind::ExtHasAttr { expr, attrs } => {
+            drop(attrs);
+            go_through(expr, waiting)
+        }
+        ExprKind::Like { expr, pattern } => {
+            drop(pattern);
+            go_through(expr, waiting)
+        }
+        ExprKind::Set(members) => Step::Row(members, waiting),
+        ExprKind::Record(fields) => Step::Fields(fields, waiting),
+        ExprKind::Is { expr, entity_type } => {
+            drop(entity_type);
+            go_through(expr, waiting)
+        }
+    }
+}
+
+// Into an only child. Nothing waits for it, so its block is freed at once.
+fn go_through<T: Drop>(child: Rc<Expr<T>>, waiting: Option<Rc<Expr<T>>>) -> Step<T>
+    ensures { IsStep (suc (nodes child.value)) (suc (nodes child.value) + if_any waiting) result }
+{
+    match Rc::into_inner(child) {
+        Some(node) => Step::Through(node.into_parts().0, waiting),
+        None => go_up(waiting),
+    }
+}
+
+// Into a child, whose block then holds the rest.
+fn go_down<T: Drop>(child: Rc<Expr<T>>, rest: ExprKind<T>) -> Step<T>
+    ensures { IsStep (suc (nodes child.value)) (nodes child.value + kind_nodes rest) result }
+{
+    let mut child = child;
+    match Rc::get_mut(&mut child) {
+        Some(node) => {
+            let kind = mem::replace(&mut node.expr_kind, rest);
+            Step::Down(kind, child)
+        }
+        None => match Rc::into_inner(child) {
+            Some(node) => Step::Watched(node.into_parts().0, rest),
+            None => Step::Shared(rest),
+        },
+    }
+}
+
+// To what waits.
+fn go_up<T: Drop>(waiting: Option<Rc<Expr<T>>>) -> Step<T>
+    ensures from_leaf { IsStep 1 (suc (if_any waiting)) result }
+    ensures from_any { (k : ℕ) → 0 < k → IsStep k (k + if_any waiting) result }
+{
+    match next_of(waiting) {
+        Some(kind) => Step::Up(kind),
+        None => Step::End,
+    }
+}
+
+// The kind of a node that waits.
+fn next_of<T: Drop>(waiting: Option<Rc<Expr<T>>>) -> Option<ExprKind<T>>
+    ensures { IfSome result (λ kind. kind_nodes kind ≡ if_any waiting) }
+{
+    match waiting {
+        Some(node) => match Rc::into_inner(node) {
+            Some(node) => Some(node.into_parts().0),
+            None => None,
+        },
+        None => None,
+    }
+}
+
+#[cycle(dropped)]
+fn drop_row<T: Drop>(row: Rc<Vec<Expr<T>>>) {
+    if let Some(mut row) = Rc::into_inner(row) {
+        'each: while let Some(item) = row.pop() {
+            drop_kind(item.into_parts().0);
+        }
+        row.destroy_empty();
+    }
+}
+
+#[cycle(dropped)]
+fn drop_fields<T: Drop>(fields: Rc<BTreeMap<RcStr, Expr<T>>>) {
+    if let Some(mut fields) = Rc::into_inner(fields) {
+        'each: while let Some((key, item)) = fields.pop_first() {
+            drop(key);
+            drop_kind(item.into_parts().0);
+        }
+        fields.destroy_empty();
+    }
+}
+
+// A kind with one child, and what waits.
+fn rest_of_one<T>(child: Rc<Expr<T>>, waiting: Option<Rc<Expr<T>>>) -> ExprKind<T>
+    ensures { kind_nodes result ≡ suc (nodes child.value + if_any waiting) }
+{
+    match waiting {
+        Some(waiting) => ExprKind::And {
+            left: child,
+            right: waiting,
+        },
+        None => ExprKind::UnaryApp {
+            op: UnaryOp::Not,
+            arg: child,
+        },
+    }
+}
+
+// A kind with two children, and what waits.
+fn rest_of_two<T>(
+    first: Rc<Expr<T>>,
+    second: Rc<Expr<T>>,
+    waiting: Option<Rc<Expr<T>>>,
+) -> ExprKind<T>
+    ensures { kind_nodes result ≡ suc (nodes first.value + nodes second.value + if_any waiting) }
+{
+    match waiting {
+        Some(waiting) => ExprKind::If {
+            test_expr: first,
+            then_expr: second,
+            else_expr: waiting,
+        },
+        None => ExprKind::And {
+            left: first,
+            right: second,
+        },
     }
 }
 

@@ -8,11 +8,13 @@ mod children;
 mod constructors;
 mod expr;
 pub mod laws;
+mod machine;
 mod not_restricted;
 mod restricted_expr;
+mod results;
 mod shape;
 mod substitution;
-mod type_check;
+mod substitution_function;
 mod typed;
 
 pub use builder::ExprBuilder;

@@ -1,34 +1,40 @@
-//! Substitution of unknowns by values.
+//! Substitution of unknowns by values, as a walk.
 //!
-//! `rebuilt` has a small function for each kind that is not a leaf, with the last child as its first argument: a walk
-//! over many kinds in one function would keep the locals of all of them on the stack at every level. A child is put
-//! where it is shared as soon as it is rebuilt, so that no function passes it on whole.
-ghost use Rattle.std.specs.Prelude.{◌≡◌, None, Ok, IfOk};
-ghost use Rattle.std.specs.Option.{option_copied};
+//! `make` has a small function for each kind: one function would keep room for the locals of all kinds.
+ghost use Rattle.std.specs.Prelude.{◌≡◌, ◌≤◌, Option, Ok, IfOk, [], ◌∷◌, length, map, vec_len};
 ghost use Rattle.std.specs.Rc.{rc_str_bytes};
 ghost use Rattle.cedar_names.specs.PlainNames.{bare_name};
 ghost use Rattle.cedar_terms.specs.Entities.{bare_entity_type};
-ghost use Rattle.cedar_terms.specs.Literals.{bare_literal};
 ghost use Rattle.cedar_terms.specs.Unknowns.{bare_unknown};
-ghost use Rattle.cedar_builders.specs.BareExpr.{Lit, ExtensionFunctionApp, Set, Record};
-ghost use Rattle.cedar_builders.specs.TypeClash.{refused_binding, first_refusal, first_refusal_of_all, first_refusal_of_fields};
-ghost use Rattle.cedar_builders.specs.Environment.{fold};
 ghost use Rattle.cedar_builders.specs.Answers.{Gives};
-ghost use Rattle.cedar_builders.specs.Trees.{tree_ops, bound_tree, substituted, all_substituted, fields_substituted};
-ghost use Rattle.cedar_exprs.specs.BareExpr.{bare_expr, bare_expr_kind, bare_exprs, bare_fields, expr_place, further, unknown_tree};
-ghost use Rattle.cedar_exprs.specs.RestrictedExprs.{env_of};
+ghost use Rattle.cedar_builders.specs.BareExpr.{BareExpr};
+ghost use Rattle.cedar_builders.specs.Environment.{fold};
+ghost use Rattle.cedar_builders.specs.Keys.{keys_of, IsRising};
+ghost use Rattle.cedar_builders.specs.NodeByNode.{OfOne, OfTwo, OfThree, keyed};
+ghost use Rattle.cedar_builders.specs.Rebuilding.{checked_ops, new_or, all_new_or, renewed, IsRenewedOf, renewed_by_nodes};
+ghost use Rattle.cedar_builders.specs.Trees.{tree_ops, bound_tree, substituted};
+ghost use Rattle.cedar_builders.specs.TypeClash.{TwoTypes, refused_binding, first_refusal};
+ghost use Rattle.cedar_builders.specs.Walks.{members_of, values_of};
+ghost use Rattle.cedar_exprs.specs.BareExpr.{bare_expr, bare_expr_kind, bare_exprs, bare_fields, further, unknown_tree};
 ghost use Rattle.cedar_exprs.specs.Refusals.{Refuses};
+ghost use Rattle.cedar_exprs.specs.Renewal.{new_tree, IsRenewedOfLast};
+ghost use Rattle.cedar_exprs.specs.RestrictedExprs.{env_of};
 
 use crate::builder::ExprBuilder;
 use crate::expr::{Expr, ExprKind};
+use crate::machine::{Walk, WalkFault, run};
 use crate::restricted_expr::SubstituteValue;
-use crate::type_check::{TypeCheck, Unchecked};
+use crate::results::{take_many, take_three, take_two};
+use crate::substitution_function::{SubstitutionFunction, UntypedSubstitution};
 use cedar_builders::laws::{built_after, restricted_rebuilt, substituted_by_fold};
-use cedar_builders::{BuildFault, ExprBuilder as _, LawfulExprBuilder};
-use cedar_names::{Loc, Name, NonEmpty};
-use cedar_terms::{BinaryOp, EntityType, Literal, Pattern, UnaryOp, Unknown};
+use cedar_builders::{
+    BuildFault, ExprBuilder as _, ExpressionConstructionError, LawfulExprBuilder,
+};
+use cedar_names::{Name, NonEmpty};
+use cedar_terms::{BinaryOp, EntityType, Pattern, UnaryOp, Unknown};
 use std::alloc::{AllocError, Global};
 use std::collections::{BTreeMap, HashMap};
+use std::marker::PhantomData;
 use std::rc::{Rc, RcStr};
 
 impl Expr<()> {
@@ -45,10 +51,10 @@ impl Expr<()> {
         ensures { IfOk result (λ e. fold tree_ops (env_of V.bare_type_of V.bare_expr_of values.now) (bare_expr self.now) ≡ Ok (bare_expr e)) }
     {
         substituted_by_fold();
-        match rebuilt::<Unchecked, V>(alloc, self, values) {
+        match substitute_general::<UntypedSubstitution, V>(alloc, self, values) {
             Ok(expr) => Ok(expr),
-            Err(BuildFault::Build(never)) => match never {},
-            Err(BuildFault::Memory) => Err(AllocError),
+            Err(WalkFault::Refused(never)) => match never {},
+            Err(WalkFault::Memory) => Err(AllocError),
         }
     }
 
@@ -68,111 +74,134 @@ impl Expr<()> {
 }
 
 // The expression with each unknown replaced, or the first refusal.
-#[cycle(rebuilt)]
-pub(crate) fn rebuilt<C: TypeCheck, V: SubstituteValue>(
+pub(crate) fn substitute_general<S: SubstitutionFunction, V: SubstituteValue>(
     alloc: Global,
-    e: &Expr<()>,
+    expr: &Expr<()>,
     values: &HashMap<RcStr, V>,
-) -> Result<Expr<()>, BuildFault<C::Refusal>>
-    ensures tree { IfOk result (λ r. bare_expr r ≡ substituted (env_of V.bare_type_of V.bare_expr_of values.now) (bare_expr e.now)) }
-    ensures refused { Refuses C.types_of (first_refusal C.refuses (env_of V.bare_type_of V.bare_expr_of values.now) (bare_expr e.now)) result }
-{
-    match e.expr_kind() {
-        ExprKind::Lit(literal) => literal_at::<C>(alloc, literal, e.source_loc()),
-        ExprKind::Var(_) | ExprKind::Slot(_) => copied::<C>(alloc, e),
-        ExprKind::Unknown(unknown) => replaced::<C, V>(alloc, unknown, values),
-        ExprKind::If {
-            test_expr,
-            then_expr,
-            else_expr,
-        } => {
-            let test_expr = rebuilt_child::<C, V>(alloc, test_expr, values)?;
-            let then_expr = rebuilt_child::<C, V>(alloc, then_expr, values)?;
-            if_with::<C, V>(alloc, else_expr, test_expr, then_expr, values)
-        }
-        ExprKind::And { left, right } => {
-            let left = rebuilt_child::<C, V>(alloc, left, values)?;
-            and_with::<C, V>(alloc, right, left, values)
-        }
-        ExprKind::Or { left, right } => {
-            let left = rebuilt_child::<C, V>(alloc, left, values)?;
-            or_with::<C, V>(alloc, right, left, values)
-        }
-        ExprKind::UnaryApp { op, arg } => unary_with::<C, V>(alloc, arg, *op, values),
-        ExprKind::BinaryApp { op, arg1, arg2 } => {
-            let arg1 = rebuilt_child::<C, V>(alloc, arg1, values)?;
-            binary_with::<C, V>(alloc, arg2, *op, arg1, values)
-        }
-        ExprKind::ExtensionFunctionApp { fn_name, args } => call_with::<C, V>(
-            alloc, args, fn_name, values,
-        ),
-        ExprKind::GetAttr { expr, attr } => get_with::<C, V>(alloc, expr, attr, values),
-        ExprKind::HasAttr { expr, attr } => has_with::<C, V>(alloc, expr, attr, values),
-        ExprKind::ExtHasAttr { expr, attrs } => extended_has_with::<C, V>(
-            alloc, expr, attrs, values,
-        ),
-        ExprKind::Like { expr, pattern } => like_with::<C, V>(alloc, expr, pattern, values),
-        ExprKind::Set(members) => set_with::<C, V>(alloc, members, values),
-        ExprKind::Record(pairs) => record_with::<C, V>(alloc, pairs, values),
-        ExprKind::Is { expr, entity_type } => is_with::<C, V>(alloc, expr, entity_type, values),
+) -> Result<Expr<()>, WalkFault<S::Refusal>>
+    ensures tree {
+        IfOk result (λ e.
+            bare_expr e
+                ≡ substituted (env_of V.bare_type_of V.bare_expr_of values.now) (bare_expr expr.now))
     }
-}
-
-// A child that is rebuilt. A leaf that stays as it is is shared.
-#[cycle(rebuilt)]
-#[inline(never)]
-fn rebuilt_child<C: TypeCheck, V: SubstituteValue>(
-    alloc: Global,
-    child: &Rc<Expr<()>>,
-    values: &HashMap<RcStr, V>,
-) -> Result<Rc<Expr<()>>, BuildFault<C::Refusal>>
-    ensures tree { IfOk result (λ r. bare_expr r.value ≡ substituted (env_of V.bare_type_of V.bare_expr_of values.now) (bare_expr child.now.value)) }
-    ensures refused { Refuses C.types_of (first_refusal C.refuses (env_of V.bare_type_of V.bare_expr_of values.now) (bare_expr child.now.value)) result }
-{
-    match child.expr_kind() {
-        ExprKind::Lit(_) | ExprKind::Var(_) | ExprKind::Slot(_) => Ok(child.clone()?),
-        _ => Ok(Rc::new(alloc, rebuilt::<C, V>(alloc, child, values)?)?),
+    ensures refused {
+        Refuses S.types_of
+            (first_refusal S.refuses (env_of V.bare_type_of V.bare_expr_of values.now)
+                (bare_expr expr.now))
+            result
     }
+{
+    let walk = Substitution::<S, V> {
+        values,
+        function: PhantomData,
+    };
+    let new = run(alloc, &walk, expr)?;
+    Ok(own_or_copy(alloc, new, expr)?)
 }
 
-// A copy of a literal, with this place.
-#[inline(never)]
-fn literal_at<C: TypeCheck>(
-    alloc: Global,
-    literal: &Literal,
-    loc: Option<&Loc>,
-) -> Result<Expr<()>, BuildFault<C::Refusal>>
-    ensures tree { IfOk result (λ r. bare_expr r ≡ Lit (bare_literal literal.now)) }
-    ensures loc { IfOk result (λ r. expr_place r ≡ option_copied loc.entry) }
-    ensures refused { Refuses C.types_of None result }
-{
-    let literal = literal.clone(alloc)?;
-    Ok(Expr::new(ExprKind::Lit(literal), Loc::clone_option(alloc, loc)?, ()))
+// Unknowns that are bound become their values' expressions.
+#[derive(Drop)]
+struct Substitution<'a, S, V> {
+    values: &'a HashMap<RcStr, V>,
+    function: PhantomData<S>,
 }
 
-// A copy of another leaf that stays as it is.
-#[inline(never)]
-fn copied<C: TypeCheck>(alloc: Global, leaf: &Expr<()>) -> Result<Expr<()>, BuildFault<C::Refusal>>
-    ensures tree { IfOk result (λ r. bare_expr r ≡ bare_expr leaf.now) }
-    ensures loc { IfOk result (λ r. expr_place r ≡ expr_place leaf.now) }
-    ensures refused { Refuses C.types_of None result }
-{
-    Ok(leaf.clone(alloc)?)
+// A node gives its new expression, or nothing where it stays as it is and so may be shared.
+impl<S: SubstitutionFunction, V: SubstituteValue> Walk<()> for Substitution<'_, S, V> {
+    type Out = Option<Rc<Expr<()>>>;
+
+    type Refusal = S::Refusal;
+
+    ghost Meaning = { Option BareExpr };
+
+    ghost Fault = { TwoTypes };
+
+    ghost meaning_of = { new_tree };
+
+    ghost fault_of = { S.types_of };
+
+    ghost answer = {
+        λ w e. renewed S.refuses (env_of V.bare_type_of V.bare_expr_of w.values.now) e
+    };
+
+    ghost is_made_of = {
+        λ w e. IsRenewedOf S.refuses (env_of V.bare_type_of V.bare_expr_of w.values.now) e
+    };
+
+    fn make(
+        &self,
+        alloc: Global,
+        node: &Expr<()>,
+        done: &mut Vec<Option<Rc<Expr<()>>>>,
+    ) -> Result<Option<Rc<Expr<()>>>, WalkFault<S::Refusal>> {
+        match node.expr_kind() {
+            ExprKind::Lit(_) => Ok(None),
+            ExprKind::Var(_) => Ok(None),
+            ExprKind::Slot(_) => Ok(None),
+            ExprKind::Unknown(unknown) => {
+                let expr = replace::<S, V>(alloc, unknown, self.values)?;
+                Ok(Some(Rc::new(alloc, expr)?))
+            }
+            ExprKind::If {
+                test_expr,
+                then_expr,
+                else_expr,
+            } => Ok(Some(renew_if(alloc, test_expr, then_expr, else_expr, done)?)),
+            ExprKind::And { left, right } => Ok(Some(renew_and(alloc, left, right, done)?)),
+            ExprKind::Or { left, right } => Ok(Some(renew_or(alloc, left, right, done)?)),
+            ExprKind::UnaryApp { op, arg } => Ok(Some(renew_unary(alloc, *op, arg, done)?)),
+            ExprKind::BinaryApp { op, arg1, arg2 } => {
+                Ok(Some(renew_binary(alloc, *op, arg1, arg2, done)?))
+            }
+            ExprKind::ExtensionFunctionApp { fn_name, args } => {
+                Ok(Some(renew_call(alloc, fn_name, args, done)?))
+            }
+            ExprKind::GetAttr { expr, attr } => Ok(Some(renew_get(alloc, expr, attr, done)?)),
+            ExprKind::HasAttr { expr, attr } => Ok(Some(renew_has(alloc, expr, attr, done)?)),
+            ExprKind::ExtHasAttr { expr, attrs } => {
+                Ok(Some(renew_extended_has(alloc, expr, attrs, done)?))
+            }
+            ExprKind::Like { expr, pattern } => {
+                Ok(Some(renew_like(alloc, expr, pattern, done)?))
+            }
+            ExprKind::Set(members) => Ok(Some(renew_set(alloc, members, done)?)),
+            ExprKind::Record(pairs) => Ok(Some(renew_record(alloc, pairs, done)?)),
+            ExprKind::Is { expr, entity_type } => {
+                Ok(Some(renew_is(alloc, expr, entity_type, done)?))
+            }
+        }
+    }
+
+    ghost by_nodes = {
+        λ w. renewed_by_nodes S.refuses (env_of V.bare_type_of V.bare_expr_of w.values.now)
+    };
 }
 
 // The expression of the value that an unknown is bound to, else the unknown.
 #[inline(never)]
-fn replaced<C: TypeCheck, V: SubstituteValue>(
+fn replace<S: SubstitutionFunction, V: SubstituteValue>(
     alloc: Global,
     unknown: &Unknown,
     values: &HashMap<RcStr, V>,
-) -> Result<Expr<()>, BuildFault<C::Refusal>>
-    ensures tree { IfOk result (λ r. bare_expr r ≡ bound_tree (env_of V.bare_type_of V.bare_expr_of values.now (rc_str_bytes unknown.now.name)) (unknown_tree (bare_unknown unknown.now))) }
-    ensures refused { Refuses C.types_of (refused_binding C.refuses (bare_unknown unknown.now).annotation (env_of V.bare_type_of V.bare_expr_of values.now (rc_str_bytes unknown.now.name))) result }
+) -> Result<Expr<()>, WalkFault<S::Refusal>>
+    ensures tree {
+        IfOk result (λ e.
+            bare_expr e
+                ≡ bound_tree
+                    (env_of V.bare_type_of V.bare_expr_of values.now
+                        (rc_str_bytes unknown.now.name))
+                    (unknown_tree (bare_unknown unknown.now)))
+    }
+    ensures refused {
+        Refuses S.types_of
+            (refused_binding S.refuses (bare_unknown unknown.now).annotation
+                (env_of V.bare_type_of V.bare_expr_of values.now (rc_str_bytes unknown.now.name)))
+            result
+    }
 {
     match values.get(unknown.name.as_str()) {
         Some(value) => {
-            C::check(alloc, unknown, value)?;
+            S::check(alloc, unknown, value)?;
             restricted_rebuilt();
             Ok(value.value_expr(alloc)?.into_expr())
         }
@@ -180,241 +209,349 @@ fn replaced<C: TypeCheck, V: SubstituteValue>(
     }
 }
 
+// The new expression of a child, else the child, which is shared.
+fn new_or_shared(
+    new: Option<Rc<Expr<()>>>,
+    child: &Rc<Expr<()>>,
+) -> Result<Rc<Expr<()>>, AllocError>
+    ensures { IfOk result (λ e. bare_expr e.value ≡ new_or (bare_expr child.now.value) (new_tree new)) }
+{
+    match new {
+        Some(new) => Ok(new),
+        None => child.clone(),
+    }
+}
+
+// The new expression of a member, else a copy of the member.
+fn own_or_copy(
+    alloc: Global,
+    new: Option<Rc<Expr<()>>>,
+    member: &Expr<()>,
+) -> Result<Expr<()>, AllocError>
+    ensures { IfOk result (λ e. bare_expr e ≡ new_or (bare_expr member.now) (new_tree new)) }
+{
+    match new {
+        Some(new) => match Rc::try_unwrap(new) {
+            Ok(owned) => Ok(owned),
+            Err(shared) => Expr::clone(&shared, alloc),
+        },
+        None => member.clone(alloc),
+    }
+}
+
 // A node with no place.
-fn node(expr_kind: ExprKind<()>) -> Expr<()>
-    ensures { bare_expr result ≡ bare_expr_kind expr_kind }
+fn node(alloc: Global, expr_kind: ExprKind<()>) -> Result<Rc<Expr<()>>, AllocError>
+    ensures { IfOk result (λ e. bare_expr e.value ≡ bare_expr_kind expr_kind) }
 {
-    ExprBuilder::new().with_expr_kind(expr_kind)
+    Ok(Rc::new(alloc, ExprBuilder::new().with_expr_kind(expr_kind))?)
 }
 
-#[cycle(rebuilt)]
 #[inline(never)]
-fn if_with<C: TypeCheck, V: SubstituteValue>(
+fn renew_if(
     alloc: Global,
+    test_expr: &Rc<Expr<()>>,
+    then_expr: &Rc<Expr<()>>,
     else_expr: &Rc<Expr<()>>,
-    test_expr: Rc<Expr<()>>,
-    then_expr: Rc<Expr<()>>,
-    values: &HashMap<RcStr, V>,
-) -> Result<Expr<()>, BuildFault<C::Refusal>>
-    ensures tree { IfOk result (λ r. bare_expr r ≡ tree_ops.if_of (bare_expr test_expr.value) (bare_expr then_expr.value) (substituted (env_of V.bare_type_of V.bare_expr_of values.now) (bare_expr else_expr.now.value))) }
-    ensures refused { Refuses C.types_of (first_refusal C.refuses (env_of V.bare_type_of V.bare_expr_of values.now) (bare_expr else_expr.now.value)) result }
+    done: &mut Vec<Option<Rc<Expr<()>>>>,
+) -> Result<Rc<Expr<()>>, AllocError>
+    requires { 3 ≤ vec_len done.old }
+    ensures {
+        IfOk result
+            (IsRenewedOfLast
+                (bare_expr test_expr.now.value ∷ bare_expr then_expr.now.value
+                    ∷ bare_expr else_expr.now.value ∷ [])
+                (OfThree checked_ops.if_of) done.old.items done.new.items)
+    }
 {
-    let else_expr = rebuilt_child::<C, V>(alloc, else_expr, values)?;
-    Ok(Expr::ite_arc(test_expr, then_expr, else_expr))
+    let (new_test, new_then, new_else) = take_three(done);
+    let test_expr = new_or_shared(new_test, test_expr)?;
+    let then_expr = new_or_shared(new_then, then_expr)?;
+    let else_expr = new_or_shared(new_else, else_expr)?;
+    Ok(Rc::new(alloc, Expr::ite_arc(test_expr, then_expr, else_expr))?)
 }
 
-#[cycle(rebuilt)]
 #[inline(never)]
-fn and_with<C: TypeCheck, V: SubstituteValue>(
+fn renew_and(
     alloc: Global,
+    left: &Rc<Expr<()>>,
     right: &Rc<Expr<()>>,
-    left: Rc<Expr<()>>,
-    values: &HashMap<RcStr, V>,
-) -> Result<Expr<()>, BuildFault<C::Refusal>>
-    ensures tree { IfOk result (λ r. bare_expr r ≡ tree_ops.and_of (bare_expr left.value) (substituted (env_of V.bare_type_of V.bare_expr_of values.now) (bare_expr right.now.value))) }
-    ensures refused { Refuses C.types_of (first_refusal C.refuses (env_of V.bare_type_of V.bare_expr_of values.now) (bare_expr right.now.value)) result }
+    done: &mut Vec<Option<Rc<Expr<()>>>>,
+) -> Result<Rc<Expr<()>>, AllocError>
+    requires { 2 ≤ vec_len done.old }
+    ensures {
+        IfOk result
+            (IsRenewedOfLast (bare_expr left.now.value ∷ bare_expr right.now.value ∷ [])
+                (OfTwo checked_ops.and_of) done.old.items done.new.items)
+    }
 {
-    let right = rebuilt_child::<C, V>(alloc, right, values)?;
-    Ok(ExprBuilder::new().and_arc(left, right))
+    let (new_left, new_right) = take_two(done);
+    let left = new_or_shared(new_left, left)?;
+    let right = new_or_shared(new_right, right)?;
+    Ok(Rc::new(alloc, ExprBuilder::new().and_arc(left, right))?)
 }
 
-#[cycle(rebuilt)]
 #[inline(never)]
-fn or_with<C: TypeCheck, V: SubstituteValue>(
+fn renew_or(
     alloc: Global,
+    left: &Rc<Expr<()>>,
     right: &Rc<Expr<()>>,
-    left: Rc<Expr<()>>,
-    values: &HashMap<RcStr, V>,
-) -> Result<Expr<()>, BuildFault<C::Refusal>>
-    ensures tree { IfOk result (λ r. bare_expr r ≡ tree_ops.or_of (bare_expr left.value) (substituted (env_of V.bare_type_of V.bare_expr_of values.now) (bare_expr right.now.value))) }
-    ensures refused { Refuses C.types_of (first_refusal C.refuses (env_of V.bare_type_of V.bare_expr_of values.now) (bare_expr right.now.value)) result }
+    done: &mut Vec<Option<Rc<Expr<()>>>>,
+) -> Result<Rc<Expr<()>>, AllocError>
+    requires { 2 ≤ vec_len done.old }
+    ensures {
+        IfOk result
+            (IsRenewedOfLast (bare_expr left.now.value ∷ bare_expr right.now.value ∷ [])
+                (OfTwo checked_ops.or_of) done.old.items done.new.items)
+    }
 {
-    let right = rebuilt_child::<C, V>(alloc, right, values)?;
-    Ok(ExprBuilder::new().or_arc(left, right))
+    let (new_left, new_right) = take_two(done);
+    let left = new_or_shared(new_left, left)?;
+    let right = new_or_shared(new_right, right)?;
+    Ok(Rc::new(alloc, ExprBuilder::new().or_arc(left, right))?)
 }
 
-#[cycle(rebuilt)]
 #[inline(never)]
-fn unary_with<C: TypeCheck, V: SubstituteValue>(
+fn renew_unary(
     alloc: Global,
-    arg: &Rc<Expr<()>>,
     op: UnaryOp,
-    values: &HashMap<RcStr, V>,
-) -> Result<Expr<()>, BuildFault<C::Refusal>>
-    ensures tree { IfOk result (λ r. bare_expr r ≡ tree_ops.unary_of op (substituted (env_of V.bare_type_of V.bare_expr_of values.now) (bare_expr arg.now.value))) }
-    ensures refused { Refuses C.types_of (first_refusal C.refuses (env_of V.bare_type_of V.bare_expr_of values.now) (bare_expr arg.now.value)) result }
+    arg: &Rc<Expr<()>>,
+    done: &mut Vec<Option<Rc<Expr<()>>>>,
+) -> Result<Rc<Expr<()>>, AllocError>
+    requires { 1 ≤ vec_len done.old }
+    ensures {
+        IfOk result
+            (IsRenewedOfLast (bare_expr arg.now.value ∷ []) (OfOne (checked_ops.unary_of op))
+                done.old.items done.new.items)
+    }
 {
-    let arg = rebuilt_child::<C, V>(alloc, arg, values)?;
-    Ok(node(ExprKind::UnaryApp { op, arg }))
+    let arg = new_or_shared(done.take_last(), arg)?;
+    node(alloc, ExprKind::UnaryApp { op, arg })
 }
 
-#[cycle(rebuilt)]
 #[inline(never)]
-fn binary_with<C: TypeCheck, V: SubstituteValue>(
+fn renew_binary(
     alloc: Global,
-    arg2: &Rc<Expr<()>>,
     op: BinaryOp,
-    arg1: Rc<Expr<()>>,
-    values: &HashMap<RcStr, V>,
-) -> Result<Expr<()>, BuildFault<C::Refusal>>
-    ensures tree { IfOk result (λ r. bare_expr r ≡ tree_ops.binary_of op (bare_expr arg1.value) (substituted (env_of V.bare_type_of V.bare_expr_of values.now) (bare_expr arg2.now.value))) }
-    ensures refused { Refuses C.types_of (first_refusal C.refuses (env_of V.bare_type_of V.bare_expr_of values.now) (bare_expr arg2.now.value)) result }
+    arg1: &Rc<Expr<()>>,
+    arg2: &Rc<Expr<()>>,
+    done: &mut Vec<Option<Rc<Expr<()>>>>,
+) -> Result<Rc<Expr<()>>, AllocError>
+    requires { 2 ≤ vec_len done.old }
+    ensures {
+        IfOk result
+            (IsRenewedOfLast (bare_expr arg1.now.value ∷ bare_expr arg2.now.value ∷ [])
+                (OfTwo (checked_ops.binary_of op)) done.old.items done.new.items)
+    }
 {
-    let arg2 = rebuilt_child::<C, V>(alloc, arg2, values)?;
-    Ok(node(ExprKind::BinaryApp { op, arg1, arg2 }))
+    let (new1, new2) = take_two(done);
+    let arg1 = new_or_shared(new1, arg1)?;
+    let arg2 = new_or_shared(new2, arg2)?;
+    node(alloc, ExprKind::BinaryApp { op, arg1, arg2 })
 }
 
-#[cycle(rebuilt)]
 #[inline(never)]
-fn call_with<C: TypeCheck, V: SubstituteValue>(
+fn renew_call(
     alloc: Global,
-    args: &Vec<Expr<()>>,
     fn_name: &Name,
-    values: &HashMap<RcStr, V>,
-) -> Result<Expr<()>, BuildFault<C::Refusal>>
-    ensures tree { IfOk result (λ r. bare_expr r ≡ ExtensionFunctionApp (bare_name fn_name.now) (all_substituted (env_of V.bare_type_of V.bare_expr_of values.now) (bare_exprs args.now.items))) }
-    ensures refused { Refuses C.types_of (first_refusal_of_all C.refuses (env_of V.bare_type_of V.bare_expr_of values.now) (bare_exprs args.now.items)) result }
+    args: &Vec<Expr<()>>,
+    done: &mut Vec<Option<Rc<Expr<()>>>>,
+) -> Result<Rc<Expr<()>>, AllocError>
+    requires { length args.now.items ≤ vec_len done.old }
+    ensures {
+        IfOk result
+            (IsRenewedOfLast (members_of (bare_exprs args.now.items))
+                (λ ts r. r ≡ checked_ops.call_of (bare_name fn_name.now) ts)
+                done.old.items done.new.items)
+    }
 {
-    let args = rebuilt_all::<C, V>(alloc, args, values)?;
-    Ok(Expr::call_extension_fn(alloc, fn_name.clone(alloc)?, args)?)
+    let args = renew_members(alloc, args, take_many(done, args.len())?)?;
+    Ok(Rc::new(alloc, Expr::call_extension_fn(alloc, fn_name.clone(alloc)?, args)?)?)
 }
 
-#[cycle(rebuilt)]
 #[inline(never)]
-fn get_with<C: TypeCheck, V: SubstituteValue>(
+fn renew_get(
     alloc: Global,
     expr: &Rc<Expr<()>>,
     attr: &RcStr,
-    values: &HashMap<RcStr, V>,
-) -> Result<Expr<()>, BuildFault<C::Refusal>>
-    ensures tree { IfOk result (λ r. bare_expr r ≡ tree_ops.get_of (substituted (env_of V.bare_type_of V.bare_expr_of values.now) (bare_expr expr.now.value)) (rc_str_bytes attr.now)) }
-    ensures refused { Refuses C.types_of (first_refusal C.refuses (env_of V.bare_type_of V.bare_expr_of values.now) (bare_expr expr.now.value)) result }
+    done: &mut Vec<Option<Rc<Expr<()>>>>,
+) -> Result<Rc<Expr<()>>, AllocError>
+    requires { 1 ≤ vec_len done.old }
+    ensures {
+        IfOk result
+            (IsRenewedOfLast (bare_expr expr.now.value ∷ [])
+                (OfOne (λ m. checked_ops.get_of m (rc_str_bytes attr.now)))
+                done.old.items done.new.items)
+    }
 {
-    let expr = rebuilt_child::<C, V>(alloc, expr, values)?;
+    let expr = new_or_shared(done.take_last(), expr)?;
     let attr = attr.clone()?;
-    Ok(node(ExprKind::GetAttr { expr, attr }))
+    node(alloc, ExprKind::GetAttr { expr, attr })
 }
 
-#[cycle(rebuilt)]
 #[inline(never)]
-fn has_with<C: TypeCheck, V: SubstituteValue>(
+fn renew_has(
     alloc: Global,
     expr: &Rc<Expr<()>>,
     attr: &RcStr,
-    values: &HashMap<RcStr, V>,
-) -> Result<Expr<()>, BuildFault<C::Refusal>>
-    ensures tree { IfOk result (λ r. bare_expr r ≡ tree_ops.has_of (substituted (env_of V.bare_type_of V.bare_expr_of values.now) (bare_expr expr.now.value)) (rc_str_bytes attr.now)) }
-    ensures refused { Refuses C.types_of (first_refusal C.refuses (env_of V.bare_type_of V.bare_expr_of values.now) (bare_expr expr.now.value)) result }
+    done: &mut Vec<Option<Rc<Expr<()>>>>,
+) -> Result<Rc<Expr<()>>, AllocError>
+    requires { 1 ≤ vec_len done.old }
+    ensures {
+        IfOk result
+            (IsRenewedOfLast (bare_expr expr.now.value ∷ [])
+                (OfOne (λ m. checked_ops.has_of m (rc_str_bytes attr.now)))
+                done.old.items done.new.items)
+    }
 {
-    let expr = rebuilt_child::<C, V>(alloc, expr, values)?;
+    let expr = new_or_shared(done.take_last(), expr)?;
     let attr = attr.clone()?;
-    Ok(node(ExprKind::HasAttr { expr, attr }))
+    node(alloc, ExprKind::HasAttr { expr, attr })
 }
 
-#[cycle(rebuilt)]
 #[inline(never)]
-fn extended_has_with<C: TypeCheck, V: SubstituteValue>(
+fn renew_extended_has(
     alloc: Global,
-    expr: &Expr<()>,
+    expr: &Rc<Expr<()>>,
     attrs: &NonEmpty<RcStr>,
-    values: &HashMap<RcStr, V>,
-) -> Result<Expr<()>, BuildFault<C::Refusal>>
-    ensures tree { IfOk result (λ r. bare_expr r ≡ tree_ops.ext_has_of (substituted (env_of V.bare_type_of V.bare_expr_of values.now) (bare_expr expr.now)) (rc_str_bytes attrs.now.head) (further attrs.now)) }
-    ensures refused { Refuses C.types_of (first_refusal C.refuses (env_of V.bare_type_of V.bare_expr_of values.now) (bare_expr expr.now)) result }
+    done: &mut Vec<Option<Rc<Expr<()>>>>,
+) -> Result<Rc<Expr<()>>, AllocError>
+    requires { 1 ≤ vec_len done.old }
+    ensures {
+        IfOk result
+            (IsRenewedOfLast (bare_expr expr.now.value ∷ [])
+                (OfOne (λ m. checked_ops.ext_has_of m (rc_str_bytes attrs.now.head) (further attrs.now)))
+                done.old.items done.new.items)
+    }
 {
-    let expr = rebuilt::<C, V>(alloc, expr, values)?;
-    Ok(Expr::extended_has_attr(alloc, expr, attrs.clone(alloc)?)?)
+    let expr = own_or_copy(alloc, done.take_last(), expr)?;
+    Ok(Rc::new(alloc, Expr::extended_has_attr(alloc, expr, attrs.clone(alloc)?)?)?)
 }
 
-#[cycle(rebuilt)]
 #[inline(never)]
-fn like_with<C: TypeCheck, V: SubstituteValue>(
+fn renew_like(
     alloc: Global,
     expr: &Rc<Expr<()>>,
     pattern: &Pattern,
-    values: &HashMap<RcStr, V>,
-) -> Result<Expr<()>, BuildFault<C::Refusal>>
-    ensures tree { IfOk result (λ r. bare_expr r ≡ tree_ops.like_of (substituted (env_of V.bare_type_of V.bare_expr_of values.now) (bare_expr expr.now.value)) pattern.now) }
-    ensures refused { Refuses C.types_of (first_refusal C.refuses (env_of V.bare_type_of V.bare_expr_of values.now) (bare_expr expr.now.value)) result }
+    done: &mut Vec<Option<Rc<Expr<()>>>>,
+) -> Result<Rc<Expr<()>>, AllocError>
+    requires { 1 ≤ vec_len done.old }
+    ensures {
+        IfOk result
+            (IsRenewedOfLast (bare_expr expr.now.value ∷ [])
+                (OfOne (λ m. checked_ops.like_of m pattern.now)) done.old.items done.new.items)
+    }
 {
-    let expr = rebuilt_child::<C, V>(alloc, expr, values)?;
+    let expr = new_or_shared(done.take_last(), expr)?;
     let pattern = pattern.clone(alloc)?;
-    Ok(node(ExprKind::Like { expr, pattern }))
+    node(alloc, ExprKind::Like { expr, pattern })
 }
 
-#[cycle(rebuilt)]
 #[inline(never)]
-fn is_with<C: TypeCheck, V: SubstituteValue>(
+fn renew_set(
+    alloc: Global,
+    members: &Vec<Expr<()>>,
+    done: &mut Vec<Option<Rc<Expr<()>>>>,
+) -> Result<Rc<Expr<()>>, AllocError>
+    requires { length members.now.items ≤ vec_len done.old }
+    ensures {
+        IfOk result
+            (IsRenewedOfLast (members_of (bare_exprs members.now.items))
+                (λ ts r. r ≡ Ok (checked_ops.set_of ts)) done.old.items done.new.items)
+    }
+{
+    let members = renew_members(alloc, members, take_many(done, members.len())?)?;
+    Ok(Rc::new(alloc, Expr::set(alloc, members)?)?)
+}
+
+#[inline(never)]
+fn renew_record(
+    alloc: Global,
+    pairs: &BTreeMap<RcStr, Expr<()>>,
+    done: &mut Vec<Option<Rc<Expr<()>>>>,
+) -> Result<Rc<Expr<()>>, AllocError>
+    requires { length pairs.now.entries ≤ vec_len done.old }
+    ensures {
+        IfOk result
+            (IsRenewedOfLast (values_of (bare_fields pairs.now.entries))
+                (λ ts r. r ≡ Ok (checked_ops.record_of (keyed (bare_fields pairs.now.entries) ts)))
+                done.old.items done.new.items)
+    }
+{
+    let pairs = renew_values(alloc, pairs, take_many(done, pairs.len())?)?;
+    match ExprBuilder::new().record(alloc, pairs) {
+        Ok(record) => Ok(Rc::new(alloc, record)?),
+        Err(ExpressionConstructionError::Memory) => Err(AllocError),
+        // The keys of a map rise, and the builder accepts such pairs.
+        Err(ExpressionConstructionError::DuplicateKey(_)) => unreachable!(),
+    }
+}
+
+#[inline(never)]
+fn renew_is(
     alloc: Global,
     expr: &Rc<Expr<()>>,
     entity_type: &EntityType,
-    values: &HashMap<RcStr, V>,
-) -> Result<Expr<()>, BuildFault<C::Refusal>>
-    ensures tree { IfOk result (λ r. bare_expr r ≡ tree_ops.is_of (substituted (env_of V.bare_type_of V.bare_expr_of values.now) (bare_expr expr.now.value)) (bare_entity_type entity_type.now)) }
-    ensures refused { Refuses C.types_of (first_refusal C.refuses (env_of V.bare_type_of V.bare_expr_of values.now) (bare_expr expr.now.value)) result }
+    done: &mut Vec<Option<Rc<Expr<()>>>>,
+) -> Result<Rc<Expr<()>>, AllocError>
+    requires { 1 ≤ vec_len done.old }
+    ensures {
+        IfOk result
+            (IsRenewedOfLast (bare_expr expr.now.value ∷ [])
+                (OfOne (λ m. checked_ops.is_of m (bare_entity_type entity_type.now)))
+                done.old.items done.new.items)
+    }
 {
-    let expr = rebuilt_child::<C, V>(alloc, expr, values)?;
+    let expr = new_or_shared(done.take_last(), expr)?;
     let entity_type = entity_type.clone(alloc)?;
-    Ok(node(ExprKind::Is { expr, entity_type }))
+    node(alloc, ExprKind::Is { expr, entity_type })
 }
 
-#[cycle(rebuilt)]
-#[inline(never)]
-fn set_with<C: TypeCheck, V: SubstituteValue>(
+// The members, each renewed.
+fn renew_members(
     alloc: Global,
     members: &Vec<Expr<()>>,
-    values: &HashMap<RcStr, V>,
-) -> Result<Expr<()>, BuildFault<C::Refusal>>
-    ensures tree { IfOk result (λ r. bare_expr r ≡ Set (all_substituted (env_of V.bare_type_of V.bare_expr_of values.now) (bare_exprs members.now.items))) }
-    ensures refused { Refuses C.types_of (first_refusal_of_all C.refuses (env_of V.bare_type_of V.bare_expr_of values.now) (bare_exprs members.now.items)) result }
-{
-    let members = rebuilt_all::<C, V>(alloc, members, values)?;
-    Ok(Expr::set(alloc, members)?)
-}
-
-#[cycle(rebuilt)]
-#[inline(never)]
-fn record_with<C: TypeCheck, V: SubstituteValue>(
-    alloc: Global,
-    pairs: &BTreeMap<RcStr, Expr<()>>,
-    values: &HashMap<RcStr, V>,
-) -> Result<Expr<()>, BuildFault<C::Refusal>>
-    ensures tree { IfOk result (λ r. bare_expr r ≡ Record (fields_substituted (env_of V.bare_type_of V.bare_expr_of values.now) (bare_fields pairs.now.entries))) }
-    ensures refused { Refuses C.types_of (first_refusal_of_fields C.refuses (env_of V.bare_type_of V.bare_expr_of values.now) (bare_fields pairs.now.entries)) result }
-{
-    let pairs = rebuilt_values::<C, V>(alloc, pairs, values)?;
-    Ok(Expr::record_arc(Rc::new(alloc, pairs)?))
-}
-
-#[cycle(rebuilt)]
-fn rebuilt_all<C: TypeCheck, V: SubstituteValue>(
-    alloc: Global,
-    members: &Vec<Expr<()>>,
-    values: &HashMap<RcStr, V>,
-) -> Result<Vec<Expr<()>>, BuildFault<C::Refusal>>
-    ensures tree { IfOk result (λ r. bare_exprs r.items ≡ all_substituted (env_of V.bare_type_of V.bare_expr_of values.now) (bare_exprs members.now.items)) }
-    ensures refused { Refuses C.types_of (first_refusal_of_all C.refuses (env_of V.bare_type_of V.bare_expr_of values.now) (bare_exprs members.now.items)) result }
+    new: Vec<Option<Rc<Expr<()>>>>,
+) -> Result<Vec<Expr<()>>, AllocError>
+    requires { length new.items ≡ length members.now.items }
+    ensures {
+        IfOk result (λ es.
+            map bare_expr es.items
+                ≡ all_new_or (map bare_expr members.now.items) (map new_tree new.items))
+    }
 {
     let mut done = Vec::with_capacity(alloc, members.len())?;
+    let mut rest = new.into_iter();
     for member in members {
-        done.push(rebuilt::<C, V>(alloc, member, values)?)?;
+        match rest.next() {
+            Some(one) => done.push(own_or_copy(alloc, one, member)?)?,
+            None => unreachable!(),
+        }
     }
     Ok(done)
 }
 
-#[cycle(rebuilt)]
-fn rebuilt_values<C: TypeCheck, V: SubstituteValue>(
+// The keys of a record, each with its value renewed.
+fn renew_values(
     alloc: Global,
     pairs: &BTreeMap<RcStr, Expr<()>>,
-    values: &HashMap<RcStr, V>,
-) -> Result<BTreeMap<RcStr, Expr<()>>, BuildFault<C::Refusal>>
-    ensures tree { IfOk result (λ r. bare_fields r.entries ≡ fields_substituted (env_of V.bare_type_of V.bare_expr_of values.now) (bare_fields pairs.now.entries)) }
-    ensures refused { Refuses C.types_of (first_refusal_of_fields C.refuses (env_of V.bare_type_of V.bare_expr_of values.now) (bare_fields pairs.now.entries)) result }
+    new: Vec<Option<Rc<Expr<()>>>>,
+) -> Result<Vec<(RcStr, Expr<()>)>, AllocError>
+    requires { length new.items ≡ length pairs.now.entries }
+    ensures keys { IfOk result (λ ps. keys_of ps.items ≡ keys_of pairs.now.entries) }
+    ensures values {
+        IfOk result (λ ps.
+            map bare_expr (map (λ p. p.1) ps.items)
+                ≡ all_new_or (map (λ p. bare_expr p.1) pairs.now.entries) (map new_tree new.items))
+    }
+    ensures rising { IfOk result (λ ps. IsRising (keys_of ps.items)) }
 {
-    let mut done = BTreeMap::new(alloc);
+    let mut done = Vec::with_capacity(alloc, pairs.len())?;
+    let mut rest = new.into_iter();
     for (key, value) in pairs.iter() {
-        let name = key.clone()?;
-        drop(done.insert(name, rebuilt::<C, V>(alloc, value, values)?)?);
+        match rest.next() {
+            Some(one) => done.push((key.clone()?, own_or_copy(alloc, one, value)?))?,
+            None => unreachable!(),
+        }
     }
     Ok(done)
 }

@@ -8,10 +8,10 @@ ghost use Rattle.cedar_exprs.specs.RestrictedExprs.{env_of};
 ghost use Rattle.cedar_exprs.specs.Refusals.{types_of, IsClashError};
 
 use crate::expr::Expr;
+use crate::machine::WalkFault;
 use crate::restricted_expr::SubstituteValue;
-use crate::substitution::rebuilt;
-use crate::type_check::{Checked, Clash};
-use cedar_builders::BuildFault;
+use crate::substitution::substitute_general;
+use crate::substitution_function::{Clash, TypedSubstitution};
 use cedar_builders::laws::{clash_by_children, substituted_by_fold};
 use cedar_terms::Type;
 use std::alloc::{AllocError, Global};
@@ -73,13 +73,13 @@ impl Expr<()> {
     {
         clash_by_children();
         substituted_by_fold();
-        match rebuilt::<Checked, V>(alloc, self, values) {
+        match substitute_general::<TypedSubstitution, V>(alloc, self, values) {
             Ok(expr) => Ok(expr),
-            Err(BuildFault::Build(clash)) => {
+            Err(WalkFault::Refused(clash)) => {
                 let Clash { expected, actual } = Box::into_inner(clash);
                 Err(SubstitutionError::TypeError { expected, actual })
             }
-            Err(BuildFault::Memory) => Err(SubstitutionError::Memory),
+            Err(WalkFault::Memory) => Err(SubstitutionError::Memory),
         }
     }
 }

@@ -1,0 +1,43 @@
+-- Walks by tasks: what a task asks for, what one step does, and what a walk answers.
+use Rattle.std.specs.Prelude.{◌≡◌, ⊤, ℕ, List, ◌++◌, length, map, Result, Ok, Err}
+use Rattle.cedar_builders.specs.BareExpr.{BareExpr}
+use Rattle.cedar_exprs.specs.BareExpr.{bare_expr}
+use Rattle.cedar_exprs.specs.declared.machine.Task.{Task}
+use Rattle.cedar_exprs.specs.declared.machine.Task.TheVariants.{Visit, Make}
+use Rattle.cedar_exprs.specs.declared.machine.WalkFault.{WalkFault}
+use Rattle.cedar_exprs.specs.declared.machine.WalkFault.TheVariants.{Refused, Memory}
+
+-- to walk over a tree, or to make what its root gives when its children are done
+pub data BareTask : Type 0 where
+  to_visit : BareExpr → BareTask
+  to_make : BareExpr → BareTask
+
+abbrev pub bare_task : {T : Type 0} → Task T → BareTask
+bare_task (Visit e) = to_visit (bare_expr e.now)
+bare_task (Make e) = to_make (bare_expr e.now)
+
+abbrev pub bare_tasks : {T : Type 0} → List (Task T) → List BareTask
+bare_tasks = map bare_task
+
+abbrev pub visits : List BareExpr → List BareTask
+visits = map to_visit
+
+-- the answer is what is wanted, its meaning or its refusal's, want of memory aside
+abbrev pub IsAnswer : {X R M F : Type 0} → (X → M) → (R → F) → Result M F → Result X (WalkFault R) → Type 0
+IsAnswer meaning_of fault_of wanted (Ok x) = wanted ≡ Ok (meaning_of x)
+IsAnswer meaning_of fault_of wanted (Err (Refused r)) = wanted ≡ Err (fault_of r)
+IsAnswer meaning_of fault_of wanted (Err Memory) = ⊤
+
+-- the last n of some results are taken off, and this holds of them
+abbrev pub Takes : {X : Type 0} → ℕ → (List X → Type 0) → List X → List X → Type 0
+Takes {X} n P all rest = (last : List X) × (all ≡ rest ++ last) × (length last ≡ n) × P last
+
+-- the answer is made of the last n results, which are taken off, want of memory aside
+abbrev pub IsMade : {X R M F : Type 0} → (X → M) → (R → F) → (List M → Result M F → Type 0) → ℕ → List X → List X → Result X (WalkFault R) → Type 0
+IsMade meaning_of fault_of IsMadeOf n all rest (Ok x) = Takes n (λ last. IsMadeOf (map meaning_of last) (Ok (meaning_of x))) all rest
+IsMade meaning_of fault_of IsMadeOf n all rest (Err (Refused r)) = Takes n (λ last. IsMadeOf (map meaning_of last) (Err (fault_of r))) all rest
+IsMade meaning_of fault_of IsMadeOf n all rest (Err Memory) = ⊤
+
+-- an answer is made of the last n results, which are taken off
+abbrev pub IsMadeOfLast : {X M F : Type 0} → (X → M) → ℕ → (List M → Result M F → Type 0) → List X → List X → X → Type 0
+IsMadeOfLast meaning_of n IsMadeOf all rest x = Takes n (λ last. IsMadeOf (map meaning_of last) (Ok (meaning_of x))) all rest

@@ -1,0 +1,140 @@
+//! Walks over trees that take no stack: their tasks and their results lie on the heap.
+ghost use Rattle.std.specs.Prelude.{◌≡◌, ◌≤◌, ◌++◌, IsTrue, List, [], reverse, length, Result, IfOk, vec_len};
+ghost use Rattle.cedar_builders.specs.BareExpr.{BareExpr};
+ghost use Rattle.cedar_builders.specs.NodeByNode.{IsMadeByNodes};
+ghost use Rattle.cedar_builders.specs.Walks.{children};
+ghost use Rattle.cedar_exprs.specs.BareExpr.{bare_expr};
+ghost use Rattle.cedar_exprs.specs.Machine.{IsAnswer, IsMade, visits, bare_tasks};
+ghost use Rattle.cedar_exprs.specs.declared.machine.WalkFault.TheVariants.{Memory};
+
+use crate::children::Children;
+use crate::expr::{Expr, ExprKind};
+use std::alloc::{AllocError, AllocFailed, Global};
+
+// Why a walk gives no answer.
+#[derive(Drop)]
+pub(crate) enum WalkFault<R> {
+    // A node was refused.
+    Refused(R),
+    // Memory was.
+    Memory,
+}
+
+impl<R> From<AllocError> for WalkFault<R> {
+    ghost from_gives = { λ _ fault. fault ≡ Memory };
+
+    fn from(_: AllocError) -> WalkFault<R> {
+        WalkFault::Memory
+    }
+}
+
+impl<R, X: Drop> From<AllocFailed<X>> for WalkFault<R> {
+    ghost from_gives = { λ _ fault. fault ≡ Memory };
+
+    fn from(_: AllocFailed<X>) -> WalkFault<R> {
+        WalkFault::Memory
+    }
+}
+
+// A walk from the children up: what each node gives, by what its children gave.
+pub(crate) trait Walk<T> {
+    // What a node gives.
+    type Out: Drop;
+
+    // Why a node gives nothing.
+    type Refusal: Drop;
+
+    ghost Meaning: { Type 0 };
+
+    ghost Fault: { Type 0 };
+
+    ghost meaning_of: { Self.Out → Meaning };
+
+    ghost fault_of: { Self.Refusal → Fault };
+
+    // What a tree gives.
+    ghost answer: { Self → BareExpr → Result Meaning Fault };
+
+    // What is made of a node and what its children gave.
+    ghost is_made_of: { Self → BareExpr → List Meaning → Result Meaning Fault → Type 0 };
+
+    // What a node gives, where the last of `done` are what its children gave, in field order: they are taken off.
+    fn make(
+        &self,
+        alloc: Global,
+        node: &Expr<T>,
+        done: &mut Vec<Self::Out>,
+    ) -> Result<Self::Out, WalkFault<Self::Refusal>>
+        requires { length (children (bare_expr node.now)) ≤ vec_len done.old }
+        ensures {
+            IsMade meaning_of fault_of (is_made_of self.now (bare_expr node.now))
+                (length (children (bare_expr node.now))) done.old.items done.new.items result
+        };
+
+    ghost by_nodes: { (walk : Self) → IsMadeByNodes (answer walk) (is_made_of walk) };
+}
+
+// What is to be done.
+#[derive(Drop)]
+enum Task<'a, T> {
+    // To walk over a tree.
+    Visit(&'a Expr<T>),
+    // To make what a node gives, where its children are done.
+    Make(&'a Expr<T>),
+}
+
+// What a tree gives, or the first refusal.
+pub(crate) fn run<T, W: Walk<T>>(
+    alloc: Global,
+    walk: &W,
+    root: &Expr<T>,
+) -> Result<W::Out, WalkFault<W::Refusal>>
+    ensures { IsAnswer W.meaning_of W.fault_of (W.answer walk.now (bare_expr root.now)) result }
+{
+    let mut tasks = Vec::new(alloc);
+    let mut done = Vec::new(alloc);
+    tasks.push(Task::Visit(root))?;
+    'down: while let Some(task) = tasks.pop() {
+        match task {
+            Task::Visit(node) => {
+                if is_leaf(node) {
+                    let out = walk.make(alloc, node, &mut done)?;
+                    done.push(out)?;
+                } else {
+                    tasks.push(Task::Make(node))?;
+                    push_children(&mut tasks, node)?;
+                }
+            }
+            Task::Make(node) => {
+                let out = walk.make(alloc, node, &mut done)?;
+                done.push(out)?;
+            }
+        }
+    }
+    Ok(done.take_last())
+}
+
+// Whether a node is of a kind without children.
+fn is_leaf<T>(node: &Expr<T>) -> bool
+    ensures { IsTrue result → children (bare_expr node.now) ≡ [] }
+{
+    match node.expr_kind() {
+        ExprKind::Lit(_) | ExprKind::Var(_) | ExprKind::Slot(_) | ExprKind::Unknown(_) => true,
+        _ => false,
+    }
+}
+
+// Puts the children onto the tasks, the first on top.
+fn push_children<'a, T>(tasks: &mut Vec<Task<'a, T>>, node: &'a Expr<T>) -> Result<(), AllocError>
+    ensures {
+        IfOk result (λ _.
+            bare_tasks tasks.new.items
+                ≡ bare_tasks tasks.old.items ++ reverse (visits (children (bare_expr node.now))))
+    }
+{
+    let mut left = Children::of(node);
+    'left: while let Some(child) = left.next_back() {
+        tasks.push(Task::Visit(child))?;
+    }
+    Ok(())
+}
