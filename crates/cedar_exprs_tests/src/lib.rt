@@ -4,4 +4,6 @@
 #[cfg(test)]
 mod raw;
 #[cfg(test)]
+mod refuse_at;
+#[cfg(test)]
 mod tests;

@@ -160,7 +160,9 @@ impl Builder for Raw {
         fn_name: Name,
         args: Vec<Expr<()>>,
     ) -> Result<Expr<()>, BuildFault<Infallible>>
-        ensures { Gives bare_expr never (tree_ops.call_of (bare_name fn_name) (map bare_expr args.items)) result }
+        ensures { Gives bare_expr never
+            (tree_ops.call_of (bare_name fn_name) (map bare_expr args.items))
+            result }
     {
         self.inner.call_extension_fn(alloc, fn_name, args)
     }
@@ -211,7 +213,8 @@ impl Builder for Raw {
         alloc: Global,
         pairs: Vec<(RcStr, Expr<()>)>,
     ) -> Result<Expr<()>, ExpressionConstructionError>
-        ensures means { IsRising (keys_of pairs.items) → IfOk result (λ e. bare_expr e ≡ tree_ops.record_of (meant_pairs bare_expr pairs.items)) }
+        ensures means { IsRising (keys_of pairs.items) → IfOk result (λ e.
+            bare_expr e ≡ tree_ops.record_of (meant_pairs bare_expr pairs.items)) }
         ensures accepts { IsRising (keys_of pairs.items) → IfErr result (λ e. e ≡ error.Memory) }
         ensures refuses { IfErr result (OnDuplicateKey (λ _. HasRepeat (keys_of pairs.items))) }
     {

@@ -1,7 +1,7 @@
 mod building;
 mod constructors;
 mod laws;
-mod refuse_calls;
+mod places;
 mod restricted;
 mod samples;
 mod stored;

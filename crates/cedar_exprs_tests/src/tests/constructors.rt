@@ -1,16 +1,12 @@
-// Each constructor makes its node, without a place, and has an answer where there is memory.
-use crate::tests::samples::{name, text};
+// Each constructor and each call of the struct `ExprBuilder` makes its node and has an answer where there is memory.
+use crate::tests::samples::{at, children, is_at, name, text};
 use cedar_builders::ExprBuilder as _;
 use cedar_exprs::{Expr, ExprBuilder, ExprKind};
 use cedar_names::{NonEmpty, SlotId};
 use cedar_terms::{BinaryOp, EntityType, Literal, Pattern, PatternElem, UnaryOp, Unknown, Var};
-use std::alloc::AllocError;
 use std::collections::BTreeMap;
 use std::rc::{Rc, RcStr};
 use std::test::Fail;
-
-// What a constructor answers.
-type Made = Result<Expr<()>, AllocError>;
 
 fn node(kind: ExprKind<()>) -> Expr<()> {
     ExprBuilder::with_data(()).with_expr_kind(kind)
@@ -18,11 +14,6 @@ fn node(kind: ExprKind<()>) -> Expr<()> {
 
 fn shared(rt: &HostRuntime, e: Expr<()>) -> Result<Rc<Expr<()>>, Fail> {
     Ok(Rc::new(rt.alloc(), e)?)
-}
-
-fn unary(rt: &HostRuntime, op: UnaryOp, arg: Expr<()>) -> Result<Expr<()>, Fail> {
-    let arg = shared(rt, arg)?;
-    Ok(node(ExprKind::UnaryApp { op, arg }))
 }
 
 // Two expressions that no constructor simplifies.
@@ -34,22 +25,26 @@ fn y() -> Expr<()> {
     Expr::var(Var::Resource)
 }
 
-fn binary_of_both(rt: &HostRuntime, op: BinaryOp) -> Result<Expr<()>, Fail> {
+fn unary(rt: &HostRuntime, op: UnaryOp, arg: Expr<()>) -> Result<Expr<()>, Fail> {
+    let arg = shared(rt, arg)?;
+    Ok(node(ExprKind::UnaryApp { op, arg }))
+}
+
+fn binary(rt: &HostRuntime, op: BinaryOp) -> Result<Expr<()>, Fail> {
     let arg1 = shared(rt, x())?;
     let arg2 = shared(rt, y())?;
     Ok(node(ExprKind::BinaryApp { op, arg1, arg2 }))
 }
 
-fn is_unary(rt: &HostRuntime, made: Made, op: UnaryOp) -> Result<bool, Fail> {
-    Ok(made? == unary(rt, op, x())?)
-}
-
-fn is_binary(rt: &HostRuntime, made: Made, op: BinaryOp) -> Result<bool, Fail> {
-    Ok(made? == binary_of_both(rt, op)?)
-}
-
-fn is_negated(rt: &HostRuntime, made: Made, op: BinaryOp) -> Result<bool, Fail> {
-    Ok(made? == unary(rt, UnaryOp::Not, binary_of_both(rt, op)?)?)
+// The constructor and the builder at 1 make this node, the one without a place and the other with the builder's.
+fn are_both(
+    rt: &HostRuntime,
+    wanted: &Expr<()>,
+    made: &Expr<()>,
+    built: &Expr<()>,
+) -> Result<bool, Fail> {
+    let same = made == wanted && built == wanted;
+    Ok(same && is_at(rt, made, None)? && is_at(rt, built, Some(1))?)
 }
 
 // The expression is this node, and has no place.
@@ -80,41 +75,168 @@ fn leaves(rt: HostRuntime) -> Result<(), Fail> {
 #[test]
 fn operators_on_one_argument(rt: HostRuntime) -> Result<(), Fail> {
     let alloc = rt.alloc();
-    assert!(rt; is_unary(&rt, Expr::not(alloc, x()), UnaryOp::Not)?);
-    assert!(rt; is_unary(&rt, Expr::neg(alloc, x()), UnaryOp::Neg)?);
-    assert!(rt; is_unary(&rt, Expr::is_empty(alloc, x()), UnaryOp::IsEmpty)?);
-    assert!(rt; is_unary(&rt, Expr::unary_app(alloc, UnaryOp::Neg, x()), UnaryOp::Neg)?);
+    let b = || at(&rt, 1);
+    let cases = vec![in alloc;
+        (UnaryOp::Not, Expr::not(alloc, x())?, b()?.not(alloc, x())?),
+        (UnaryOp::Neg, Expr::neg(alloc, x())?, b()?.neg(alloc, x())?),
+        (
+            UnaryOp::IsEmpty,
+            Expr::is_empty(alloc, x())?,
+            b()?.is_empty(alloc, x())?
+        ),
+        (
+            UnaryOp::Neg,
+            Expr::unary_app(alloc, UnaryOp::Neg, x())?,
+            b()?.unary_app(alloc, UnaryOp::Neg, x())?
+        ),
+    ]?;
+    for (op, made, built) in cases {
+        assert!(rt;
+            are_both(&rt, &unary(&rt, op, x())?, &made, &built)?,
+            "{op}"
+        );
+    }
     Ok(())
 }
 
 #[test]
-fn operators_on_two_arguments(rt: HostRuntime) -> Result<(), Fail> {
+fn operators_that_compare_and_calculate(rt: HostRuntime) -> Result<(), Fail> {
     let alloc = rt.alloc();
-    assert!(rt; is_binary(&rt, Expr::is_eq(alloc, x(), y()), BinaryOp::Eq)?);
-    assert!(rt; is_binary(&rt, Expr::less(alloc, x(), y()), BinaryOp::Less)?);
-    assert!(rt; is_binary(&rt, Expr::lesseq(alloc, x(), y()), BinaryOp::LessEq)?);
-    assert!(rt; is_binary(&rt, Expr::add(alloc, x(), y()), BinaryOp::Add)?);
-    assert!(rt; is_binary(&rt, Expr::sub(alloc, x(), y()), BinaryOp::Sub)?);
-    assert!(rt; is_binary(&rt, Expr::mul(alloc, x(), y()), BinaryOp::Mul)?);
-    assert!(rt; is_binary(&rt, Expr::is_in(alloc, x(), y()), BinaryOp::In)?);
-    assert!(rt; is_binary(&rt, Expr::contains(alloc, x(), y()), BinaryOp::Contains)?);
-    let made = Expr::contains_all(alloc, x(), y());
-    assert!(rt; is_binary(&rt, made, BinaryOp::ContainsAll)?);
-    let made = Expr::contains_any(alloc, x(), y());
-    assert!(rt; is_binary(&rt, made, BinaryOp::ContainsAny)?);
-    assert!(rt; is_binary(&rt, Expr::get_tag(alloc, x(), y()), BinaryOp::GetTag)?);
-    assert!(rt; is_binary(&rt, Expr::has_tag(alloc, x(), y()), BinaryOp::HasTag)?);
-    let made = Expr::binary_app(alloc, BinaryOp::In, x(), y());
-    assert!(rt; is_binary(&rt, made, BinaryOp::In)?);
+    let b = || at(&rt, 1);
+    let cases = vec![in alloc;
+        (
+            BinaryOp::Eq,
+            Expr::is_eq(alloc, x(), y())?,
+            b()?.is_eq(alloc, x(), y())?
+        ),
+        (
+            BinaryOp::Less,
+            Expr::less(alloc, x(), y())?,
+            b()?.less(alloc, x(), y())?
+        ),
+        (
+            BinaryOp::LessEq,
+            Expr::lesseq(alloc, x(), y())?,
+            b()?.lesseq(alloc, x(), y())?
+        ),
+        (
+            BinaryOp::Add,
+            Expr::add(alloc, x(), y())?,
+            b()?.add(alloc, x(), y())?
+        ),
+        (
+            BinaryOp::Sub,
+            Expr::sub(alloc, x(), y())?,
+            b()?.sub(alloc, x(), y())?
+        ),
+        (
+            BinaryOp::Mul,
+            Expr::mul(alloc, x(), y())?,
+            b()?.mul(alloc, x(), y())?
+        ),
+    ]?;
+    for (op, made, built) in cases {
+        assert!(rt; are_both(&rt, &binary(&rt, op)?, &made, &built)?, "{op}");
+    }
     Ok(())
 }
 
+#[test]
+fn operators_on_sets_and_entities(rt: HostRuntime) -> Result<(), Fail> {
+    let alloc = rt.alloc();
+    let b = || at(&rt, 1);
+    let (all, any) = (BinaryOp::ContainsAll, BinaryOp::ContainsAny);
+    let cases = vec![in alloc;
+        (
+            BinaryOp::In,
+            Expr::is_in(alloc, x(), y())?,
+            b()?.is_in(alloc, x(), y())?
+        ),
+        (
+            BinaryOp::Contains,
+            Expr::contains(alloc, x(), y())?,
+            b()?.contains(alloc, x(), y())?
+        ),
+        (
+            all,
+            Expr::contains_all(alloc, x(), y())?,
+            b()?.contains_all(alloc, x(), y())?
+        ),
+        (
+            any,
+            Expr::contains_any(alloc, x(), y())?,
+            b()?.contains_any(alloc, x(), y())?
+        ),
+        (
+            BinaryOp::GetTag,
+            Expr::get_tag(alloc, x(), y())?,
+            b()?.get_tag(alloc, x(), y())?
+        ),
+        (
+            BinaryOp::HasTag,
+            Expr::has_tag(alloc, x(), y())?,
+            b()?.has_tag(alloc, x(), y())?
+        ),
+        (
+            any,
+            Expr::binary_app(alloc, any, x(), y())?,
+            b()?.binary_app(alloc, any, x(), y())?
+        ),
+    ]?;
+    for (op, made, built) in cases {
+        assert!(rt; are_both(&rt, &binary(&rt, op)?, &made, &built)?, "{op}");
+    }
+    Ok(())
+}
+
+// The inner node has the builder's place too.
 #[test]
 fn negated_operators(rt: HostRuntime) -> Result<(), Fail> {
     let alloc = rt.alloc();
-    assert!(rt; is_negated(&rt, Expr::noteq(alloc, x(), y()), BinaryOp::Eq)?);
-    assert!(rt; is_negated(&rt, Expr::greater(alloc, x(), y()), BinaryOp::LessEq)?);
-    assert!(rt; is_negated(&rt, Expr::greatereq(alloc, x(), y()), BinaryOp::Less)?);
+    let b = || at(&rt, 1);
+    let cases = vec![in alloc;
+        (
+            BinaryOp::Eq,
+            Expr::noteq(alloc, x(), y())?,
+            b()?.noteq(alloc, x(), y())?
+        ),
+        (
+            BinaryOp::LessEq,
+            Expr::greater(alloc, x(), y())?,
+            b()?.greater(alloc, x(), y())?
+        ),
+        (
+            BinaryOp::Less,
+            Expr::greatereq(alloc, x(), y())?,
+            b()?.greatereq(alloc, x(), y())?
+        ),
+    ]?;
+    for (op, made, built) in cases {
+        let wanted = unary(&rt, UnaryOp::Not, binary(&rt, op)?)?;
+        assert!(rt; are_both(&rt, &wanted, &made, &built)?, "not {op}");
+        for inner in children(alloc, &made)? {
+            assert!(rt; is_at(&rt, inner, None)?, "not {op}");
+        }
+        for inner in children(alloc, &built)? {
+            assert!(rt; is_at(&rt, inner, Some(1))?, "not {op}");
+        }
+    }
+    Ok(())
+}
+
+// The node has the builder's data, the inner node of a negation that of a new builder.
+#[test]
+fn nodes_carry_data(rt: HostRuntime) -> Result<(), Fail> {
+    let alloc = rt.alloc();
+    let one = || ExprBuilder::<u8>::with_data(7).val(alloc, Literal::Long(1));
+    assert_eq!(rt; one()?.into_data(), 7);
+    let mut e = ExprBuilder::<u8>::with_data(3).noteq(alloc, one()?, one()?)?;
+    match e.expr_kind() {
+        ExprKind::UnaryApp { arg, .. } => assert_eq!(rt; (*e.data(), *arg.data()), (3, 0)),
+        _ => assert!(rt; false, "a negation"),
+    }
+    e.set_data(4);
+    assert_eq!(rt; (*e.data(), e.into_data()), (4, 4));
     Ok(())
 }
 
@@ -126,6 +248,13 @@ fn connectives(rt: HostRuntime) -> Result<(), Fail> {
     let (left, right) = (shared(&rt, x())?, shared(&rt, y())?);
     let made = Expr::or(rt.alloc(), x(), y())?;
     assert!(rt; is_node(made, ExprKind::Or { left, right }));
+    let (one, no) = (
+        || Expr::val(Literal::Long(1)),
+        || Expr::val(Literal::Bool(false)),
+    );
+    let (left, right) = (shared(&rt, one())?, shared(&rt, no())?);
+    let made = Expr::and(rt.alloc(), one(), no())?;
+    assert!(rt; is_node(made, ExprKind::And { left, right }));
     Ok(())
 }
 
@@ -223,16 +352,19 @@ fn records(rt: HostRuntime) -> Result<(), Fail> {
 // The text names the first key that stood before.
 #[test]
 fn records_refuse_a_repeated_key(rt: HostRuntime) -> Result<(), Fail> {
-    let mut pairs = Vec::new(rt.alloc());
-    for key in ["a", "b", "b", "a"] {
-        pairs.push((text(&rt, key)?, x()))?;
-    }
-    match Expr::record(rt.alloc(), pairs) {
-        Err(error) => {
-            let said = error.to_string(rt.alloc())?;
-            assert_eq!(rt; said.as_str(), "duplicate key `b` in record literal");
+    let table = [
+        (["a", "b", "a", "c"], "duplicate key `a` in record literal"),
+        (["a", "b", "b", "a"], "duplicate key `b` in record literal"),
+    ];
+    for (keys, wanted) in table {
+        let mut pairs = Vec::new(rt.alloc());
+        for key in keys {
+            pairs.push((text(&rt, key)?, x()))?;
         }
-        Ok(_) => assert!(rt; false, "b stands twice"),
+        match Expr::record(rt.alloc(), pairs) {
+            Err(error) => assert_eq!(rt; error.to_string(rt.alloc())?.as_str(), wanted),
+            Ok(_) => assert!(rt; false, "a key stands twice"),
+        }
     }
     Ok(())
 }

@@ -1,17 +1,16 @@
 // Which expressions are refused and at which place, and that the others come back as they are.
-use crate::tests::samples::{at, name, text};
+use crate::tests::samples::{at, each_kind, name, text, unknown};
 use cedar_builders::ExprBuilder as _;
-use cedar_exprs::{Expr, RestrictedExpr, RestrictedExprError};
-use cedar_names::{NonEmpty, SlotId};
-use cedar_terms::{BinaryOp, EntityType, Literal, Pattern, PatternElem, UnaryOp, Unknown, Var};
+use cedar_exprs::{Expr, ExprKind, RestrictedExpr, RestrictedExprError};
+use cedar_terms::{Literal, Var};
 use std::test::Fail;
 
 fn literal(rt: &HostRuntime, start: usize) -> Result<Expr<()>, Fail> {
     Ok(at(rt, start)?.val(rt.alloc(), Literal::Long(7))?)
 }
 
-fn unknown(rt: &HostRuntime, start: usize) -> Result<Expr<()>, Fail> {
-    Ok(at(rt, start)?.unknown(rt.alloc(), Unknown::new_untyped(text(rt, "u")?))?)
+fn open(rt: &HostRuntime, start: usize) -> Result<Expr<()>, Fail> {
+    Ok(at(rt, start)?.unknown(rt.alloc(), unknown(rt, "u")?)?)
 }
 
 fn variable(rt: &HostRuntime, start: usize) -> Result<Expr<()>, Fail> {
@@ -35,7 +34,7 @@ fn record(rt: &HostRuntime, start: usize, b: Expr<()>, a: Expr<()>) -> Result<Ex
 // A tree of the five kinds that are allowed.
 fn allowed(rt: &HostRuntime) -> Result<Expr<()>, Fail> {
     let alloc = rt.alloc();
-    let members = vec![in alloc; literal(rt, 2)?, unknown(rt, 3)?]?;
+    let members = vec![in alloc; literal(rt, 2)?, open(rt, 3)?]?;
     let args = vec![in alloc; set(rt, 4, members)?, literal(rt, 5)?]?;
     record(rt, 1, call(rt, 6, args)?, literal(rt, 7)?)
 }
@@ -49,29 +48,20 @@ fn refused_at(rt: &HostRuntime, expr: Expr<()>) -> Result<Option<usize>, Fail> {
     }
 }
 
+// Every other kind is refused where it stands. A call, a set and a record are refused for their children.
 #[test]
 fn refuses_each_other_kind(rt: HostRuntime) -> Result<(), Fail> {
-    let alloc = rt.alloc();
-    let x = || variable(&rt, 2);
-    let attrs = NonEmpty::new(text(&rt, "a")?, vec![in alloc; text(&rt, "b")?]?);
-    let pattern = Pattern::from_items(alloc, [PatternElem::Wildcard].iter().copied())?;
-    let entity_type = EntityType::from(name(&rt, "E")?);
-    let cases = vec![in alloc;
-        variable(&rt, 1)?,
-        at(&rt, 1)?.slot(alloc, SlotId::principal())?,
-        at(&rt, 1)?.ite(alloc, x()?, x()?, x()?)?,
-        at(&rt, 1)?.and(alloc, x()?, x()?)?,
-        at(&rt, 1)?.or(alloc, x()?, x()?)?,
-        at(&rt, 1)?.unary_app(alloc, UnaryOp::Not, x()?)?,
-        at(&rt, 1)?.binary_app(alloc, BinaryOp::Eq, x()?, x()?)?,
-        at(&rt, 1)?.get_attr(alloc, x()?, text(&rt, "a")?)?,
-        at(&rt, 1)?.has_attr(alloc, x()?, text(&rt, "a")?)?,
-        at(&rt, 1)?.extended_has_attr(alloc, x()?, attrs)?,
-        at(&rt, 1)?.like(alloc, x()?, pattern)?,
-        at(&rt, 1)?.is_entity_type(alloc, x()?, entity_type)?,
-    ]?;
-    for (i, case) in cases.into_iter().enumerate() {
-        assert_eq!(rt; refused_at(&rt, case)?, Some(1), "case {i}");
+    let child = variable(&rt, 2)?;
+    for (i, case) in each_kind(&rt, 1, &child)?.into_iter().enumerate() {
+        match case.expr_kind() {
+            ExprKind::Lit(_) | ExprKind::Unknown(_) => {
+                assert!(rt; RestrictedExpr::new(rt.alloc(), case).is_ok(), "case {i}");
+            }
+            ExprKind::ExtensionFunctionApp { .. } | ExprKind::Set(_) | ExprKind::Record(_) => {
+                assert_eq!(rt; refused_at(&rt, case)?, Some(2), "case {i}");
+            }
+            _ => assert_eq!(rt; refused_at(&rt, case)?, Some(1), "case {i}"),
+        }
     }
     Ok(())
 }
@@ -91,7 +81,7 @@ fn refuses_at_the_first_place(rt: HostRuntime) -> Result<(), Fail> {
     assert_eq!(rt; refused_at(&rt, by_key)?, Some(4));
     let args = vec![in alloc;
         allowed(&rt)?,
-        unknown(&rt, 2)?,
+        open(&rt, 2)?,
         variable(&rt, 3)?,
         variable(&rt, 4)?,
     ]?;

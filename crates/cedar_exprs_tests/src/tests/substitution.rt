@@ -1,38 +1,30 @@
-// What substitution gives: shapes, places, and what it leaves alone.
-
-use crate::tests::samples::{at, start_of, text};
+// What substitution gives: shapes, and what it leaves alone.
+use crate::tests::samples::{at, bound, text, unknown};
 use cedar_builders::ExprBuilder as _;
 use cedar_exprs::{Expr, ExprBuilder, ExprKind};
 use cedar_names::NonEmpty;
-use cedar_terms::{Literal, Unknown, Var};
+use cedar_terms::{Literal, Var};
 use std::collections::HashMap;
 use std::hash::{DefaultHasher, Hash, Hasher};
 use std::rc::{Rc, RcStr};
 use std::test::Fail;
 
-fn unknown(rt: &HostRuntime, name: &str) -> Result<Expr<()>, Fail> {
-    Ok(Expr::unknown(Unknown::new_untyped(text(rt, name)?)))
-}
-
-// A map that binds this name to an integer.
-fn bound(rt: &HostRuntime, name: &str, value: i64) -> Result<HashMap<RcStr, Literal>, Fail> {
-    let mut values = HashMap::new(rt.alloc());
-    drop(values.insert(text(rt, name)?, Literal::Long(value))?);
-    Ok(values)
-}
-
 #[test]
 fn bound_unknowns_become_values(rt: HostRuntime) -> Result<(), Fail> {
     let alloc = rt.alloc();
-    let below = Expr::less(alloc, unknown(&rt, "x")?, Expr::val(Literal::Long(2)))?;
-    let answer = below.substitute(alloc, &bound(&rt, "x", 1)?)?;
+    let below = Expr::less(
+        alloc,
+        Expr::unknown(unknown(&rt, "x")?),
+        Expr::val(Literal::Long(2)),
+    )?;
+    let answer = below.substitute(alloc, &bound(&rt, &[("x", 1)])?)?;
     let wanted = Expr::less(
         alloc,
         Expr::val(Literal::Long(1)),
         Expr::val(Literal::Long(2)),
     )?;
     assert!(rt; answer == wanted);
-    let untouched = below.substitute(alloc, &bound(&rt, "y", 1)?)?;
+    let untouched = below.substitute(alloc, &bound(&rt, &[("y", 1)])?)?;
     assert!(rt; untouched == below);
     Ok(())
 }
@@ -54,47 +46,6 @@ fn raw_nodes_simplify(rt: HostRuntime) -> Result<(), Fail> {
     });
     let plain = Expr::has_attr(alloc, Expr::var(Var::Action), text(&rt, "a")?)?;
     assert!(rt; of_one.substitute(alloc, &nothing)? == plain);
-    Ok(())
-}
-
-// Leaves keep their places; what is made anew, and an unknown that is not bound, has none.
-#[test]
-fn leaves_keep_their_places(rt: HostRuntime) -> Result<(), Fail> {
-    let alloc = rt.alloc();
-    let one = at(&rt, 1)?.val(alloc, Literal::Long(1))?;
-    let x = at(&rt, 5)?.unknown(alloc, Unknown::new_untyped(text(&rt, "x")?))?;
-    let e = at(&rt, 0)?.and(alloc, one, x)?;
-    for name in ["x", "y"] {
-        let answer = e.substitute(alloc, &bound(&rt, name, 2)?)?;
-        assert_eq!(rt; start_of(&answer), None);
-        match answer.expr_kind() {
-            ExprKind::And { left, right } => {
-                assert_eq!(rt; (start_of(left), start_of(right)), (Some(1), None));
-            }
-            _ => assert!(rt; false, "a conjunction"),
-        }
-    }
-    Ok(())
-}
-
-// So do the members of a set, which are copied.
-#[test]
-fn members_keep_their_places(rt: HostRuntime) -> Result<(), Fail> {
-    let alloc = rt.alloc();
-    let mut members = Vec::new(alloc);
-    members.push(at(&rt, 3)?.val(alloc, Literal::Long(1))?)?;
-    members.push(at(&rt, 3)?.var(alloc, Var::Action)?)?;
-    let set = Expr::set(alloc, members)?;
-    let answer = set.substitute(alloc, &bound(&rt, "x", 2)?)?;
-    match answer.expr_kind() {
-        ExprKind::Set(members) => {
-            for member in members.iter() {
-                assert_eq!(rt; start_of(member), Some(3));
-            }
-        }
-        _ => assert!(rt; false, "a set"),
-    }
-    assert!(rt; answer == set);
     Ok(())
 }
 

@@ -1,37 +1,15 @@
 // What is refused for its type, what is let through, and that the tree of a value is not searched.
-use crate::tests::samples::{at, name, start_of, text};
-use crate::tests::stored::Stored;
-use cedar_builders::ExprBuilder as _;
-use cedar_exprs::{Expr, RestrictedExpr, SubstitutionError};
+use crate::tests::samples::{bind, bound, call, record, text, unknown, x_is_a_call};
+use cedar_exprs::{Expr, SubstitutionError};
 use cedar_terms::{Literal, Type, Unknown};
-use std::collections::HashMap;
-use std::rc::RcStr;
 use std::test::Fail;
 
-fn unknown(rt: &HostRuntime, name: &str, annotation: Option<Type>) -> Result<Expr<()>, Fail> {
-    let name = text(rt, name)?;
-    Ok(Expr::unknown(match annotation {
-        None => Unknown::new_untyped(name),
-        Some(ty) => Unknown::new_with_type(name, ty),
-    }))
+fn annotated(rt: &HostRuntime, name: &str, ty: Type) -> Result<Expr<()>, Fail> {
+    Ok(Expr::unknown(Unknown::new_with_type(text(rt, name)?, ty)))
 }
 
-fn bound(rt: &HostRuntime, values: &[(&str, i64)]) -> Result<HashMap<RcStr, Literal>, Fail> {
-    let mut bound = HashMap::new(rt.alloc());
-    for (name, value) in values {
-        drop(bound.insert(text(rt, name)?, Literal::Long(*value))?);
-    }
-    Ok(bound)
-}
-
-fn record(rt: &HostRuntime, b: Expr<()>, a: Expr<()>) -> Result<Expr<()>, Fail> {
-    let pairs = vec![in rt.alloc(); (text(rt, "b")?, b), (text(rt, "a")?, a)]?;
-    Ok(at(rt, 1)?.record(rt.alloc(), pairs)?)
-}
-
-fn call(rt: &HostRuntime, arg: Expr<()>) -> Result<Expr<()>, Fail> {
-    let args = vec![in rt.alloc(); arg]?;
-    Ok(Expr::call_extension_fn(rt.alloc(), name(rt, "f")?, args)?)
+fn plain(rt: &HostRuntime, name: &str) -> Result<Expr<()>, Fail> {
+    Ok(Expr::unknown(unknown(rt, name)?))
 }
 
 fn clash(expected: Type, actual: Type) -> SubstitutionError {
@@ -41,13 +19,13 @@ fn clash(expected: Type, actual: Type) -> SubstitutionError {
 #[test]
 fn refuses_another_type(rt: HostRuntime) -> Result<(), Fail> {
     let alloc = rt.alloc();
-    let foo = unknown(&rt, "foo", Some(Type::Bool))?;
+    let foo = annotated(&rt, "foo", Type::Bool)?;
     let values = bound(&rt, &[("foo", 1)])?;
     assert!(rt; foo.substitute(alloc, &values)? == Expr::val(Literal::Long(1)));
     assert!(rt; foo.substitute_typed(alloc, &values) == Err(clash(Type::Bool, Type::Long)));
     let none = bound(&rt, &[])?;
     assert!(rt; foo.substitute(alloc, &none)? == foo);
-    assert!(rt; foo.substitute_typed(alloc, &none) == Ok(unknown(&rt, "foo", Some(Type::Bool))?));
+    assert!(rt; foo.substitute_typed(alloc, &none) == Ok(annotated(&rt, "foo", Type::Bool)?));
     Ok(())
 }
 
@@ -55,23 +33,22 @@ fn refuses_another_type(rt: HostRuntime) -> Result<(), Fail> {
 fn lets_equal_types_and_none_through(rt: HostRuntime) -> Result<(), Fail> {
     let alloc = rt.alloc();
     let values = bound(&rt, &[("x", 1)])?;
-    for annotation in [None, Some(Type::Long)] {
-        let x = unknown(&rt, "x", annotation)?;
+    for x in vec![in alloc; plain(&rt, "x")?, annotated(&rt, "x", Type::Long)?]? {
         assert!(rt; x.substitute_typed(alloc, &values) == Ok(Expr::val(Literal::Long(1))));
     }
     Ok(())
 }
 
 fn x(rt: &HostRuntime) -> Result<Expr<()>, Fail> {
-    unknown(rt, "x", Some(Type::Bool))
+    annotated(rt, "x", Type::Bool)
 }
 
 fn y(rt: &HostRuntime) -> Result<Expr<()>, Fail> {
-    unknown(rt, "y", Some(Type::String))
+    annotated(rt, "y", Type::String)
 }
 
 fn free(rt: &HostRuntime) -> Result<Expr<()>, Fail> {
-    unknown(rt, "z", Some(Type::Set))
+    annotated(rt, "z", Type::Set)
 }
 
 // Where x and y are integers, this type was expected.
@@ -114,29 +91,15 @@ fn refuses_the_leftmost(rt: HostRuntime) -> Result<(), Fail> {
 // The same inside a call in a set, and by the keys of a record.
 #[test]
 fn refuses_the_leftmost_of_many(rt: HostRuntime) -> Result<(), Fail> {
-    let members = vec![in rt.alloc(); call(&rt, x(&rt)?)?, y(&rt)?]?;
+    let members = vec![in rt.alloc(); call_of(&rt, x(&rt)?)?, y(&rt)?]?;
     assert!(rt; expects(&rt, Expr::set(rt.alloc(), members)?, Type::Bool)?);
     assert!(rt; expects(&rt, record(&rt, x(&rt)?, y(&rt)?)?, Type::String)?);
     Ok(())
 }
 
-// Binds the name to an expression.
-fn bind(
-    rt: &HostRuntime,
-    values: &mut HashMap<RcStr, Stored>,
-    name: &str,
-    expr: Expr<()>,
-) -> Result<(), Fail> {
-    let value = Stored::new(RestrictedExpr::new(rt.alloc(), expr)?);
-    drop(values.insert(text(rt, name)?, value)?);
-    Ok(())
-}
-
-// The map that binds x to a call of the unknown z.
-fn x_is_a_call(rt: &HostRuntime) -> Result<HashMap<RcStr, Stored>, Fail> {
-    let mut values = HashMap::new(rt.alloc());
-    bind(rt, &mut values, "x", call(rt, unknown(rt, "z", None)?)?)?;
-    Ok(values)
+// A call of the expression.
+fn call_of(rt: &HostRuntime, arg: Expr<()>) -> Result<Expr<()>, Fail> {
+    call(rt, "f", vec![in rt.alloc(); arg]?)
 }
 
 // Where x is a call of z and z is bound too, z stays inside the call.
@@ -144,8 +107,8 @@ fn x_is_a_call(rt: &HostRuntime) -> Result<HashMap<RcStr, Stored>, Fail> {
 fn does_not_search_values(rt: HostRuntime) -> Result<(), Fail> {
     let mut values = x_is_a_call(&rt)?;
     bind(&rt, &mut values, "z", Expr::val(Literal::Long(1)))?;
-    let x = unknown(&rt, "x", None)?;
-    let called = call(&rt, unknown(&rt, "z", None)?)?;
+    let x = plain(&rt, "x")?;
+    let called = call_of(&rt, plain(&rt, "z")?)?;
     assert!(rt; x.substitute(rt.alloc(), &values)? == called);
     assert!(rt; x.substitute_typed(rt.alloc(), &values) == Ok(called));
     Ok(())
@@ -155,19 +118,9 @@ fn does_not_search_values(rt: HostRuntime) -> Result<(), Fail> {
 #[test]
 fn then_is_not_both(rt: HostRuntime) -> Result<(), Fail> {
     let first = x_is_a_call(&rt)?;
-    let x = unknown(&rt, "x", None)?.substitute(rt.alloc(), &first)?;
+    let x = plain(&rt, "x")?.substitute(rt.alloc(), &first)?;
     let then = x.substitute(rt.alloc(), &bound(&rt, &[("z", 1)])?)?;
-    assert!(rt; then == call(&rt, Expr::val(Literal::Long(1)))?);
-    Ok(())
-}
-
-#[test]
-fn values_keep_their_places(rt: HostRuntime) -> Result<(), Fail> {
-    let mut values = HashMap::new(rt.alloc());
-    let placed = at(&rt, 9)?.val(rt.alloc(), Literal::Long(1))?;
-    bind(&rt, &mut values, "x", placed)?;
-    let x = unknown(&rt, "x", None)?.substitute(rt.alloc(), &values)?;
-    assert_eq!(rt; start_of(&x), Some(9));
+    assert!(rt; then == call_of(&rt, Expr::val(Literal::Long(1)))?);
     Ok(())
 }
 
