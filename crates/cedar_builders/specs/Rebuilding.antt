@@ -186,7 +186,7 @@ module _ (refuse : Refusals) (env : Env) where
   renewed_of : (e : BareExpr) (ms : List (Option BareExpr)) (r : Result (Option BareExpr) TwoTypes) → gathered (renewed refuse env) (children e) ≡ Ok ms → IsRenewedOf refuse env e ms r → renewed refuse env e ≡ r
   renewed_of e ms r is h =
       of_new (stays e) (IsBuiltOf checked_ops (at_binding refuse env) e (all_new_or (children e) ms)) (substituted_unless refuse env e) e r
-        (λ t. (fold_by_nodes checked_ops (at_binding refuse env)).of_children e (all_new_or (children e) ms) t (all_new (children e) ms is)) (kept e) h
+      (λ t. (fold_by_nodes checked_ops (at_binding refuse env)).of_children e (all_new_or (children e) ms) t (all_new (children e) ms is)) (kept e) h
 
   -- substitution goes node by node
   pub renewed_by_nodes : IsMadeByNodes (renewed refuse env) (IsRenewedOf refuse env)

@@ -1,6 +1,7 @@
 //! Building by any builder, as a walk.
 //!
-//! `make` has a small function for each kind: one function would keep room for the locals of all kinds.
+//! `make` has a small function for each kind: one function would keep room for the locals of all
+//! kinds.
 ghost use Rattle.std.specs.Prelude.{◌≡◌, ◌≤◌, Ok, IfOk, length, vec_len};
 ghost use Rattle.std.specs.Rc.{rc_str_bytes};
 ghost use Rattle.cedar_names.specs.PlainNames.{bare_name};
@@ -27,8 +28,9 @@ use std::marker::PhantomData;
 use std::rc::RcStr;
 
 impl<T> Expr<T> {
-    /// What a builder makes of the expression: its children first, in field order and those of a record in the order of
-    /// their keys, and each node by a new builder with the node's place. The first error ends it.
+    /// What a builder makes of the expression: its children first, in field order and those of a
+    /// record in the order of their keys, and each node by a new builder with the node's place. The
+    /// first error ends it.
     pub fn try_into_expr<B: ExprBuilder>(
         &self,
         alloc: Global,
@@ -42,7 +44,8 @@ impl<T> Expr<T> {
         }
     }
 
-    /// What a builder makes of the expression, if none of the builder's calls is refused for a reason of its own.
+    /// What a builder makes of the expression, if none of the builder's calls is refused for a
+    /// reason of its own.
     pub fn into_expr<B: ExprBuilderInfallibleBuild>(
         &self,
         alloc: Global,
@@ -141,12 +144,10 @@ fn build_unknown<B: ExprBuilder>(
     unknown: &Unknown,
 ) -> Result<B::Expr, AllocError>
     requires { B.is_new builder }
-    ensures {
-        IfOk result (λ e.
-            B.meaning_of e
-                ≡ B.ops.unknown_of (bare_unknown unknown.now).name
-                    (bare_unknown unknown.now).annotation)
-    }
+    ensures { IfOk result (λ e.
+        B.meaning_of e
+        ≡ B.ops.unknown_of (bare_unknown unknown.now).name
+        (bare_unknown unknown.now).annotation) }
 {
     builder.unknown(alloc, unknown.clone(alloc)?)
 }
@@ -159,10 +160,8 @@ fn build_if<B: ExprBuilder>(
 ) -> Result<B::Expr, AllocError>
     requires new { B.is_new builder }
     requires room { 3 ≤ vec_len done.old }
-    ensures {
-        IfOk result
-            (IsMadeOfLast {F = B.Fault} B.meaning_of 3 (OfThree B.ops.if_of) done.old.items done.new.items)
-    }
+    ensures { IfOk result
+        (IsMadeOfLast {F = B.Fault} B.meaning_of 3 (OfThree B.ops.if_of) done.old.items done.new.items) }
 {
     let (test_expr, then_expr, else_expr) = take_three(done);
     builder.ite(alloc, test_expr, then_expr, else_expr)
@@ -176,10 +175,8 @@ fn build_and<B: ExprBuilder>(
 ) -> Result<B::Expr, AllocError>
     requires new { B.is_new builder }
     requires room { 2 ≤ vec_len done.old }
-    ensures {
-        IfOk result
-            (IsMadeOfLast {F = B.Fault} B.meaning_of 2 (OfTwo B.ops.and_of) done.old.items done.new.items)
-    }
+    ensures { IfOk result
+        (IsMadeOfLast {F = B.Fault} B.meaning_of 2 (OfTwo B.ops.and_of) done.old.items done.new.items) }
 {
     let (left, right) = take_two(done);
     builder.and(alloc, left, right)
@@ -193,10 +190,8 @@ fn build_or<B: ExprBuilder>(
 ) -> Result<B::Expr, AllocError>
     requires new { B.is_new builder }
     requires room { 2 ≤ vec_len done.old }
-    ensures {
-        IfOk result
-            (IsMadeOfLast {F = B.Fault} B.meaning_of 2 (OfTwo B.ops.or_of) done.old.items done.new.items)
-    }
+    ensures { IfOk result
+        (IsMadeOfLast {F = B.Fault} B.meaning_of 2 (OfTwo B.ops.or_of) done.old.items done.new.items) }
 {
     let (left, right) = take_two(done);
     builder.or(alloc, left, right)
@@ -211,10 +206,8 @@ fn build_unary<B: ExprBuilder>(
 ) -> Result<B::Expr, AllocError>
     requires new { B.is_new builder }
     requires room { 1 ≤ vec_len done.old }
-    ensures {
-        IfOk result
-            (IsMadeOfLast {F = B.Fault} B.meaning_of 1 (OfOne (B.ops.unary_of op)) done.old.items done.new.items)
-    }
+    ensures { IfOk result
+        (IsMadeOfLast {F = B.Fault} B.meaning_of 1 (OfOne (B.ops.unary_of op)) done.old.items done.new.items) }
 {
     builder.unary_app(alloc, op, done.take_last())
 }
@@ -228,10 +221,8 @@ fn build_binary<B: ExprBuilder>(
 ) -> Result<B::Expr, AllocError>
     requires new { B.is_new builder }
     requires room { 2 ≤ vec_len done.old }
-    ensures {
-        IfOk result
-            (IsMadeOfLast {F = B.Fault} B.meaning_of 2 (OfTwo (B.ops.binary_of op)) done.old.items done.new.items)
-    }
+    ensures { IfOk result
+        (IsMadeOfLast {F = B.Fault} B.meaning_of 2 (OfTwo (B.ops.binary_of op)) done.old.items done.new.items) }
 {
     let (arg1, arg2) = take_two(done);
     builder.binary_app(alloc, op, arg1, arg2)
@@ -247,10 +238,8 @@ fn build_call<B: ExprBuilder>(
 ) -> Result<B::Expr, WalkFault<B::BuildError>>
     requires new { B.is_new builder }
     requires room { count ≤ vec_len done.old }
-    ensures {
-        IsMade B.meaning_of B.fault_of (λ ms r. r ≡ B.ops.call_of (bare_name fn_name.now) ms) count
-            done.old.items done.new.items result
-    }
+    ensures { IsMade B.meaning_of B.fault_of (λ ms r. r ≡ B.ops.call_of (bare_name fn_name.now) ms) count
+        done.old.items done.new.items result }
 {
     let args = take_many(done, count)?;
     match builder.call_extension_fn(alloc, fn_name.clone(alloc)?, args) {
@@ -269,11 +258,9 @@ fn build_get<B: ExprBuilder>(
 ) -> Result<B::Expr, AllocError>
     requires new { B.is_new builder }
     requires room { 1 ≤ vec_len done.old }
-    ensures {
-        IfOk result
-            (IsMadeOfLast {F = B.Fault} B.meaning_of 1 (OfOne (λ m. B.ops.get_of m (rc_str_bytes attr.now)))
-                done.old.items done.new.items)
-    }
+    ensures { IfOk result
+        (IsMadeOfLast {F = B.Fault} B.meaning_of 1 (OfOne (λ m. B.ops.get_of m (rc_str_bytes attr.now)))
+        done.old.items done.new.items) }
 {
     builder.get_attr(alloc, done.take_last(), attr.clone()?)
 }
@@ -287,11 +274,9 @@ fn build_has<B: ExprBuilder>(
 ) -> Result<B::Expr, AllocError>
     requires new { B.is_new builder }
     requires room { 1 ≤ vec_len done.old }
-    ensures {
-        IfOk result
-            (IsMadeOfLast {F = B.Fault} B.meaning_of 1 (OfOne (λ m. B.ops.has_of m (rc_str_bytes attr.now)))
-                done.old.items done.new.items)
-    }
+    ensures { IfOk result
+        (IsMadeOfLast {F = B.Fault} B.meaning_of 1 (OfOne (λ m. B.ops.has_of m (rc_str_bytes attr.now)))
+        done.old.items done.new.items) }
 {
     builder.has_attr(alloc, done.take_last(), attr.clone()?)
 }
@@ -305,12 +290,10 @@ fn build_extended_has<B: ExprBuilder>(
 ) -> Result<B::Expr, AllocError>
     requires new { B.is_new builder }
     requires room { 1 ≤ vec_len done.old }
-    ensures {
-        IfOk result
-            (IsMadeOfLast {F = B.Fault} B.meaning_of 1
-                (OfOne (λ m. B.ops.ext_has_of m (rc_str_bytes attrs.now.head) (further attrs.now)))
-                done.old.items done.new.items)
-    }
+    ensures { IfOk result
+        (IsMadeOfLast {F = B.Fault} B.meaning_of 1
+        (OfOne (λ m. B.ops.ext_has_of m (rc_str_bytes attrs.now.head) (further attrs.now)))
+        done.old.items done.new.items) }
 {
     builder.extended_has_attr(alloc, done.take_last(), attrs.clone(alloc)?)
 }
@@ -324,11 +307,9 @@ fn build_like<B: ExprBuilder>(
 ) -> Result<B::Expr, AllocError>
     requires new { B.is_new builder }
     requires room { 1 ≤ vec_len done.old }
-    ensures {
-        IfOk result
-            (IsMadeOfLast {F = B.Fault} B.meaning_of 1 (OfOne (λ m. B.ops.like_of m pattern.now))
-                done.old.items done.new.items)
-    }
+    ensures { IfOk result
+        (IsMadeOfLast {F = B.Fault} B.meaning_of 1 (OfOne (λ m. B.ops.like_of m pattern.now))
+        done.old.items done.new.items) }
 {
     builder.like(alloc, done.take_last(), pattern.clone(alloc)?)
 }
@@ -342,11 +323,9 @@ fn build_set<B: ExprBuilder>(
 ) -> Result<B::Expr, AllocError>
     requires new { B.is_new builder }
     requires room { count ≤ vec_len done.old }
-    ensures {
-        IfOk result
-            (IsMadeOfLast {F = B.Fault} B.meaning_of count (λ ms r. r ≡ Ok (B.ops.set_of ms))
-                done.old.items done.new.items)
-    }
+    ensures { IfOk result
+        (IsMadeOfLast {F = B.Fault} B.meaning_of count (λ ms r. r ≡ Ok (B.ops.set_of ms))
+        done.old.items done.new.items) }
 {
     let members = take_many(done, count)?;
     builder.set(alloc, members)
@@ -361,12 +340,10 @@ fn build_record<B: ExprBuilder, T>(
 ) -> Result<B::Expr, AllocError>
     requires new { B.is_new builder }
     requires room { length pairs.now.entries ≤ vec_len done.old }
-    ensures {
-        IfOk result
-            (IsMadeOfLast {F = B.Fault} B.meaning_of (length pairs.now.entries)
-                (λ ms r. r ≡ Ok (B.ops.record_of (keyed (bare_fields pairs.now.entries) ms)))
-                done.old.items done.new.items)
-    }
+    ensures { IfOk result
+        (IsMadeOfLast {F = B.Fault} B.meaning_of (length pairs.now.entries)
+        (λ ms r. r ≡ Ok (B.ops.record_of (keyed (bare_fields pairs.now.entries) ms)))
+        done.old.items done.new.items) }
 {
     let values = take_many(done, pairs.len())?;
     match builder.record(alloc, keyed(alloc, pairs, values)?) {
@@ -386,12 +363,10 @@ fn build_is<B: ExprBuilder>(
 ) -> Result<B::Expr, AllocError>
     requires new { B.is_new builder }
     requires room { 1 ≤ vec_len done.old }
-    ensures {
-        IfOk result
-            (IsMadeOfLast {F = B.Fault} B.meaning_of 1
-                (OfOne (λ m. B.ops.is_of m (bare_entity_type entity_type.now)))
-                done.old.items done.new.items)
-    }
+    ensures { IfOk result
+        (IsMadeOfLast {F = B.Fault} B.meaning_of 1
+        (OfOne (λ m. B.ops.is_of m (bare_entity_type entity_type.now)))
+        done.old.items done.new.items) }
 {
     builder.is_entity_type(alloc, done.take_last(), entity_type.clone(alloc)?)
 }

@@ -109,10 +109,12 @@ impl<T: Drop> Drop for Expr<T> {
     }
 }
 
-// Drops a kind with all that it alone owns, without memory, and without the stack but for rows inside rows.
+// Drops a kind with all that it alone owns, without memory, and without the stack but for rows
+// inside rows.
 //
-// A node that is done with, but for some of its children, waits: its own block holds those children and the node that
-// waits below it. So the nodes that wait are a list in blocks that are to be freed anyway.
+// A node that is done with, but for some of its children, waits: its own block holds those children
+// and the node that waits below it. So the nodes that wait are a list in blocks that are to be
+// freed anyway.
 #[cycle(dropped)]
 fn drop_kind<T: Drop>(kind: ExprKind<T>) {
     let mut kind = kind;

@@ -58,7 +58,8 @@ pub(crate) trait Walk<T> {
     // What is made of a node and what its children gave.
     ghost is_made_of: { Self → BareExpr → List Meaning → Result Meaning Fault → Type 0 };
 
-    // What a node gives, where the last of `done` are what its children gave, in field order: they are taken off.
+    // What a node gives, where the last of `done` are what its children gave, in field order: they
+    // are taken off.
     fn make(
         &self,
         alloc: Global,
@@ -66,10 +67,8 @@ pub(crate) trait Walk<T> {
         done: &mut Vec<Self::Out>,
     ) -> Result<Self::Out, WalkFault<Self::Refusal>>
         requires { length (children (bare_expr node.now)) ≤ vec_len done.old }
-        ensures {
-            IsMade meaning_of fault_of (is_made_of self.now (bare_expr node.now))
-                (length (children (bare_expr node.now))) done.old.items done.new.items result
-        };
+        ensures { IsMade meaning_of fault_of (is_made_of self.now (bare_expr node.now))
+            (length (children (bare_expr node.now))) done.old.items done.new.items result };
 
     ghost by_nodes: { (walk : Self) → IsMadeByNodes (answer walk) (is_made_of walk) };
 }
@@ -126,11 +125,9 @@ fn is_leaf<T>(node: &Expr<T>) -> bool
 
 // Puts the children onto the tasks, the first on top.
 fn push_children<'a, T>(tasks: &mut Vec<Task<'a, T>>, node: &'a Expr<T>) -> Result<(), AllocError>
-    ensures {
-        IfOk result (λ _.
-            bare_tasks tasks.new.items
-                ≡ bare_tasks tasks.old.items ++ reverse (visits (children (bare_expr node.now))))
-    }
+    ensures { IfOk result (λ _.
+        bare_tasks tasks.new.items
+        ≡ bare_tasks tasks.old.items ++ reverse (visits (children (bare_expr node.now)))) }
 {
     let mut left = Children::of(node);
     'left: while let Some(child) = left.next_back() {

@@ -1,6 +1,7 @@
 //! Substitution of unknowns by values, as a walk.
 //!
-//! `make` has a small function for each kind: one function would keep room for the locals of all kinds.
+//! `make` has a small function for each kind: one function would keep room for the locals of all
+//! kinds.
 ghost use Rattle.std.specs.Prelude.{◌≡◌, ◌≤◌, Option, Ok, IfOk, [], ◌∷◌, length, map, vec_len};
 ghost use Rattle.std.specs.Rc.{rc_str_bytes};
 ghost use Rattle.cedar_names.specs.PlainNames.{bare_name};
@@ -38,17 +39,19 @@ use std::marker::PhantomData;
 use std::rc::{Rc, RcStr};
 
 impl Expr<()> {
-    /// The expression with each unknown that `values` binds replaced by its value's expression, which is not searched
-    /// for further unknowns; unknowns that are not bound stay.
+    /// The expression with each unknown that `values` binds replaced by its value's expression,
+    /// which is not searched for further unknowns; unknowns that are not bound stay.
     ///
-    /// Literals, variables and slots keep their places, and a value's expression has the value's. Every other node of the
-    /// answer is made anew and has none.
+    /// Literals, variables and slots keep their places, and a value's expression has the value's.
+    /// Every other node of the answer is made anew and has none.
     pub fn substitute<V: SubstituteValue>(
         &self,
         alloc: Global,
         values: &HashMap<RcStr, V>,
     ) -> Result<Expr<()>, AllocError>
-        ensures { IfOk result (λ e. fold tree_ops (env_of V.bare_type_of V.bare_expr_of values.now) (bare_expr self.now) ≡ Ok (bare_expr e)) }
+        ensures { IfOk result (λ e.
+            fold tree_ops (env_of V.bare_type_of V.bare_expr_of values.now) (bare_expr self.now)
+            ≡ Ok (bare_expr e)) }
     {
         substituted_by_fold();
         match substitute_general::<UntypedSubstitution, V>(alloc, self, values) {
@@ -58,14 +61,17 @@ impl Expr<()> {
         }
     }
 
-    /// What a builder makes of the substituted expression: what it makes of the expression itself where each unknown that
-    /// `values` binds is built from its value's expression, its first error included.
+    /// What a builder makes of the substituted expression: what it makes of the expression itself
+    /// where each unknown that `values` binds is built from its value's expression, its first error
+    /// included.
     pub fn substitute_into_expr<B: LawfulExprBuilder, V: SubstituteValue>(
         &self,
         alloc: Global,
         values: &HashMap<RcStr, V>,
     ) -> Result<B::Expr, BuildFault<B::BuildError>>
-        ensures { Gives B.meaning_of B.fault_of (fold B.ops (env_of V.bare_type_of V.bare_expr_of values.now) (bare_expr self.now)) result }
+        ensures { Gives B.meaning_of B.fault_of
+            (fold B.ops (env_of V.bare_type_of V.bare_expr_of values.now) (bare_expr self.now))
+            result }
     {
         built_after::<B>();
         let substituted = self.substitute(alloc, values)?;
@@ -79,17 +85,13 @@ pub(crate) fn substitute_general<S: SubstitutionFunction, V: SubstituteValue>(
     expr: &Expr<()>,
     values: &HashMap<RcStr, V>,
 ) -> Result<Expr<()>, WalkFault<S::Refusal>>
-    ensures tree {
-        IfOk result (λ e.
-            bare_expr e
-                ≡ substituted (env_of V.bare_type_of V.bare_expr_of values.now) (bare_expr expr.now))
-    }
-    ensures refused {
-        Refuses S.types_of
-            (first_refusal S.refuses (env_of V.bare_type_of V.bare_expr_of values.now)
-                (bare_expr expr.now))
-            result
-    }
+    ensures tree { IfOk result (λ e.
+        bare_expr e
+        ≡ substituted (env_of V.bare_type_of V.bare_expr_of values.now) (bare_expr expr.now)) }
+    ensures refused { Refuses S.types_of
+        (first_refusal S.refuses (env_of V.bare_type_of V.bare_expr_of values.now)
+        (bare_expr expr.now))
+        result }
 {
     let walk = Substitution::<S, V> {
         values,
@@ -120,13 +122,11 @@ impl<S: SubstitutionFunction, V: SubstituteValue> Walk<()> for Substitution<'_, 
 
     ghost fault_of = { S.types_of };
 
-    ghost answer = {
-        λ w e. renewed S.refuses (env_of V.bare_type_of V.bare_expr_of w.values.now) e
-    };
+    ghost answer = { λ w e. renewed S.refuses (env_of V.bare_type_of V.bare_expr_of w.values.now)
+        e };
 
-    ghost is_made_of = {
-        λ w e. IsRenewedOf S.refuses (env_of V.bare_type_of V.bare_expr_of w.values.now) e
-    };
+    ghost is_made_of = { λ w e. IsRenewedOf S.refuses (env_of V.bare_type_of V.bare_expr_of w.values.now)
+        e };
 
     fn make(
         &self,
@@ -172,9 +172,8 @@ impl<S: SubstitutionFunction, V: SubstituteValue> Walk<()> for Substitution<'_, 
         }
     }
 
-    ghost by_nodes = {
-        λ w. renewed_by_nodes S.refuses (env_of V.bare_type_of V.bare_expr_of w.values.now)
-    };
+    ghost by_nodes = { λ w. renewed_by_nodes S.refuses
+        (env_of V.bare_type_of V.bare_expr_of w.values.now) };
 }
 
 // The expression of the value that an unknown is bound to, else the unknown.
@@ -184,20 +183,16 @@ fn replace<S: SubstitutionFunction, V: SubstituteValue>(
     unknown: &Unknown,
     values: &HashMap<RcStr, V>,
 ) -> Result<Expr<()>, WalkFault<S::Refusal>>
-    ensures tree {
-        IfOk result (λ e.
-            bare_expr e
-                ≡ bound_tree
-                    (env_of V.bare_type_of V.bare_expr_of values.now
-                        (rc_str_bytes unknown.now.name))
-                    (unknown_tree (bare_unknown unknown.now)))
-    }
-    ensures refused {
-        Refuses S.types_of
-            (refused_binding S.refuses (bare_unknown unknown.now).annotation
-                (env_of V.bare_type_of V.bare_expr_of values.now (rc_str_bytes unknown.now.name)))
-            result
-    }
+    ensures tree { IfOk result (λ e.
+        bare_expr e
+        ≡ bound_tree
+        (env_of V.bare_type_of V.bare_expr_of values.now
+        (rc_str_bytes unknown.now.name))
+        (unknown_tree (bare_unknown unknown.now))) }
+    ensures refused { Refuses S.types_of
+        (refused_binding S.refuses (bare_unknown unknown.now).annotation
+        (env_of V.bare_type_of V.bare_expr_of values.now (rc_str_bytes unknown.now.name)))
+        result }
 {
     match values.get(unknown.name.as_str()) {
         Some(value) => {
@@ -214,7 +209,8 @@ fn new_or_shared(
     new: Option<Rc<Expr<()>>>,
     child: &Rc<Expr<()>>,
 ) -> Result<Rc<Expr<()>>, AllocError>
-    ensures { IfOk result (λ e. bare_expr e.value ≡ new_or (bare_expr child.now.value) (new_tree new)) }
+    ensures { IfOk result
+        (λ e. bare_expr e.value ≡ new_or (bare_expr child.now.value) (new_tree new)) }
 {
     match new {
         Some(new) => Ok(new),
@@ -255,13 +251,11 @@ fn renew_if(
     done: &mut Vec<Option<Rc<Expr<()>>>>,
 ) -> Result<Rc<Expr<()>>, AllocError>
     requires { 3 ≤ vec_len done.old }
-    ensures {
-        IfOk result
-            (IsRenewedOfLast
-                (bare_expr test_expr.now.value ∷ bare_expr then_expr.now.value
-                    ∷ bare_expr else_expr.now.value ∷ [])
-                (OfThree checked_ops.if_of) done.old.items done.new.items)
-    }
+    ensures { IfOk result
+        (IsRenewedOfLast
+        (bare_expr test_expr.now.value ∷ bare_expr then_expr.now.value
+        ∷ bare_expr else_expr.now.value ∷ [])
+        (OfThree checked_ops.if_of) done.old.items done.new.items) }
 {
     let (new_test, new_then, new_else) = take_three(done);
     let test_expr = new_or_shared(new_test, test_expr)?;
@@ -278,11 +272,9 @@ fn renew_and(
     done: &mut Vec<Option<Rc<Expr<()>>>>,
 ) -> Result<Rc<Expr<()>>, AllocError>
     requires { 2 ≤ vec_len done.old }
-    ensures {
-        IfOk result
-            (IsRenewedOfLast (bare_expr left.now.value ∷ bare_expr right.now.value ∷ [])
-                (OfTwo checked_ops.and_of) done.old.items done.new.items)
-    }
+    ensures { IfOk result
+        (IsRenewedOfLast (bare_expr left.now.value ∷ bare_expr right.now.value ∷ [])
+        (OfTwo checked_ops.and_of) done.old.items done.new.items) }
 {
     let (new_left, new_right) = take_two(done);
     let left = new_or_shared(new_left, left)?;
@@ -298,11 +290,9 @@ fn renew_or(
     done: &mut Vec<Option<Rc<Expr<()>>>>,
 ) -> Result<Rc<Expr<()>>, AllocError>
     requires { 2 ≤ vec_len done.old }
-    ensures {
-        IfOk result
-            (IsRenewedOfLast (bare_expr left.now.value ∷ bare_expr right.now.value ∷ [])
-                (OfTwo checked_ops.or_of) done.old.items done.new.items)
-    }
+    ensures { IfOk result
+        (IsRenewedOfLast (bare_expr left.now.value ∷ bare_expr right.now.value ∷ [])
+        (OfTwo checked_ops.or_of) done.old.items done.new.items) }
 {
     let (new_left, new_right) = take_two(done);
     let left = new_or_shared(new_left, left)?;
@@ -318,11 +308,9 @@ fn renew_unary(
     done: &mut Vec<Option<Rc<Expr<()>>>>,
 ) -> Result<Rc<Expr<()>>, AllocError>
     requires { 1 ≤ vec_len done.old }
-    ensures {
-        IfOk result
-            (IsRenewedOfLast (bare_expr arg.now.value ∷ []) (OfOne (checked_ops.unary_of op))
-                done.old.items done.new.items)
-    }
+    ensures { IfOk result
+        (IsRenewedOfLast (bare_expr arg.now.value ∷ []) (OfOne (checked_ops.unary_of op))
+        done.old.items done.new.items) }
 {
     let arg = new_or_shared(done.take_last(), arg)?;
     node(alloc, ExprKind::UnaryApp { op, arg })
@@ -337,11 +325,9 @@ fn renew_binary(
     done: &mut Vec<Option<Rc<Expr<()>>>>,
 ) -> Result<Rc<Expr<()>>, AllocError>
     requires { 2 ≤ vec_len done.old }
-    ensures {
-        IfOk result
-            (IsRenewedOfLast (bare_expr arg1.now.value ∷ bare_expr arg2.now.value ∷ [])
-                (OfTwo (checked_ops.binary_of op)) done.old.items done.new.items)
-    }
+    ensures { IfOk result
+        (IsRenewedOfLast (bare_expr arg1.now.value ∷ bare_expr arg2.now.value ∷ [])
+        (OfTwo (checked_ops.binary_of op)) done.old.items done.new.items) }
 {
     let (new1, new2) = take_two(done);
     let arg1 = new_or_shared(new1, arg1)?;
@@ -357,15 +343,16 @@ fn renew_call(
     done: &mut Vec<Option<Rc<Expr<()>>>>,
 ) -> Result<Rc<Expr<()>>, AllocError>
     requires { length args.now.items ≤ vec_len done.old }
-    ensures {
-        IfOk result
-            (IsRenewedOfLast (members_of (bare_exprs args.now.items))
-                (λ ts r. r ≡ checked_ops.call_of (bare_name fn_name.now) ts)
-                done.old.items done.new.items)
-    }
+    ensures { IfOk result
+        (IsRenewedOfLast (members_of (bare_exprs args.now.items))
+        (λ ts r. r ≡ checked_ops.call_of (bare_name fn_name.now) ts)
+        done.old.items done.new.items) }
 {
     let args = renew_members(alloc, args, take_many(done, args.len())?)?;
-    Ok(Rc::new(alloc, Expr::call_extension_fn(alloc, fn_name.clone(alloc)?, args)?)?)
+    Ok(Rc::new(
+        alloc,
+        Expr::call_extension_fn(alloc, fn_name.clone(alloc)?, args)?,
+    )?)
 }
 
 #[inline(never)]
@@ -376,12 +363,10 @@ fn renew_get(
     done: &mut Vec<Option<Rc<Expr<()>>>>,
 ) -> Result<Rc<Expr<()>>, AllocError>
     requires { 1 ≤ vec_len done.old }
-    ensures {
-        IfOk result
-            (IsRenewedOfLast (bare_expr expr.now.value ∷ [])
-                (OfOne (λ m. checked_ops.get_of m (rc_str_bytes attr.now)))
-                done.old.items done.new.items)
-    }
+    ensures { IfOk result
+        (IsRenewedOfLast (bare_expr expr.now.value ∷ [])
+        (OfOne (λ m. checked_ops.get_of m (rc_str_bytes attr.now)))
+        done.old.items done.new.items) }
 {
     let expr = new_or_shared(done.take_last(), expr)?;
     let attr = attr.clone()?;
@@ -396,12 +381,10 @@ fn renew_has(
     done: &mut Vec<Option<Rc<Expr<()>>>>,
 ) -> Result<Rc<Expr<()>>, AllocError>
     requires { 1 ≤ vec_len done.old }
-    ensures {
-        IfOk result
-            (IsRenewedOfLast (bare_expr expr.now.value ∷ [])
-                (OfOne (λ m. checked_ops.has_of m (rc_str_bytes attr.now)))
-                done.old.items done.new.items)
-    }
+    ensures { IfOk result
+        (IsRenewedOfLast (bare_expr expr.now.value ∷ [])
+        (OfOne (λ m. checked_ops.has_of m (rc_str_bytes attr.now)))
+        done.old.items done.new.items) }
 {
     let expr = new_or_shared(done.take_last(), expr)?;
     let attr = attr.clone()?;
@@ -416,15 +399,16 @@ fn renew_extended_has(
     done: &mut Vec<Option<Rc<Expr<()>>>>,
 ) -> Result<Rc<Expr<()>>, AllocError>
     requires { 1 ≤ vec_len done.old }
-    ensures {
-        IfOk result
-            (IsRenewedOfLast (bare_expr expr.now.value ∷ [])
-                (OfOne (λ m. checked_ops.ext_has_of m (rc_str_bytes attrs.now.head) (further attrs.now)))
-                done.old.items done.new.items)
-    }
+    ensures { IfOk result
+        (IsRenewedOfLast (bare_expr expr.now.value ∷ [])
+        (OfOne (λ m. checked_ops.ext_has_of m (rc_str_bytes attrs.now.head) (further attrs.now)))
+        done.old.items done.new.items) }
 {
     let expr = own_or_copy(alloc, done.take_last(), expr)?;
-    Ok(Rc::new(alloc, Expr::extended_has_attr(alloc, expr, attrs.clone(alloc)?)?)?)
+    Ok(Rc::new(
+        alloc,
+        Expr::extended_has_attr(alloc, expr, attrs.clone(alloc)?)?,
+    )?)
 }
 
 #[inline(never)]
@@ -435,11 +419,9 @@ fn renew_like(
     done: &mut Vec<Option<Rc<Expr<()>>>>,
 ) -> Result<Rc<Expr<()>>, AllocError>
     requires { 1 ≤ vec_len done.old }
-    ensures {
-        IfOk result
-            (IsRenewedOfLast (bare_expr expr.now.value ∷ [])
-                (OfOne (λ m. checked_ops.like_of m pattern.now)) done.old.items done.new.items)
-    }
+    ensures { IfOk result
+        (IsRenewedOfLast (bare_expr expr.now.value ∷ [])
+        (OfOne (λ m. checked_ops.like_of m pattern.now)) done.old.items done.new.items) }
 {
     let expr = new_or_shared(done.take_last(), expr)?;
     let pattern = pattern.clone(alloc)?;
@@ -453,11 +435,9 @@ fn renew_set(
     done: &mut Vec<Option<Rc<Expr<()>>>>,
 ) -> Result<Rc<Expr<()>>, AllocError>
     requires { length members.now.items ≤ vec_len done.old }
-    ensures {
-        IfOk result
-            (IsRenewedOfLast (members_of (bare_exprs members.now.items))
-                (λ ts r. r ≡ Ok (checked_ops.set_of ts)) done.old.items done.new.items)
-    }
+    ensures { IfOk result
+        (IsRenewedOfLast (members_of (bare_exprs members.now.items))
+        (λ ts r. r ≡ Ok (checked_ops.set_of ts)) done.old.items done.new.items) }
 {
     let members = renew_members(alloc, members, take_many(done, members.len())?)?;
     Ok(Rc::new(alloc, Expr::set(alloc, members)?)?)
@@ -470,12 +450,10 @@ fn renew_record(
     done: &mut Vec<Option<Rc<Expr<()>>>>,
 ) -> Result<Rc<Expr<()>>, AllocError>
     requires { length pairs.now.entries ≤ vec_len done.old }
-    ensures {
-        IfOk result
-            (IsRenewedOfLast (values_of (bare_fields pairs.now.entries))
-                (λ ts r. r ≡ Ok (checked_ops.record_of (keyed (bare_fields pairs.now.entries) ts)))
-                done.old.items done.new.items)
-    }
+    ensures { IfOk result
+        (IsRenewedOfLast (values_of (bare_fields pairs.now.entries))
+        (λ ts r. r ≡ Ok (checked_ops.record_of (keyed (bare_fields pairs.now.entries) ts)))
+        done.old.items done.new.items) }
 {
     let pairs = renew_values(alloc, pairs, take_many(done, pairs.len())?)?;
     match ExprBuilder::new().record(alloc, pairs) {
@@ -494,12 +472,10 @@ fn renew_is(
     done: &mut Vec<Option<Rc<Expr<()>>>>,
 ) -> Result<Rc<Expr<()>>, AllocError>
     requires { 1 ≤ vec_len done.old }
-    ensures {
-        IfOk result
-            (IsRenewedOfLast (bare_expr expr.now.value ∷ [])
-                (OfOne (λ m. checked_ops.is_of m (bare_entity_type entity_type.now)))
-                done.old.items done.new.items)
-    }
+    ensures { IfOk result
+        (IsRenewedOfLast (bare_expr expr.now.value ∷ [])
+        (OfOne (λ m. checked_ops.is_of m (bare_entity_type entity_type.now)))
+        done.old.items done.new.items) }
 {
     let expr = new_or_shared(done.take_last(), expr)?;
     let entity_type = entity_type.clone(alloc)?;
@@ -513,11 +489,9 @@ fn renew_members(
     new: Vec<Option<Rc<Expr<()>>>>,
 ) -> Result<Vec<Expr<()>>, AllocError>
     requires { length new.items ≡ length members.now.items }
-    ensures {
-        IfOk result (λ es.
-            map bare_expr es.items
-                ≡ all_new_or (map bare_expr members.now.items) (map new_tree new.items))
-    }
+    ensures { IfOk result (λ es.
+        map bare_expr es.items
+        ≡ all_new_or (map bare_expr members.now.items) (map new_tree new.items)) }
 {
     let mut done = Vec::with_capacity(alloc, members.len())?;
     let mut rest = new.into_iter();
@@ -538,11 +512,9 @@ fn renew_values(
 ) -> Result<Vec<(RcStr, Expr<()>)>, AllocError>
     requires { length new.items ≡ length pairs.now.entries }
     ensures keys { IfOk result (λ ps. keys_of ps.items ≡ keys_of pairs.now.entries) }
-    ensures values {
-        IfOk result (λ ps.
-            map bare_expr (map (λ p. p.1) ps.items)
-                ≡ all_new_or (map (λ p. bare_expr p.1) pairs.now.entries) (map new_tree new.items))
-    }
+    ensures values { IfOk result (λ ps.
+        map bare_expr (map (λ p. p.1) ps.items)
+        ≡ all_new_or (map (λ p. bare_expr p.1) pairs.now.entries) (map new_tree new.items)) }
     ensures rising { IfOk result (λ ps. IsRising (keys_of ps.items)) }
 {
     let mut done = Vec::with_capacity(alloc, pairs.len())?;

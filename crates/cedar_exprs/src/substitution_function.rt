@@ -28,7 +28,8 @@ pub(crate) trait SubstitutionFunction {
         unknown: &Unknown,
         value: &V,
     ) -> Result<(), WalkFault<Self::Refusal>>
-        ensures { Refuses types_of (refuses (bare_unknown unknown.now).annotation (V.bare_type_of value.now)) result };
+        ensures { Refuses types_of
+            (refuses (bare_unknown unknown.now).annotation (V.bare_type_of value.now)) result };
 }
 
 // Every value may.

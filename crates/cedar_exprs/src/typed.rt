@@ -1,4 +1,5 @@
-//! Substitution that compares the type of each value with the annotation of the unknown that it replaces.
+//! Substitution that compares the type of each value with the annotation of the unknown that it
+//! replaces.
 ghost use Rattle.std.specs.Prelude.{◌≡◌, None, Ok, IfOk, IfErr, OnOk};
 ghost use Rattle.cedar_builders.specs.TypeClash.{clash};
 ghost use Rattle.cedar_builders.specs.Environment.{fold};
@@ -57,19 +58,24 @@ impl From<AllocError> for SubstitutionError {
 }
 
 impl Expr<()> {
-    /// What `substitute` makes, where each value has the type that the unknown which it replaces is annotated with, if it
-    /// is. An unknown that `values` does not bind is never tested.
+    /// What `substitute` makes, where each value has the type that the unknown which it replaces is
+    /// annotated with, if it is. An unknown that `values` does not bind is never tested.
     ///
-    /// Else `TypeError` has the annotation and the type of the value of the leftmost unknown at which they differ, where the
-    /// values of a record come in the order of their keys.
+    /// Else `TypeError` has the annotation and the type of the value of the leftmost unknown at
+    /// which they differ, where the values of a record come in the order of their keys.
     pub fn substitute_typed<V: SubstituteValue>(
         &self,
         alloc: Global,
         values: &HashMap<RcStr, V>,
     ) -> Result<Expr<()>, SubstitutionError>
-        ensures substituted { IfOk result (λ e. fold tree_ops (env_of V.bare_type_of V.bare_expr_of values.now) (bare_expr self.now) ≡ Ok (bare_expr e)) }
-        ensures passed { OnOk result (clash (env_of V.bare_type_of V.bare_expr_of values.now) (bare_expr self.now) ≡ None) }
-        ensures refused { IfErr result (IsClashError (clash (env_of V.bare_type_of V.bare_expr_of values.now) (bare_expr self.now))) }
+        ensures substituted { IfOk result (λ e.
+            fold tree_ops (env_of V.bare_type_of V.bare_expr_of values.now) (bare_expr self.now)
+            ≡ Ok (bare_expr e)) }
+        ensures passed { OnOk result
+            (clash (env_of V.bare_type_of V.bare_expr_of values.now) (bare_expr self.now) ≡ None) }
+        ensures refused { IfErr result
+            (IsClashError
+            (clash (env_of V.bare_type_of V.bare_expr_of values.now) (bare_expr self.now))) }
     {
         clash_by_children();
         substituted_by_fold();

@@ -15,6 +15,9 @@ returns-in-Ok c =
     let last = c.in_ok-take_many.field-0.items in
     let ps = c.in_ok-pairs in
     let means = c.in-Ok.ensures.means ps.ensures.rising in
-    let values = ps.ensures.values ∙ ap (λ bs. all_new_or bs (map new_tree last)) (sym (values_of-fields es)) in
-    (last, c.in_ok-take_many.ensures.taken, c.in_ok-take_many.ensures.count ∙ c.len.ensures.len ∙ sym (values-length es),
-    ap Ok (ap bare_expr c.in_ok-new-in-Ok.ensures.ok ∙ means ∙ ap (λ xs. Record (fields_of xs)) (meant_keyed bare_expr ps.pairs.items es ps.ensures.keys ∙ ap (keyed (bare_fields es)) values)))
+    let values = ps.ensures.values ∙ ap (λ bs. all_new_or bs (map new_tree last)) (sym (values_of-fields es)) in (
+      last,
+      c.in_ok-take_many.ensures.taken,
+      c.in_ok-take_many.ensures.count ∙ c.len.ensures.len ∙ sym (values-length es),
+      ap Ok (ap bare_expr c.in_ok-new-in-Ok.ensures.ok ∙ means ∙ ap (λ xs. Record (fields_of xs)) (meant_keyed bare_expr ps.pairs.items es ps.ensures.keys ∙ ap (keyed (bare_fields es)) values)),
+    )

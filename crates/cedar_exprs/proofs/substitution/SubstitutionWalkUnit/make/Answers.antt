@@ -38,8 +38,8 @@ returns-in_ok-new-in-Unknown g c =
     let env = env_of g.V.SubstituteValue.bare_type_of g.V.SubstituteValue.bare_expr_of c.args.self.now.values.now in
     let r = c.in_ok-new-in-Unknown.field-0 in
     at_tree (λ b n. Takes n (λ last. IsRenewedOf g.S.SubstitutionFunction.refuses env b (map new_tree last) (Ok (Some (bare_expr r.value)))) c.args.done.now.items c.args.done.now.items)
-      c.args.node.now (unknown_tree (bare_unknown c.in-Unknown.unknown)) 0 (bare_at_unknown c.args.node.now c.in-Unknown.unknown (sym c.expr_kind.ensures ∙ c.in-Unknown.is)) refl
-      ([], sym (append-nil c.args.done.now.items), refl, none_refused _ (bare_expr r.value) _ c.in_ok-expr-in-Unknown.ensures.refused (ap bare_expr c.in_ok-new-in-Unknown.ensures.ok ∙ c.in_ok-expr-in-Unknown.ensures.tree))
+    c.args.node.now (unknown_tree (bare_unknown c.in-Unknown.unknown)) 0 (bare_at_unknown c.args.node.now c.in-Unknown.unknown (sym c.expr_kind.ensures ∙ c.in-Unknown.is)) refl
+    ([], sym (append-nil c.args.done.now.items), refl, none_refused _ (bare_expr r.value) _ c.in_ok-expr-in-Unknown.ensures.refused (ap bare_expr c.in_ok-new-in-Unknown.ensures.ok ∙ c.in_ok-expr-in-Unknown.ensures.tree))
 
 pub returns-in_ok-renew_call-in-ExtensionFunctionApp : goal.returns-in_ok-renew_call-in-ExtensionFunctionApp
 returns-in_ok-renew_call-in-ExtensionFunctionApp g c =
@@ -47,25 +47,25 @@ returns-in_ok-renew_call-in-ExtensionFunctionApp g c =
     let v = c.deref.result.now in
     let k = c.in-ExtensionFunctionApp in
     at_tree (λ b n. Takes n (λ last. IsRenewedOf g.S.SubstitutionFunction.refuses env b (map new_tree last) (Ok (Some (bare_expr c.in_ok-renew_call-in-ExtensionFunctionApp.field-0.value)))) c.args.done.now.items c.renew_call.new.done.items)
-      c.args.node.now (ExtensionFunctionApp (bare_name k.fn_name) (bare_exprs v.items)) (length (members_of (bare_exprs v.items))) (bare_at_call c.args.node.now k.fn_name k.args v (sym c.expr_kind.ensures ∙ k.is) c.deref.ensures) refl c.in_ok-renew_call-in-ExtensionFunctionApp.ensures
+    c.args.node.now (ExtensionFunctionApp (bare_name k.fn_name) (bare_exprs v.items)) (length (members_of (bare_exprs v.items))) (bare_at_call c.args.node.now k.fn_name k.args v (sym c.expr_kind.ensures ∙ k.is) c.deref.ensures) refl c.in_ok-renew_call-in-ExtensionFunctionApp.ensures
 
 pub returns-in_ok-renew_set-in-Set : goal.returns-in_ok-renew_set-in-Set
 returns-in_ok-renew_set-in-Set g c =
     let env = env_of g.V.SubstituteValue.bare_type_of g.V.SubstituteValue.bare_expr_of c.args.self.now.values.now in
     let v = c.deref-in-Set.result.now in
     at_tree (λ b n. Takes n (λ last. IsRenewedOf g.S.SubstitutionFunction.refuses env b (map new_tree last) (Ok (Some (bare_expr c.in_ok-renew_set-in-Set.field-0.value)))) c.args.done.now.items c.renew_set.new.done.items)
-      c.args.node.now (Set (bare_exprs v.items)) (length (members_of (bare_exprs v.items))) (bare_at_set c.args.node.now c.in-Set.members v (sym c.expr_kind.ensures ∙ c.in-Set.is) c.deref-in-Set.ensures) refl c.in_ok-renew_set-in-Set.ensures
+    c.args.node.now (Set (bare_exprs v.items)) (length (members_of (bare_exprs v.items))) (bare_at_set c.args.node.now c.in-Set.members v (sym c.expr_kind.ensures ∙ c.in-Set.is) c.deref-in-Set.ensures) refl c.in_ok-renew_set-in-Set.ensures
 
 pub returns-in_ok-renew_record-in-Record : goal.returns-in_ok-renew_record-in-Record
 returns-in_ok-renew_record-in-Record g c =
     let env = env_of g.V.SubstituteValue.bare_type_of g.V.SubstituteValue.bare_expr_of c.args.self.now.values.now in
     let m = c.deref-in-Record.result.now in
     at_tree (λ b n. Takes n (λ last. IsRenewedOf g.S.SubstitutionFunction.refuses env b (map new_tree last) (Ok (Some (bare_expr c.in_ok-renew_record-in-Record.field-0.value)))) c.args.done.now.items c.renew_record.new.done.items)
-      c.args.node.now (Record (bare_fields m.entries)) (length (values_of (bare_fields m.entries))) (bare_at_map c.args.node.now c.in-Record.pairs m (sym c.expr_kind.ensures ∙ c.in-Record.is) c.deref-in-Record.ensures) refl c.in_ok-renew_record-in-Record.ensures
+    c.args.node.now (Record (bare_fields m.entries)) (length (values_of (bare_fields m.entries))) (bare_at_map c.args.node.now c.in-Record.pairs m (sym c.expr_kind.ensures ∙ c.in-Record.is) c.deref-in-Record.ensures) refl c.in_ok-renew_record-in-Record.ensures
 
 pub returns-in_ok-renew_is-in-Is : goal.returns-in_ok-renew_is-in-Is
 returns-in_ok-renew_is-in-Is g c =
     let env = env_of g.V.SubstituteValue.bare_type_of g.V.SubstituteValue.bare_expr_of c.args.self.now.values.now in
     let k = c.in-Is in
     at_tree (λ b n. Takes n (λ last. IsRenewedOf g.S.SubstitutionFunction.refuses env b (map new_tree last) (Ok (Some (bare_expr c.in_ok-renew_is-in-Is.field-0.value)))) c.args.done.now.items c.renew_is.new.done.items)
-      c.args.node.now (Is (bare_expr k.expr.value) (bare_entity_type k.entity_type)) 1 (bare_at_is c.args.node.now k.expr k.entity_type (sym c.expr_kind.ensures ∙ k.is)) refl c.in_ok-renew_is-in-Is.ensures
+    c.args.node.now (Is (bare_expr k.expr.value) (bare_entity_type k.entity_type)) 1 (bare_at_is c.args.node.now k.expr k.entity_type (sym c.expr_kind.ensures ∙ k.is)) refl c.in_ok-renew_is-in-Is.ensures
