@@ -1,0 +1,4 @@
+pub mod Halving
+pub mod FirstItems
+pub mod Neighbours
+pub mod Ends

@@ -1,0 +1,4 @@
+pub mod Classes
+pub mod Rising
+pub mod Unique
+pub mod Images
