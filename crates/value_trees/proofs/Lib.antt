@@ -1,0 +1,4 @@
+pub mod Positions
+pub mod ReadBack
+pub mod Read
+pub mod Plain

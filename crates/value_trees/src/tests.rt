@@ -1,0 +1,11 @@
+use crate::laws::{
+    expressions_read_back, reading_gives_one_value, then_is_both_of_values, values_are_ordered,
+};
+
+#[test]
+fn laws_are_called() {
+    values_are_ordered::<u64>();
+    expressions_read_back::<u64>();
+    reading_gives_one_value::<u64>();
+    then_is_both_of_values::<u64>();
+}
