@@ -11,6 +11,7 @@ pub mod TypeClash
 pub mod Keys
 pub mod RisingKeys
 pub mod Errors
+pub mod SubstitutionErrors
 pub mod Answers
 pub mod Negated
 pub mod Count

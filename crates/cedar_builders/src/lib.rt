@@ -6,9 +6,11 @@ pub mod expr_builder;
 pub mod expression_construction_errors;
 pub mod keys;
 pub mod laws;
+mod substitution_error;
 
 pub use expr_builder::{BuildFault, ExprBuilder, ExprBuilderInfallibleBuild, LawfulExprBuilder};
 pub use expression_construction_errors::{DuplicateKeyError, ExpressionConstructionError};
+pub use substitution_error::SubstitutionError;
 
 #[cfg(test)]
 mod tests;

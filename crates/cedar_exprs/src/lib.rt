@@ -18,6 +18,6 @@ mod substitution_function;
 mod typed;
 
 pub use builder::ExprBuilder;
+pub use cedar_builders::SubstitutionError;
 pub use expr::{Expr, ExprKind};
 pub use restricted_expr::{RestrictedExpr, RestrictedExprError, SubstituteValue};
-pub use typed::SubstitutionError;

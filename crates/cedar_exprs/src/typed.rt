@@ -1,61 +1,23 @@
 //! Substitution that compares the type of each value with the annotation of the unknown that it
 //! replaces.
 ghost use Rattle.std.specs.Prelude.{◌≡◌, None, Ok, IfOk, IfErr, OnOk};
+ghost use Rattle.cedar_builders.specs.SubstitutionErrors.{IsClashError};
 ghost use Rattle.cedar_builders.specs.TypeClash.{clash};
 ghost use Rattle.cedar_builders.specs.Environment.{fold};
 ghost use Rattle.cedar_builders.specs.Trees.{tree_ops};
 ghost use Rattle.cedar_exprs.specs.BareExpr.{bare_expr};
 ghost use Rattle.cedar_exprs.specs.RestrictedExprs.{env_of};
-ghost use Rattle.cedar_exprs.specs.Refusals.{types_of, IsClashError};
 
 use crate::expr::Expr;
 use crate::machine::WalkFault;
 use crate::restricted_expr::SubstituteValue;
 use crate::substitution::substitute_general;
 use crate::substitution_function::{Clash, TypedSubstitution};
+use cedar_builders::SubstitutionError;
 use cedar_builders::laws::{clash_by_children, substituted_by_fold};
-use cedar_terms::Type;
-use std::alloc::{AllocError, Global};
+use std::alloc::Global;
 use std::collections::HashMap;
 use std::rc::RcStr;
-use thiserror::Error;
-
-/// Why values were not substituted.
-#[derive(Debug, PartialEq, Eq, Drop, Error)]
-pub enum SubstitutionError {
-    /// The value of an unknown has another type than the unknown's annotation says.
-    #[error("expected a value of type {expected}, got a value of type {actual}")]
-    TypeError { expected: Type, actual: Type },
-    /// Memory was refused.
-    #[error("no memory")]
-    Memory,
-}
-
-impl SubstitutionError {
-    /// A copy.
-    pub fn clone(&self, alloc: Global) -> Result<SubstitutionError, AllocError>
-        ensures { IfOk result (λ e. types_of e ≡ types_of self.now) }
-    {
-        match self {
-            SubstitutionError::TypeError { expected, actual } => {
-                let expected = expected.clone(alloc)?;
-                let actual = actual.clone(alloc)?;
-                Ok(SubstitutionError::TypeError { expected, actual })
-            }
-            SubstitutionError::Memory => Ok(SubstitutionError::Memory),
-        }
-    }
-}
-
-impl From<AllocError> for SubstitutionError {
-    ghost use Rattle.cedar_exprs.specs.declared.typed.SubstitutionError.TheVariants.{Memory};
-
-    ghost from_gives = { λ _ e. e ≡ Memory };
-
-    fn from(_: AllocError) -> SubstitutionError {
-        SubstitutionError::Memory
-    }
-}
 
 impl Expr<()> {
     /// What `substitute` makes, where each value has the type that the unknown which it replaces is

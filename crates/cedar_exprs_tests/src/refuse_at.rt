@@ -21,13 +21,13 @@ use cedar_terms::{BinaryOp, EntityType, Literal, Pattern, UnaryOp, Unknown, Var}
 use std::alloc::{AllocError, Global};
 use std::rc::RcStr;
 
-// Makes expressions without data, and refuses each call that has `COUNT` arguments.
+/// Makes expressions without data, and refuses each call that has `COUNT` arguments.
 #[derive(Drop)]
 pub struct RefuseAt<const COUNT: usize> {
     inner: ExprBuilder<()>,
 }
 
-// The name of the call that was refused.
+/// The name of the call that was refused.
 #[derive(Debug, Drop)]
 pub struct Refused {
     pub name: Name,

@@ -1,4 +1,5 @@
--- What each command of the script makes of the stack, whose top stands first here, and of the bindings.
+-- What each command of the script makes of the stack, whose top stands first here, and of the
+-- bindings.
 use Rattle.std.specs.Prelude.{◌≡◌, ℕ, List, Ok, Option, Some, None, map, drop}
 use Rattle.std.specs.Borrow.{Bor}
 use Rattle.std.specs.Global.{Global}
@@ -93,12 +94,14 @@ Works env Substitute old new = ReplacesOne (λ a e. fold tree_ops env (bare_expr
 Works env Typed old new = ReplacesOne (λ a e. (fold tree_ops env (bare_expr a) ≡ Ok (bare_expr e)) × (clash env (bare_expr a) ≡ None)) old new
 Works env Show old new = new ≡ old
 
--- what is bound after a command: `bind` binds its name to the top, and every other command changes nothing
+-- what is bound after a command: `bind` binds its name to the top, and every other command
+-- changes nothing
 abbrev pub Binds : Command → State → State → Type 0
 Binds (Bind name) old new = TopHas (λ top. environment (bindings_of new) name.now ≡ binding_of (bare_expr top)) (stack_of old)
 Binds _ old new = bindings_of new ≡ bindings_of old
 
--- what a command shows of the stack that it got: `show` the text of the top, and every other command nothing
+-- what a command shows of the stack that it got: `show` the text of the top, and every other
+-- command nothing
 abbrev pub Shows : Command → Stack → Option (OwnedText Global) → Type 0
 Shows Show stack None = ⊥
 Shows Show stack (Some text) = TopHas (λ top. fold sketch_ops empty (bare_expr top) ≡ Ok (string_bytes text)) stack

@@ -12,7 +12,8 @@ status_of Input = 2
 status_of Output = 2
 status_of Memory = 2
 
--- the fault of a line that is refused: want of memory as itself, else the line's number, unless its cause has no memory
+-- the fault of a line that is refused: want of memory as itself, else the line's number, unless
+-- its cause has no memory
 abbrev pub IsFaultAt : ℕ → Refusal → RunFault → Type 0
 IsFaultAt number refusal (Line line cause) = (line ≡ number) × (refusal ≢ no_memory)
 IsFaultAt number refusal Input = ⊥

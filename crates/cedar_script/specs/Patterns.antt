@@ -4,7 +4,8 @@ use Rattle.std.specs.List.{flat_map}
 use Rattle.cedar_terms.specs.declared.pattern.PatternElem.{PatternElem}
 use Rattle.cedar_terms.specs.declared.pattern.PatternElem.TheVariants.{Char, Wildcard}
 
--- a wildcard is `*`, the characters `*` and `\` stand behind a backslash, any other character is itself
+-- a wildcard is `*`, the characters `*` and `\` stand behind a backslash, any other character is
+-- itself
 abbrev pub elem_spelling : PatternElem → List ℕ
 elem_spelling Wildcard = codes "*"
 elem_spelling (Char c) = if c == 42 || c == 92 then 92 ∷ c ∷ [] else c ∷ []

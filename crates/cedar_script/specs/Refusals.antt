@@ -2,8 +2,8 @@
 use Rattle.cedar_builders.specs.declared.expression_construction_errors.ExpressionConstructionError.{ExpressionConstructionError}
 use Rattle.cedar_builders.specs.declared.expression_construction_errors.ExpressionConstructionError.TheVariants as construction
 use Rattle.cedar_script.specs.declared.refusal.Refusal.{Refusal}
-use Rattle.cedar_exprs.specs.declared.typed.SubstitutionError.{SubstitutionError}
-use Rattle.cedar_exprs.specs.declared.typed.SubstitutionError.TheVariants as substitution
+use Rattle.cedar_builders.specs.declared.substitution_error.SubstitutionError.{SubstitutionError}
+use Rattle.cedar_builders.specs.declared.substitution_error.SubstitutionError.TheVariants as substitution
 use Rattle.cedar_script.specs.declared.refusal.Refusal.TheVariants.{DuplicateKey, TypeError, Memory}
 
 -- the refusal of a line whose expression can't be made

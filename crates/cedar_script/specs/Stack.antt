@@ -1,4 +1,5 @@
--- The state of a script: a stack of expressions, whose top stands first here, and what names are bound to.
+-- The state of a script: a stack of expressions, whose top stands first here, and what names are
+-- bound to.
 use Rattle.std.specs.Prelude.{◌≡◌, ℕ, List, [], ◌∷◌, Option, Some, None, drop, take, reverse}
 use Rattle.std.specs.Global.{Global}
 use Rattle.std.specs.HashMap.{HashMap}
@@ -53,7 +54,8 @@ abbrev pub TopHas : (Expr Unit → Type 0) → Stack → Type 0
 TopHas P [] = ⊥
 TopHas P (a ∷ below) = P a
 
--- an expression with the property stands in place of one, of two or of three, whose lowest is the first
+-- an expression with the property stands in place of one, of two or of three, whose lowest is the
+-- first
 abbrev pub ReplacesOne : (Expr Unit → Expr Unit → Type 0) → Stack → Stack → Type 0
 ReplacesOne P [] new = ⊥
 ReplacesOne P (a ∷ below) new = Pushes (P a) below new
@@ -66,6 +68,7 @@ abbrev pub ReplacesThree : (Expr Unit → Expr Unit → Expr Unit → Expr Unit 
 ReplacesThree P [] new = ⊥
 ReplacesThree P (c ∷ below) new = ReplacesTwo (λ a b e. P a b c e) below new
 
--- an expression with the property stands in place of the topmost of this count, given the lowest first
+-- an expression with the property stands in place of the topmost of this count, given the lowest
+-- first
 abbrev pub ReplacesMany : ℕ → (Stack → Expr Unit → Type 0) → Stack → Stack → Type 0
 ReplacesMany count P old new = Pushes (P (reverse (take count old))) (drop count old) new

@@ -4,7 +4,8 @@ use Rattle.std.specs.Int.{w64}
 use Rattle.std.specs.Str.Parse.{IsNumeral, without_leading_sign, digits_value, signed_digits_value}
 use Rattle.cedar_names.specs.Names.{BareName, IsNameOf, IsNameText, has_reserved}
 
--- a text is no name that a user may define: it is outside the grammar, or has the component `__cedar`
+-- a text is no name that a user may define: it is outside the grammar, or has the component
+-- `__cedar`
 abbrev pub IsNoName : List ℕ → Type 0
 IsNoName text = (IsNameText text → ⊥) ⊎ ((n : BareName) × IsNameOf text n × IsTrue (has_reserved n))
 

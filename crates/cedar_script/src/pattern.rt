@@ -1,10 +1,10 @@
 //! The patterns that a script spells.
-ghost use Rattle.std.specs.Prelude.{◌≡◌, ◌∷◌, ◌++◌, ◌⊎◌, [], IfOk, IfErr, MatchOption};
+ghost use Rattle.std.specs.Prelude.{◌≡◌, ◌++◌, ◌⊎◌, IfOk, IfErr, MatchOption};
 ghost use Rattle.std.specs.Str.{chars};
 ghost use Rattle.cedar_script.specs.Patterns.{elem_spelling, spelling, BeginsWithNone, SpellsNone};
 
 use crate::refusal::Refusal;
-use cedar_terms::{Pattern, PatternElem};
+use cedar_terms::{Pattern, PatternElem, first_char};
 use std::alloc::Global;
 
 /// Reads the pattern that a text spells: `*` is the wildcard, `\*` and `\\` are the two characters,
@@ -42,13 +42,4 @@ fn parse_elem(text: &str) -> Option<(PatternElem, &str)>
         },
         (c, rest) => Some((PatternElem::Char(c), rest)),
     }
-}
-
-// The first character of a text, and what follows it.
-fn first_char(text: &str) -> Option<(char, &str)>
-    ensures { MatchOption result (chars text.now ≡ []) (λ x. chars text.now ≡ x.0 ∷ chars x.1.now) }
-{
-    let mut rest = text.chars();
-    let first = rest.next()?;
-    Some((first, rest.as_str()))
 }

@@ -11,7 +11,7 @@ ghost use Rattle.cedar_builders.specs.Environment.{empty, fold};
 ghost use Rattle.cedar_builders.specs.Trees.{tree_ops};
 ghost use Rattle.cedar_exprs.specs.BareExpr.{bare_expr, bare_exprs};
 ghost use Rattle.cedar_builders.specs.Keys.{keyed};
-ghost use Rattle.cedar_exprs.specs.Refusals.{IsClashError};
+ghost use Rattle.cedar_builders.specs.SubstitutionErrors.{IsClashError};
 ghost use Rattle.cedar_script.specs.CommandEffects.{needed_count, left_count, key_pairs, record_of, Works, Binds, Shows};
 ghost use Rattle.cedar_script.specs.CommandWords.{texts_now};
 ghost use Rattle.cedar_script.specs.SketchTexts.{sketch_ops};

@@ -1,8 +1,0 @@
-use Rattle.std.proofs.Common.{sym, ◌∙◌}
-use Rattle.std.proofs.lemmas.Str.{chars_past_char}
-use Rattle.cedar_script.proofs.pattern.first_char.Goals as goal
-
-pub returns : goal.returns
-returns c =
-    let e = sym c.chars-rest.ensures.rest ∙ c.in_ok-first.ensures.steps.0 in
-    rw c.as_str.ensures (chars_past_char c.args.text.now _ c.in_ok-first.first c.utf8.text e)
