@@ -1,0 +1,247 @@
+//! A builder of the example's own: what it makes of an expression is the list of the names of the
+//! unknowns that stand in it.
+ghost use Rattle.std.specs.Prelude.{◌≡◌, ◌++◌, List, [], map, IfOk, IfErr, Err, None, ⊤, refl};
+ghost use Rattle.cedar_names.specs.Names.{BareName};
+ghost use Rattle.cedar_names.specs.PlainNames.{bare_name};
+ghost use Rattle.cedar_builders.specs.Answers.{Gives};
+ghost use Rattle.cedar_builders.specs.BareExpr.{Text};
+ghost use Rattle.cedar_builders.specs.Errors.{OnDuplicateKey};
+ghost use Rattle.cedar_builders.specs.Keys.{keys_of, meant_pairs, IsRising, HasRepeat};
+ghost use Rattle.cedar_builders.specs.declared.expression_construction_errors.ExpressionConstructionError.TheVariants as error;
+ghost use Rattle.example_builder.specs.UnknownNames.{texts_of, unknown_names_ops};
+
+use cedar_builders::{BuildFault, ExprBuilder, ExpressionConstructionError, LawfulExprBuilder};
+use cedar_names::{Loc, Name, NonEmpty, SlotId};
+use cedar_terms::{BinaryOp, EntityType, Literal, Pattern, UnaryOp, Unknown, Var};
+use std::alloc::{AllocError, Global};
+use std::rc::RcStr;
+
+/// Names of unknowns, in the order in which they stand. A name that stands twice is there twice.
+#[derive(Debug, Drop)]
+pub struct Names {
+    /// The names.
+    pub names: Vec<RcStr>,
+}
+
+impl Names {
+    // No name.
+    fn none(alloc: Global) -> Names
+        ensures { texts_of result ≡ [] }
+    {
+        Names {
+            names: Vec::new(alloc),
+        }
+    }
+
+    // These names and then the others.
+    fn join(mut self, mut others: Names) -> Result<Names, AllocError>
+        ensures { IfOk result (λ found. texts_of found ≡ texts_of self ++ texts_of others) }
+    {
+        self.names.append(&mut others.names)?;
+        Ok(self)
+    }
+}
+
+/// Why an expression has no list of names: it calls this function.
+#[derive(Debug, Drop)]
+pub struct CallRefused {
+    /// The name of the function that is called.
+    pub fn_name: Name,
+}
+
+/// The builder: of `x < 2 && y == x` it makes the names `x`, `y`, `x`.
+#[derive(Debug, Drop)]
+pub struct UnknownNames;
+
+impl ExprBuilder for UnknownNames {
+    type Expr = Names;
+
+    type Data = ();
+
+    type BuildError = CallRefused;
+
+    // An expression means the texts of its unknowns' names.
+    ghost Meaning = { List Text };
+
+    // An error means the name of the function, without its place.
+    ghost Fault = { BareName };
+
+    // What each kind of node means, from what its children mean.
+    ghost ops = { unknown_names_ops };
+
+    // The meaning of what the calls below make.
+    ghost meaning_of = { texts_of };
+
+    // The meaning of the error of `call_extension_fn`.
+    ghost fault_of = { λ refused. bare_name refused.fn_name };
+
+    // A value of this type holds nothing that could change what it makes: each is as good as new.
+    ghost is_new = { λ _. ⊤ };
+
+    // The last four say more than meanings: a builder of meanings alone makes them trivial, so.
+    // The place that `loc` answers: none, whatever was set.
+    ghost place_of = { λ _. None };
+
+    // What is kept of a place that is set: nothing.
+    ghost kept_place = { λ _. None };
+
+    // What `unary_app` makes, beyond the meaning: nothing is said, by a fact that always holds. A
+    // builder of nodes says here which place and data the node has.
+    ghost makes_unary = { λ _ _ _ _. ⊤ };
+
+    // What `binary_app` makes, beyond the meaning: the same.
+    ghost makes_binary = { λ _ _ _ _ _. ⊤ };
+
+    fn new() -> UnknownNames {
+        UnknownNames
+    }
+
+    fn with_data(_data: ()) -> UnknownNames {
+        UnknownNames
+    }
+
+    fn loc(&self) -> Option<&Loc> {
+        None
+    }
+
+    fn data(&self) -> &() {
+        &()
+    }
+
+    fn with_maybe_source_loc(self, _source_loc: Option<Loc>) -> UnknownNames {
+        self
+    }
+
+    fn val(self, alloc: Global, _literal: Literal) -> Result<Names, AllocError> {
+        Ok(Names::none(alloc))
+    }
+
+    fn var(self, alloc: Global, _var: Var) -> Result<Names, AllocError> {
+        Ok(Names::none(alloc))
+    }
+
+    fn slot(self, alloc: Global, _slot: SlotId) -> Result<Names, AllocError> {
+        Ok(Names::none(alloc))
+    }
+
+    fn unknown(self, alloc: Global, unknown: Unknown) -> Result<Names, AllocError> {
+        let name = unknown.name.clone()?;
+        Ok(Names {
+            names: vec![in alloc; name]?,
+        })
+    }
+
+    fn ite(
+        self,
+        _alloc: Global,
+        test_expr: Names,
+        then_expr: Names,
+        else_expr: Names,
+    ) -> Result<Names, AllocError> {
+        test_expr.join(then_expr.join(else_expr)?)
+    }
+
+    fn and(self, _alloc: Global, left: Names, right: Names) -> Result<Names, AllocError> {
+        left.join(right)
+    }
+
+    fn or(self, _alloc: Global, left: Names, right: Names) -> Result<Names, AllocError> {
+        left.join(right)
+    }
+
+    fn unary_app(self, _alloc: Global, _op: UnaryOp, arg: Names) -> Result<Names, AllocError> {
+        Ok(arg)
+    }
+
+    fn binary_app(
+        self,
+        _alloc: Global,
+        _op: BinaryOp,
+        arg1: Names,
+        arg2: Names,
+    ) -> Result<Names, AllocError> {
+        arg1.join(arg2)
+    }
+
+    fn call_extension_fn(
+        self,
+        _alloc: Global,
+        fn_name: Name,
+        _args: Vec<Names>,
+    ) -> Result<Names, BuildFault<CallRefused>>
+        ensures { Gives texts_of (λ (refused : CallRefused). bare_name refused.fn_name)
+            (Err (bare_name fn_name)) result }
+    {
+        Err(BuildFault::Build(CallRefused { fn_name }))
+    }
+
+    fn get_attr(self, _alloc: Global, expr: Names, _attr: RcStr) -> Result<Names, AllocError> {
+        Ok(expr)
+    }
+
+    fn has_attr(self, _alloc: Global, expr: Names, _attr: RcStr) -> Result<Names, AllocError> {
+        Ok(expr)
+    }
+
+    fn extended_has_attr(
+        self,
+        _alloc: Global,
+        expr: Names,
+        _attrs: NonEmpty<RcStr>,
+    ) -> Result<Names, AllocError> {
+        Ok(expr)
+    }
+
+    fn like(self, _alloc: Global, expr: Names, _pattern: Pattern) -> Result<Names, AllocError> {
+        Ok(expr)
+    }
+
+    fn is_entity_type(
+        self,
+        _alloc: Global,
+        expr: Names,
+        _entity_type: EntityType,
+    ) -> Result<Names, AllocError> {
+        Ok(expr)
+    }
+
+    // Of `call_extension_fn`, `set` and `record`, which take a vector, the trait's clauses are
+    // written again in the builder's own words.
+    fn set(self, alloc: Global, members: Vec<Names>) -> Result<Names, AllocError>
+        ensures { IfOk result (λ found.
+            texts_of found ≡ unknown_names_ops.set_of (map texts_of members.items)) }
+    {
+        let mut all = Names::none(alloc);
+        for member in members {
+            all = all.join(member)?;
+        }
+        Ok(all)
+    }
+
+    fn record(
+        self,
+        alloc: Global,
+        pairs: Vec<(RcStr, Names)>,
+    ) -> Result<Names, ExpressionConstructionError>
+        ensures means { IsRising (keys_of pairs.items) → IfOk result (λ found.
+            texts_of found ≡ unknown_names_ops.record_of (meant_pairs texts_of pairs.items)) }
+        ensures accepts { IsRising (keys_of pairs.items) → IfErr result (λ e. e ≡ error.Memory) }
+        ensures refuses { IfErr result (OnDuplicateKey (λ _. HasRepeat (keys_of pairs.items))) }
+    {
+        let mut all = Names::none(alloc);
+        for (_key, value) in pairs {
+            all = all.join(value)?;
+        }
+        Ok(all)
+    }
+}
+
+// The laws hold by computation: literals give no names, so neither does what joins them, and a test
+// for one attribute gives what the plain test does.
+impl LawfulExprBuilder for UnknownNames {
+    ghost lawful = { record {
+      and_of_literals = λ a b. refl;
+      or_of_literals = λ a b. refl;
+      ext_has_of_one = λ m k. refl;
+    } };
+}
