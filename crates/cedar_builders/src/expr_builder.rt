@@ -56,6 +56,18 @@ impl<E, T: Drop> From<AllocFailed<T>> for BuildFault<E> {
 /// its own choice. Each call that makes a node then means one operation on the node's own fields
 /// and the meanings of its children. Only a call of an extension function may be refused for a
 /// reason of the builder's own.
+///
+/// Each call consumes its builder, so a tree takes a new one for each node:
+///
+/// ```rust
+/// fn one_below_context<B: ExprBuilder>(alloc: Global) -> Result<B::Expr, AllocError> {
+///     let one = B::new().val(alloc, Literal::Long(1))?;
+///     let context = B::new().var(alloc, Var::Context)?;
+///     B::new().less(alloc, one, context)
+/// }
+/// ```
+///
+/// The program `example_builder` has an implementation with each ghost member explained.
 pub trait ExprBuilder: Sized + Drop {
     /// What the builder makes.
     type Expr: Drop;

@@ -34,6 +34,9 @@ use std::rc::{Rc, RcStr};
 ///
 /// `and` and `or` of two Boolean literals make the literal of the result, and `extended_has_attr`
 /// of one attribute makes what `has_attr` does; every other call makes its node.
+///
+/// As the type argument of `into_expr` and its like it stands in a function that is generic in `T`:
+/// see there.
 #[derive(Debug, Drop)]
 pub struct ExprBuilder<T> {
     source_loc: Option<Loc>,

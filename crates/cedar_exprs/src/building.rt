@@ -31,6 +31,18 @@ impl<T> Expr<T> {
     /// What a builder makes of the expression: its children first, in field order and those of a
     /// record in the order of their keys, and each node by a new builder with the node's place. The
     /// first error ends it.
+    ///
+    /// ```rust
+    /// let sum = Expr::add(alloc, Expr::val(Literal::Long(1)), Expr::var(Var::Context))?;
+    /// match sum.try_into_expr::<Sketch>(alloc) {
+    ///     Ok(text) => text.to_text(alloc), // (+ 1 context)
+    ///     Err(BuildFault::Build(never)) => match never {},
+    ///     Err(BuildFault::Memory) => Err(AllocError),
+    /// }
+    /// ```
+    ///
+    /// To build by the struct `ExprBuilder<T>`, call this in a function that is generic in `T`, as
+    /// at `into_expr`: at a concrete type the check does not come to its end.
     pub fn try_into_expr<B: ExprBuilder>(
         &self,
         alloc: Global,
@@ -46,6 +58,19 @@ impl<T> Expr<T> {
 
     /// What a builder makes of the expression, if none of the builder's calls is refused for a
     /// reason of its own.
+    ///
+    /// To build by the struct `ExprBuilder<T>`, call this in a function that is generic in `T`, and
+    /// that function at the type that is wanted: at a concrete type, as in
+    /// `into_expr::<ExprBuilder<()>>`, the check does not come to its end.
+    ///
+    /// ```rust
+    /// fn rebuild<T: Default + Copy>(
+    ///     alloc: Global,
+    ///     expr: &Expr<T>,
+    /// ) -> Result<Expr<T>, AllocError> {
+    ///     expr.into_expr::<ExprBuilder<T>>(alloc)
+    /// }
+    /// ```
     pub fn into_expr<B: ExprBuilderInfallibleBuild>(
         &self,
         alloc: Global,

@@ -187,6 +187,14 @@ impl Expr<()> {
     /// A record by its pairs, which may come in any order.
     ///
     /// The first pair whose key stood before it is refused as a duplicate key.
+    ///
+    /// ```rust
+    /// let b = (RcStr::from_str(alloc, "b")?, Expr::val(Literal::Long(1)));
+    /// let a = (RcStr::from_str(alloc, "a")?, Expr::val(Literal::Long(2)));
+    /// let record = Expr::record(alloc, vec![in alloc; b, a]?)?; // {"a": 2, "b": 1}
+    /// ```
+    ///
+    /// Of the keys `b`, `a`, `b` the refusal is "duplicate key `b` in record literal".
     pub fn record(
         alloc: Global,
         pairs: Vec<(RcStr, Expr<()>)>,

@@ -44,6 +44,14 @@ impl Expr<()> {
     ///
     /// Literals, variables and slots keep their places, and a value's expression has the value's.
     /// Every other node of the answer is made anew and has none.
+    ///
+    /// ```rust
+    /// let x = Expr::unknown(Unknown::new_untyped(RcStr::from_str(alloc, "x")?));
+    /// let both = Expr::and(alloc, x, Expr::val(Literal::Bool(true)))?;
+    /// let mut values = HashMap::new(alloc);
+    /// drop(values.insert(RcStr::from_str(alloc, "x")?, Literal::Bool(false))?);
+    /// let answer = both.substitute(alloc, &values)?; // the literal `false`
+    /// ```
     pub fn substitute<V: SubstituteValue>(
         &self,
         alloc: Global,
@@ -64,6 +72,9 @@ impl Expr<()> {
     /// What a builder makes of the substituted expression: what it makes of the expression itself
     /// where each unknown that `values` binds is built from its value's expression, its first error
     /// included.
+    ///
+    /// The program `example_builder` calls it at a builder of its own. For the struct
+    /// `ExprBuilder<T>` see `into_expr`.
     pub fn substitute_into_expr<B: LawfulExprBuilder, V: SubstituteValue>(
         &self,
         alloc: Global,

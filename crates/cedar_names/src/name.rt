@@ -170,8 +170,15 @@ impl InternalName {
 
     /// The name within the namespace, where the name has none and one is given; else a copy.
     ///
-    /// `baz` with `foo::bar` is `foo::bar::baz`, and `C::D` with `A::B` is `C::D`. The place is
-    /// that of the name.
+    /// ```rust
+    /// let namespace = InternalName::from_normalized_str(alloc, "foo::bar")?;
+    /// let baz = InternalName::from_normalized_str(alloc, "baz")?;
+    /// baz.qualify_with(alloc, Some(&namespace))?; // foo::bar::baz
+    /// let b = InternalName::from_normalized_str(alloc, "a::b")?;
+    /// b.qualify_with(alloc, Some(&namespace))?; // a::b
+    /// ```
+    ///
+    /// The place is that of the name.
     pub fn qualify_with(
         &self,
         alloc: Global,

@@ -42,6 +42,16 @@ impl Turns {
 
 impl Pattern {
     /// Whether the pattern matches the text, as lists of characters. It takes no memory.
+    ///
+    /// ```rust
+    /// // `a*\*`: an `a`, any characters, and the character `*`.
+    /// let star = PatternElem::Char('*');
+    /// let elems = vec![in alloc; PatternElem::Char('a'), PatternElem::Wildcard, star]?;
+    /// let pattern = Pattern::from_vec(alloc, elems)?;
+    /// pattern.wildcard_match("abc*"); // true
+    /// pattern.wildcard_match("a*"); // true
+    /// pattern.wildcard_match("abc"); // false
+    /// ```
     pub fn wildcard_match(&self, text: &str) -> bool
         ensures decides { IsTrue result ↔ Matches self.now (chars text.now) }
         ensures value { result ≡ matches self.now (chars text.now) }
