@@ -494,9 +494,9 @@ fn literals(rt: HostRuntime) -> Result<(), Fail> {
     Ok(())
 }
 
-#[test]
-fn types(rt: HostRuntime) -> Result<(), Fail> {
-    let rising = Vec::from_array(
+// A type of each kind and each sort of name, each above the one before.
+fn rising_types(rt: &HostRuntime) -> Result<Vec<Type>, Fail> {
+    Ok(Vec::from_array(
         rt.alloc(),
         [
             Type::Bool,
@@ -504,13 +504,17 @@ fn types(rt: HostRuntime) -> Result<(), Fail> {
             Type::String,
             Type::Set,
             Type::Record,
-            Type::entity_type(name(&rt, "B")?),
-            Type::entity_type(name(&rt, "A::C")?),
+            Type::entity_type(name(rt, "B")?),
+            Type::entity_type(name(rt, "A::C")?),
             Type::Extension {
-                name: name(&rt, "A")?,
+                name: name(rt, "A")?,
             },
         ],
-    )?;
+    )?)
+}
+
+#[test]
+fn texts_of_types(rt: HostRuntime) -> Result<(), Fail> {
     let texts = [
         "bool",
         "long",
@@ -521,15 +525,26 @@ fn types(rt: HostRuntime) -> Result<(), Fail> {
         "(entity of type `A::C`)",
         "A",
     ];
-    for (ty, want) in rising.iter().zip(texts) {
+    for (ty, want) in rising_types(&rt)?.iter().zip(texts) {
         assert_eq!(rt; printed(&rt, ty)?.as_str(), want);
         assert!(rt; ty.clone(rt.alloc())? == *ty);
     }
+    Ok(())
+}
+
+#[test]
+fn order_of_types(rt: HostRuntime) -> Result<(), Fail> {
+    let rising = rising_types(&rt)?;
     for (s, t) in rising.iter().zip(rising.iter().skip(1)) {
         assert!(rt; s < t && s != t);
     }
+    Ok(())
+}
+
+#[test]
+fn sets_of_types(rt: HostRuntime) -> Result<(), Fail> {
     let mut set = HashSet::new(rt.alloc());
-    for ty in rising {
+    for ty in rising_types(&rt)? {
         assert!(rt; set.insert(ty)?);
     }
     assert!(rt; !set.insert(Type::entity_type(name_elsewhere(&rt, "B")?))?);
