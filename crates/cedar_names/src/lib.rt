@@ -23,6 +23,3 @@ pub use non_empty::{NonEmpty, NonEmptyIter};
 pub use plain_name::Name;
 pub use raw_name::{ConditionalName, RawName, ReferenceType, TypeNotDefinedError};
 pub use slot::{PrincipalOrResource, Slot, SlotId};
-
-#[cfg(test)]
-mod tests;

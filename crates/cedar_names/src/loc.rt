@@ -1,5 +1,5 @@
 // Places in a source text.
-ghost use Rattle.std.specs.Prelude.{◌≡◌, refl, IfOk};
+ghost use Rattle.std.specs.Prelude.{◌≡◌, refl, IfOk, IfErr, IsSome};
 ghost use Rattle.std.specs.Option.{option_copied};
 ghost use Rattle.std.specs.Rc.{rc_str_bytes};
 ghost use Rattle.std.specs.Ordering.{as_partial_cmp};
@@ -53,7 +53,8 @@ impl Loc {
 
     /// A copy of the place, if there is one.
     pub fn clone_option(alloc: Global, loc: Option<&Loc>) -> Result<Option<Loc>, AllocError>
-        ensures { IfOk result (λ copy. copy ≡ option_copied loc.entry) }
+        ensures copy { IfOk result (λ copy. copy ≡ option_copied loc.entry) }
+        ensures takes { IfErr result (λ _. IsSome loc.entry) }
     {
         match loc {
             None => Ok(None),

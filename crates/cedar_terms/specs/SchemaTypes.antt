@@ -1,13 +1,14 @@
 -- Types of a schema without places (those of Cedar's file `extension.rs`).
-use Rattle.std.specs.Prelude.{ℕ, List, [], ◌∷◌, ◌++◌, map}
+use Rattle.std.specs.Prelude.{ℕ, List, [], ◌∷◌, ◌++◌, map, Option}
 use Rattle.std.specs.Global.{Global}
 use Rattle.std.specs.Rc.{rc_str_bytes}
 use Rattle.std.specs.declared.rc.RcStr.{RcStr}
 use Rattle.cedar_names.specs.Names.{BareName}
-use Rattle.cedar_names.specs.PlainNames.{bare_name}
+use Rattle.cedar_names.specs.Place.{Place}
+use Rattle.cedar_names.specs.PlainNames.{bare_name, name_place}
 use Rattle.cedar_names.specs.declared.plain_name.Name.{Name}
 use Rattle.cedar_terms.specs.declared.schema_type.SchemaType.{SchemaType, SchemaType-F, fold-SchemaType}
-use Rattle.cedar_terms.specs.Entities.{bare_entity_type}
+use Rattle.cedar_terms.specs.Entities.{bare_entity_type, entity_type_name}
 use Rattle.cedar_terms.specs.Types.{BareType, BoolType, LongType, StringType, SetType, RecordType, EntityOfType, ExtensionType}
 
 mutual
@@ -48,6 +49,27 @@ bare_schema_type = fold-SchemaType BareSchemaType bare_schema_step
 -- the attributes of a record
 abbrev pub bare_attributes : List (RcStr Global × SchemaType) → Attributes
 bare_attributes es = attributes_of (map (λ e. (e.0, bare_schema_type e.1)) es)
+
+-- the places of the attributes, each those of its type
+abbrev pub joined_places : {K : Type 0} → List (K × List (Option Place)) → List (Option Place)
+joined_places [] = []
+joined_places (e ∷ es) = e.1 ++ joined_places es
+
+-- one level, where each type inside already is the places of its names
+abbrev pub place_step : SchemaType-F (List (Option Place)) → List (Option Place)
+place_step (SchemaType-F.Set t) = t.value
+place_step (SchemaType-F.Record m) = joined_places m.entries
+place_step (SchemaType-F.Entity ty) = name_place (entity_type_name ty) ∷ []
+place_step (SchemaType-F.Extension name) = name_place name ∷ []
+place_step other = []
+
+-- the places of the names inside, from the outermost inwards, attributes by key
+abbrev pub schema_type_places : SchemaType → List (Option Place)
+schema_type_places = fold-SchemaType (List (Option Place)) place_step
+
+-- the places of the names in the attributes of a record
+abbrev pub attribute_places : List (RcStr Global × SchemaType) → List (Option Place)
+attribute_places es = joined_places (map (λ e. (e.0, schema_type_places e.1)) es)
 
 -- the type of its values: every set is a set, every record a record
 abbrev pub value_type : BareSchemaType → BareType

@@ -1,5 +1,5 @@
 //! Entity types and entities by their identifiers (Cedar's file `entity.rs`).
-ghost use Rattle.std.specs.Prelude.{◌≡◌, IfOk, Some, codes, refl};
+ghost use Rattle.std.specs.Prelude.{◌≡◌, IfOk, None, Some, codes, refl};
 ghost use Rattle.std.specs.Cmp.{partial_equiv_from_equiv, on_equiv, on_po, on_total};
 ghost use Rattle.std.specs.Ordering.{as_partial_cmp, on};
 ghost use Rattle.std.specs.Rc.{rc_str_bytes};
@@ -130,9 +130,11 @@ impl EntityUID {
 
     /// The entity of this identifier and the type `test_entity_type`, which has no place.
     pub fn with_eid(alloc: Global, eid: &str) -> Result<EntityUID, AllocError>
-        ensures { IfOk result (λ uid.
+        ensures bare { IfOk result (λ uid.
             bare_entity_uid uid ≡
             record { entity_type = unqualified (codes "test_entity_type"); eid = eid.now }) }
+        ensures place { IfOk result (λ uid.
+            name_place (entity_type_name (entity_type_of uid)) ≡ None) }
     {
         let basename = known_unreserved_id(alloc, "test_entity_type")?;
         let ty = EntityType::from(Name::unqualified_name(basename));

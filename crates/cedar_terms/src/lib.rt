@@ -12,6 +12,7 @@ mod matching;
 mod ops;
 mod pattern;
 mod schema_type;
+mod splits;
 mod text;
 mod types;
 mod unknown;
@@ -25,12 +26,8 @@ pub use matching::Turns;
 pub use ops::{BinaryOp, UnaryOp};
 pub use pattern::{Pattern, PatternElem};
 pub use schema_type::SchemaType;
+pub use splits::try_splits;
 pub use text::first_char;
 pub use types::{StaticallyTyped, Type};
 pub use unknown::Unknown;
 pub use var::Var;
-
-#[cfg(test)] // what the loop is compared with
-mod splits;
-#[cfg(test)]
-mod tests;

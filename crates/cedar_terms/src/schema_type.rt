@@ -6,7 +6,9 @@ ghost use Rattle.cedar_terms.specs.SchemaTypes.{
   bare_names,
   bare_schema_type,
   attribute_extension_names,
+  attribute_places,
   extension_names,
+  schema_type_places,
   value_type,
 };
 
@@ -74,7 +76,8 @@ impl SchemaType {
 
     /// A copy, with the places of its names.
     pub fn clone(&self, alloc: Global) -> Result<SchemaType, AllocError>
-        ensures { IfOk result (λ ty. bare_schema_type ty ≡ bare_schema_type self.now) }
+        ensures bare { IfOk result (λ ty. bare_schema_type ty ≡ bare_schema_type self.now) }
+        ensures places { IfOk result (λ ty. schema_type_places ty ≡ schema_type_places self.now) }
     {
         clone_schema_type(alloc, self)
     }
@@ -94,7 +97,8 @@ impl SchemaType {
 // A copy of the type.
 #[cycle(copy)]
 fn clone_schema_type(alloc: Global, ty: &SchemaType) -> Result<SchemaType, AllocError>
-    ensures { IfOk result (λ copy. bare_schema_type copy ≡ bare_schema_type ty.now) }
+    ensures bare { IfOk result (λ copy. bare_schema_type copy ≡ bare_schema_type ty.now) }
+    ensures places { IfOk result (λ copy. schema_type_places copy ≡ schema_type_places ty.now) }
 {
     match ty {
         SchemaType::Bool => Ok(SchemaType::Bool),
@@ -125,8 +129,10 @@ fn clone_attributes(
     alloc: Global,
     attrs: &BTreeMap<RcStr, SchemaType>,
 ) -> Result<BTreeMap<RcStr, SchemaType>, AllocError>
-    ensures { IfOk result (λ copy.
+    ensures bare { IfOk result (λ copy.
         bare_attributes copy.entries ≡ bare_attributes attrs.now.entries) }
+    ensures places { IfOk result (λ copy.
+        attribute_places copy.entries ≡ attribute_places attrs.now.entries) }
 {
     let mut copy = BTreeMap::new(alloc);
     for (key, ty) in attrs.iter() {

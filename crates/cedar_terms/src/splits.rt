@@ -1,4 +1,4 @@
-//! Matching by every split, which the tests compare the loop with.
+//! Matching by every split at each wildcard, which the loop is compared with.
 ghost use Rattle.std.specs.Prelude.{◌≡◌};
 ghost use Rattle.std.specs.Str.{chars};
 ghost use Rattle.cedar_terms.specs.Patterns.{matches};
@@ -6,9 +6,10 @@ ghost use Rattle.cedar_terms.specs.Patterns.{matches};
 use crate::pattern::PatternElem;
 use crate::text::first_char;
 
-// Whether the elements match the text, by trying every split at each wildcard, and how many steps
-// that took.
-pub(crate) fn try_splits(pattern: &[PatternElem], text: &str) -> (bool, u128)
+/// Whether the elements match the text, by trying every split at each wildcard, and how many steps
+/// that took. For comparison alone: the steps grow exponentially with the wildcards, and the
+/// recursion goes as deep as the text and the pattern are long. It takes no memory.
+pub fn try_splits(pattern: &[PatternElem], text: &str) -> (bool, u128)
     ensures { result.0 ≡ matches pattern.now (chars text.now) }
 {
     match pattern.split_first() {

@@ -1,7 +1,9 @@
 // Values from outside: texts, matching, orders, and each call once.
-use super::*;
-use crate::splits::try_splits;
 use cedar_names::{FromNormalizedStr, Id, InternalName, Loc, Name, PrincipalOrResource};
+use cedar_terms::{
+    BinaryOp, EntityType, EntityUID, Escaped, Literal, Pattern, PatternElem, SchemaType,
+    StaticallyTyped, Turns, Type, UnaryOp, Unknown, Var, try_splits,
+};
 use std::boxed::Box;
 use std::collections::{BTreeMap, HashSet};
 use std::convert::{AsStr, TryFrom};
@@ -11,6 +13,15 @@ use std::test::Fail;
 
 fn printed<T: Display>(rt: &HostRuntime, x: &T) -> Result<String, Fail> {
     Ok(x.to_string(rt.alloc())?)
+}
+
+// Checks what `Display` writes.
+fn check_text<T: Display>(rt: &HostRuntime, x: &T, want: &str) -> Result<(), Fail> {
+    let text = x.to_string(rt.alloc())?;
+    if text.as_str() == want {
+        return Ok(());
+    }
+    Err(Fail::from(text))
 }
 
 fn name(rt: &HostRuntime, text: &str) -> Result<Name, Fail> {
@@ -60,24 +71,25 @@ fn texts_of_literals(rt: HostRuntime) -> Result<(), Fail> {
         ("\u{e9}", "\"\u{e9}\""),
         ("a\tb\r\n\\\"", "\"a\\tb\\r\\n\\\\\\\"\""),
         ("", "\"\""),
+        ("\u{1f408}", "\"\u{1f408}\""),
     ] {
-        assert_eq!(rt; printed(&rt, &text(&rt, value)?)?.as_str(), want);
+        check_text(&rt, &text(&rt, value)?, want)?;
     }
+    check_text(&rt, &entity(&rt, "A::B", "a\"b")?, "A::B::\"a\\\"b\"")
+}
+
+#[test]
+fn texts_of_integers_and_booleans(rt: HostRuntime) -> Result<(), Fail> {
     for (value, want) in [
         (i64::MIN, "-9223372036854775808"),
         (-7, "-7"),
         (0, "0"),
         (i64::MAX, "9223372036854775807"),
     ] {
-        assert_eq!(rt; printed(&rt, &Literal::from(value))?.as_str(), want);
+        check_text(&rt, &Literal::from(value), want)?;
     }
-    assert_eq!(rt; printed(&rt, &Literal::from(true))?.as_str(), "true");
-    assert_eq!(rt; printed(&rt, &Literal::from(false))?.as_str(), "false");
-    assert_eq!(rt;
-        printed(&rt, &entity(&rt, "A::B", "a\"b")?)?.as_str(),
-        "A::B::\"a\\\"b\""
-    );
-    Ok(())
+    check_text(&rt, &Literal::from(true), "true")?;
+    check_text(&rt, &Literal::from(false), "false")
 }
 
 // The hexadecimal digit of a number below 16.
@@ -117,21 +129,21 @@ fn escape_by_rule(rt: &HostRuntime, code: u8) -> Result<String, Fail> {
     Ok(text)
 }
 
+// Checks the escape of a character, alone and as an element of a pattern, where `*` has its own.
+fn check_escape(rt: &HostRuntime, c: char, want: &str) -> Result<(), Fail> {
+    let mut one = String::new(rt.alloc());
+    one.push(c)?;
+    check_text(rt, &Escaped(one.as_str()), want)?;
+    let elems = Vec::from_array(rt.alloc(), [PatternElem::Char(c)])?;
+    let pattern = Pattern::from_vec(rt.alloc(), elems)?;
+    check_text(rt, &pattern, if c == '*' { "\\*" } else { want })
+}
+
 #[test]
 fn escapes_up_to_u00ff(rt: HostRuntime) -> Result<(), Fail> {
     for code in 0..=255u8 {
-        let c = char::from(code);
-        let mut one = String::new(rt.alloc());
-        one.push(c)?;
         let want = escape_by_rule(&rt, code)?;
-        assert_eq!(rt; printed(&rt, &Escaped(one.as_str()))?, want, "at {code}");
-        let elems = Vec::from_array(rt.alloc(), [PatternElem::Char(c)])?;
-        let shown = printed(&rt, &Pattern::from_vec(rt.alloc(), elems)?)?;
-        if c == '*' {
-            assert_eq!(rt; shown.as_str(), "\\*");
-        } else {
-            assert_eq!(rt; shown, want, "at {code}");
-        }
+        check_escape(&rt, char::from(code), want.as_str())?;
     }
     Ok(())
 }
@@ -140,53 +152,57 @@ fn escapes_up_to_u00ff(rt: HostRuntime) -> Result<(), Fail> {
 fn texts_of_patterns(rt: HostRuntime) -> Result<(), Fail> {
     let backslash_star = [PatternElem::Char('\\'), PatternElem::Char('*')];
     let p = Pattern::from_items(rt.alloc(), backslash_star.into_iter())?;
-    assert_eq!(rt; printed(&rt, &p)?.as_str(), "\\\\\\*");
+    check_text(&rt, &p, "\\\\\\*")?;
     for (elems, want) in [
+        ("\0", "\\0"),
+        ("\\0", "\\\\0"),
         ("\\*", "\\\\*"),
         ("", ""),
         ("a*'\u{1b}", "a*\\'\\u{1b}"),
         ("y\u{306}", "y\u{306}"),
     ] {
-        assert_eq!(rt; printed(&rt, &pattern(&rt, elems)?)?.as_str(), want);
+        check_text(&rt, &pattern(&rt, elems)?, want)?;
+    }
+    Ok(())
+}
+
+// The word `example`, each letter with marks above and below it.
+const EXAMPLE: &str =
+    "e\u{336}\u{351}\u{35d}\u{330}x\u{336}\u{35b}\u{354}a\u{335}\u{35b}\u{330}\u{32f}m\u{334}\u{30b}\u{301}\u{349}p\u{337}\u{342}\u{320}l\u{335}\u{30d}\u{314}\u{347}e\u{336}\u{35d}\u{327}\u{323}";
+
+// Checks whether each pattern, by `|`, matches the text.
+fn check_matches(rt: &HostRuntime, patterns: &str, value: &str, want: bool) -> Result<(), Fail> {
+    for elems in patterns.split('|') {
+        if pattern(rt, elems)?.wildcard_match(value) != want {
+            return Err(Fail::from(format!(in rt.alloc(); "{elems} on {value}")?));
+        }
     }
     Ok(())
 }
 
 #[test]
 fn matches_of_wildcards(rt: HostRuntime) -> Result<(), Fail> {
-    for (elems, value, want) in [
-        ("*ab", "aab", true),
-        ("f**r", "foo bar", true),
-        ("*bo*", "foo bar", false),
-        ("", "", true),
-        ("", "foo bar", false),
-        ("foo*", "foo bar", true),
-        ("*bar", "foo bar", true),
-        ("*o b*", "foo bar", true),
-        ("f* bar", "foo bar", true),
-        ("*f***", "foo bar", true),
-        ("*foo", "foo bar", false),
-        ("bar*", "foo bar", false),
-        ("f*br", "foo bar", false),
-        ("*x***", "foo bar", false),
-        ("*", "", true),
-        ("foo bar", "", false),
-        ("*", "*", true),
-        ("\0", "*", false),
-        ("\\u{0000}", "*", false),
-        ("y*", "y\u{306}", true),
-        ("y\u{306}", "y\u{306}", true),
-        ("*p*", "y\u{306}", false),
-    ] {
-        assert_eq!(rt;
-            pattern(&rt, elems)?.wildcard_match(value),
-            want,
-            "{elems} on {value}"
-        );
-    }
+    let foo_bar = "f**r|foo*|*bar|*o b*|f* bar|*f***";
+    check_matches(&rt, foo_bar, "foo bar", true)?;
+    let others = "*bo*||*foo|bar*|f*br|*x***";
+    check_matches(&rt, others, "foo bar", false)?;
+    check_matches(&rt, "*ab", "aab", true)?;
+    check_matches(&rt, "|*", "", true)?;
+    check_matches(&rt, "foo bar", "", false)?;
+    check_matches(&rt, "*", "*", true)?;
+    check_matches(&rt, "\0|\\u{0000}", "*", false)?;
     let star = Vec::from_array(rt.alloc(), [PatternElem::Char('*')])?;
     assert!(rt; Pattern::from_vec(rt.alloc(), star)?.wildcard_match("*"));
     Ok(())
+}
+
+#[test]
+fn matches_of_marks(rt: HostRuntime) -> Result<(), Fail> {
+    check_matches(&rt, "y*|y\u{306}", "y\u{306}", true)?;
+    check_matches(&rt, "*p*", "y\u{306}", false)?;
+    let inside = "*p*|*a\u{335}\u{35b}\u{330}\u{32f}m\u{334}\u{30b}\u{301}\u{349}*";
+    check_matches(&rt, inside, EXAMPLE, true)?;
+    check_matches(&rt, "y*", EXAMPLE, false)
 }
 
 // The count is set by each call, whatever it held before.
@@ -212,18 +228,28 @@ fn turns_of_matches(rt: HostRuntime) -> Result<(), Fail> {
             880,
         ),
     ] {
-        let p = pattern(&rt, elems)?;
-        let answer = p.wildcard_match_counted(value, &mut turns);
-        assert_eq!(rt; answer, want, "{elems} on {value}");
-        assert_eq!(rt; p.wildcard_match(value), want, "{elems} on {value}");
-        assert_eq!(rt; turns.get(), count, "{elems} on {value}");
-        let most = value
-            .chars()
-            .count()
-            .saturating_mul(p.len().saturating_add(1));
-        assert_eq!(rt; most, bound, "{elems} on {value}");
+        let most = check_turns(&rt, elems, value, want, &mut turns)?;
+        assert_eq!(rt; (turns.get(), most), (count, bound), "{elems} on {value}");
     }
     Ok(())
+}
+
+// Checks the answer of both calls, sets the turns, and gives the bound: for each character of the
+// text one turn for each element, and one more.
+fn check_turns(
+    rt: &HostRuntime,
+    elems: &str,
+    value: &str,
+    want: bool,
+    turns: &mut Turns,
+) -> Result<usize, Fail> {
+    let p = pattern(rt, elems)?;
+    let answer = p.wildcard_match_counted(value, turns);
+    if answer != want || p.wildcard_match(value) != want {
+        return Err(Fail::from(format!(in rt.alloc(); "{elems} on {value}")?));
+    }
+    let turns_each = p.len().saturating_add(1);
+    Ok(value.chars().count().saturating_mul(turns_each))
 }
 
 // Where the loop goes back to the latest wildcard alone, trying every split takes more steps than
@@ -339,22 +365,20 @@ const SHORT_TEXTS: [&str; 31] = [
 #[test]
 fn calls_of_patterns(rt: HostRuntime) -> Result<(), Fail> {
     let p = pattern(&rt, "a*")?;
-    assert_eq!(rt; p.len(), 2);
-    assert!(rt; !p.is_empty());
+    assert!(rt; p.len() == 2 && !p.is_empty());
     assert!(rt; pattern(&rt, "")?.is_empty());
-    let again = Pattern::from_items(rt.alloc(), p.iter().copied())?;
-    assert!(rt; again == p);
+    assert!(rt; Pattern::from_items(rt.alloc(), p.iter().copied())? == p);
     assert!(rt; p.clone(rt.alloc())? == p);
     let elems = Vec::from_array(rt.alloc(), [PatternElem::Char('a'), PatternElem::Wildcard])?;
     assert!(rt; Pattern::from(Rc::new(rt.alloc(), elems)?) == p);
+    Ok(())
+}
+
+#[test]
+fn order_of_patterns(rt: HostRuntime) -> Result<(), Fail> {
     let rising = ["", "a", "ab", "a*", "b", "\u{10ffff}", "*", "*a"];
-    let mut last = None;
-    for elems in rising {
-        let p = pattern(&rt, elems)?;
-        if let Some(before) = &last {
-            assert!(rt; *before < p, "{p}");
-        }
-        last = Some(p);
+    for (elems, further) in rising.iter().zip(rising.iter().skip(1)) {
+        assert!(rt; pattern(&rt, elems)? < pattern(&rt, further)?, "{elems}");
     }
     Ok(())
 }
@@ -403,9 +427,9 @@ fn variables(rt: HostRuntime) -> Result<(), Fail> {
         (Var::Resource, "resource"),
         (Var::Context, "context"),
     ] {
-        assert_eq!(rt; printed(&rt, &var)?.as_str(), want);
-        assert_eq!(rt; var.to_id(rt.alloc())?.as_str(), want);
-        assert_eq!(rt; var.to_unreserved_id(rt.alloc())?.as_str(), want);
+        check_text(&rt, &var, want)?;
+        check_text(&rt, &var.to_id(rt.alloc())?, want)?;
+        check_text(&rt, &var.to_unreserved_id(rt.alloc())?, want)?;
     }
     assert!(rt; Var::from(PrincipalOrResource::Principal) == Var::Principal);
     assert!(rt; Var::from(PrincipalOrResource::Resource) == Var::Resource);
@@ -415,24 +439,24 @@ fn variables(rt: HostRuntime) -> Result<(), Fail> {
 #[test]
 fn entities(rt: HostRuntime) -> Result<(), Fail> {
     let foo = EntityUID::with_eid(rt.alloc(), "foo")?;
-    assert_eq!(rt; printed(&rt, &foo)?.as_str(), "test_entity_type::\"foo\"");
+    check_text(&rt, &foo, "test_entity_type::\"foo\"")?;
     assert_eq!(rt; foo.eid(), "foo");
-    assert_eq!(rt;
-        printed(&rt, foo.entity_type())?.as_str(),
-        "test_entity_type"
-    );
-    assert_eq!(rt;
-        printed(&rt, foo.entity_type().name())?.as_str(),
-        "test_entity_type"
-    );
+    check_text(&rt, foo.entity_type(), "test_entity_type")?;
+    check_text(&rt, foo.entity_type().name(), "test_entity_type")?;
     assert!(rt; foo.clone(rt.alloc())? == foo);
-    assert_eq!(rt;
-        printed(&rt, &type_text(&rt, &foo)?)?.as_str(),
-        "(entity of type `test_entity_type`)"
-    );
+    check_type(&rt, &foo, "(entity of type `test_entity_type`)")
+}
+
+#[test]
+fn order_of_entities(rt: HostRuntime) -> Result<(), Fail> {
     assert!(rt; uid(&rt, "A", "z")? < uid(&rt, "B", "a")?);
     assert!(rt; uid(&rt, "Z::A", "z")? < uid(&rt, "A::B", "a")?);
     assert!(rt; uid(&rt, "A", "y")? < uid(&rt, "A", "z")?);
+    Ok(())
+}
+
+#[test]
+fn places_of_entity_types(rt: HostRuntime) -> Result<(), Fail> {
     let here = EntityType::from(name(&rt, "A")?);
     let there = EntityType::from(name_elsewhere(&rt, "A")?);
     assert!(rt; here == there && here.cmp(&there).is_eq());
@@ -440,53 +464,79 @@ fn entities(rt: HostRuntime) -> Result<(), Fail> {
     Ok(())
 }
 
-// The type's text, through the trait.
-fn type_text<T: StaticallyTyped>(rt: &HostRuntime, x: &T) -> Result<String, Fail> {
-    printed(rt, &x.type_of(rt.alloc())?)
+// Checks the type's text, through the trait.
+fn check_type<T: StaticallyTyped>(rt: &HostRuntime, x: &T, want: &str) -> Result<(), Fail> {
+    check_text(rt, &x.type_of(rt.alloc())?, want)
+}
+
+// A literal of each kind and more, each above the one before, none of a shared entity type.
+fn rising_literals(rt: &HostRuntime) -> Result<Vec<Literal>, Fail> {
+    let mut rising = Vec::new(rt.alloc());
+    for b in [false, true] {
+        rising.push(Literal::from(b))?;
+    }
+    for n in [-9, 3] {
+        rising.push(Literal::from(n))?;
+    }
+    for s in ["", "Z", "a"] {
+        rising.push(text(rt, s)?)?;
+    }
+    rising.push(entity(rt, "A", "b")?)?;
+    rising.push(entity(rt, "B", "a")?)?;
+    Ok(rising)
+}
+
+// The entity of type `A`, whose name is at another place.
+fn entity_elsewhere(rt: &HostRuntime) -> Result<Literal, Fail> {
+    let ty = EntityType::from(name_elsewhere(rt, "A")?);
+    let uid = EntityUID::new(ty, RcStr::from_str(rt.alloc(), "b")?);
+    Ok(Literal::from(Rc::new(rt.alloc(), uid)?))
 }
 
 #[test]
-fn literals(rt: HostRuntime) -> Result<(), Fail> {
-    let rising = Vec::from_array(
-        rt.alloc(),
-        [
-            Literal::from(false),
-            Literal::from(true),
-            Literal::from(-9),
-            Literal::from(3),
-            text(&rt, "")?,
-            text(&rt, "Z")?,
-            text(&rt, "a")?,
-            entity(&rt, "A", "b")?,
-            entity(&rt, "B", "a")?,
-        ],
-    )?;
+fn types_of_literals(rt: HostRuntime) -> Result<(), Fail> {
     let types = ["bool", "bool", "long", "long", "string", "string", "string"];
-    for (x, want) in rising.iter().zip(types) {
-        assert_eq!(rt; type_text(&rt, x)?.as_str(), want);
+    for (x, want) in rising_literals(&rt)?.iter().zip(types) {
+        check_type(&rt, x, want)?;
         assert!(rt; !x.is_ref());
     }
+    let entity = entity_elsewhere(&rt)?;
+    assert!(rt; entity.is_ref());
+    check_type(&rt, &entity, "(entity of type `A`)")
+}
+
+#[test]
+fn order_of_literals(rt: HostRuntime) -> Result<(), Fail> {
+    let rising = rising_literals(&rt)?;
     for (x, y) in rising.iter().zip(rising.iter().skip(1)) {
         assert!(rt; x < y && x != y && x.clone(rt.alloc())? == *x);
     }
-    let same = EntityUID::new(
-        EntityType::from(name_elsewhere(&rt, "A")?),
-        RcStr::from_str(rt.alloc(), "b")?,
-    );
-    let same = Literal::from(Rc::new(rt.alloc(), same)?);
-    assert!(rt; same.is_ref() && same.clone(rt.alloc())? == same);
-    assert_eq!(rt; type_text(&rt, &same)?.as_str(), "(entity of type `A`)");
-    assert!(rt; same == entity(&rt, "A", "b")?);
-    assert!(rt;
-        Literal::from_string(rt.alloc(), String::from_str(rt.alloc(), "Z")?)? == text(&rt, "Z")?
-    );
-    assert!(rt; Literal::from(RcStr::from_str(rt.alloc(), "Z")?) == text(&rt, "Z")?);
+    let same = entity_elsewhere(&rt)?;
+    assert!(rt; same.clone(rt.alloc())? == same && same == entity(&rt, "A", "b")?);
+    Ok(())
+}
+
+#[test]
+fn sources_of_literals(rt: HostRuntime) -> Result<(), Fail> {
+    let z = text(&rt, "Z")?;
+    assert!(rt; Literal::from_string(rt.alloc(), String::from_str(rt.alloc(), "Z")?)? == z);
+    assert!(rt; Literal::from(RcStr::from_str(rt.alloc(), "Z")?) == z);
+    Ok(())
+}
+
+#[test]
+fn sets_of_literals(rt: HostRuntime) -> Result<(), Fail> {
     let mut set = HashSet::new(rt.alloc());
-    for x in rising {
+    for x in rising_literals(&rt)? {
         assert!(rt; set.insert(x)?);
     }
-    assert!(rt; !set.insert(same)?);
+    assert!(rt; !set.insert(entity_elsewhere(&rt)?)?);
     assert_eq!(rt; set.len(), 9);
+    Ok(())
+}
+
+#[test]
+fn sets_of_entities(rt: HostRuntime) -> Result<(), Fail> {
     let mut uids = HashSet::new(rt.alloc());
     assert!(rt; uids.insert(uid(&rt, "A", "b")?)?);
     assert!(rt; !uids.insert(uid(&rt, "A", "b")?)?);
@@ -496,21 +546,17 @@ fn literals(rt: HostRuntime) -> Result<(), Fail> {
 
 // A type of each kind and each sort of name, each above the one before.
 fn rising_types(rt: &HostRuntime) -> Result<Vec<Type>, Fail> {
-    Ok(Vec::from_array(
-        rt.alloc(),
-        [
-            Type::Bool,
-            Type::Long,
-            Type::String,
-            Type::Set,
-            Type::Record,
-            Type::entity_type(name(rt, "B")?),
-            Type::entity_type(name(rt, "A::C")?),
-            Type::Extension {
-                name: name(rt, "A")?,
-            },
-        ],
-    )?)
+    let mut rising = Vec::new(rt.alloc());
+    rising.push(Type::Bool)?;
+    rising.push(Type::Long)?;
+    rising.push(Type::String)?;
+    rising.push(Type::Set)?;
+    rising.push(Type::Record)?;
+    rising.push(Type::entity_type(name(rt, "B")?))?;
+    rising.push(Type::entity_type(name(rt, "A::C")?))?;
+    let name = name(rt, "A")?;
+    rising.push(Type::Extension { name })?;
+    Ok(rising)
 }
 
 #[test]
@@ -526,7 +572,7 @@ fn texts_of_types(rt: HostRuntime) -> Result<(), Fail> {
         "A",
     ];
     for (ty, want) in rising_types(&rt)?.iter().zip(texts) {
-        assert_eq!(rt; printed(&rt, ty)?.as_str(), want);
+        check_text(&rt, ty, want)?;
         assert!(rt; ty.clone(rt.alloc())? == *ty);
     }
     Ok(())
@@ -580,40 +626,49 @@ fn set_of(rt: &HostRuntime, ty: SchemaType) -> Result<SchemaType, Fail> {
     })
 }
 
-#[test]
-fn schema_types(rt: HostRuntime) -> Result<(), Fail> {
+fn record_type(rt: &HostRuntime) -> Result<SchemaType, Fail> {
     let mut attrs = BTreeMap::new(rt.alloc());
-    drop(attrs.insert(
-        RcStr::from_str(rt.alloc(), "b")?,
-        set_of(&rt, extension(&rt, "x")?)?,
-    )?);
-    drop(attrs.insert(RcStr::from_str(rt.alloc(), "a")?, extension(&rt, "y")?)?);
-    let record = SchemaType::Record { attrs };
+    let set = set_of(rt, extension(rt, "x")?)?;
+    drop(attrs.insert(RcStr::from_str(rt.alloc(), "b")?, set)?);
+    drop(attrs.insert(RcStr::from_str(rt.alloc(), "a")?, extension(rt, "y")?)?);
+    Ok(SchemaType::Record { attrs })
+}
+
+#[test]
+fn extension_types_inside(rt: HostRuntime) -> Result<(), Fail> {
     let mut found = String::new(rt.alloc());
-    for name in record.contained_ext_types(rt.alloc())? {
+    for name in record_type(&rt)?.contained_ext_types(rt.alloc())? {
         found.push_str(printed(&rt, &name)?.as_str())?;
         found.push(' ')?;
     }
     assert_eq!(rt; found.as_str(), "y x ");
-    let entity = SchemaType::Entity {
-        ty: EntityType::from(name(&rt, "A")?),
-    };
-    for (ty, want) in Vec::from_array(
-        rt.alloc(),
-        [
-            (SchemaType::Bool, "bool"),
-            (SchemaType::Long, "long"),
-            (SchemaType::String, "string"),
-            (set_of(&rt, SchemaType::Long)?, "set"),
-            (SchemaType::EmptySet, "set"),
-            (record, "record"),
-            (entity, "(entity of type `A`)"),
-            (extension(&rt, "x")?, "x"),
-        ],
-    )? {
-        assert_eq!(rt; printed(&rt, &ty.to_type(rt.alloc())?)?.as_str(), want);
-        assert!(rt; ty.clone(rt.alloc())? == ty);
+    Ok(())
+}
+
+// Checks the text of the type that its values have, and a copy.
+fn check_schema_type(rt: &HostRuntime, ty: SchemaType, want: &str) -> Result<(), Fail> {
+    check_text(rt, &ty.to_type(rt.alloc())?, want)?;
+    if ty.clone(rt.alloc())? == ty {
+        return Ok(());
     }
+    Err(Fail::from("a copy that differs"))
+}
+
+#[test]
+fn schema_types(rt: HostRuntime) -> Result<(), Fail> {
+    check_schema_type(&rt, SchemaType::Bool, "bool")?;
+    check_schema_type(&rt, SchemaType::Long, "long")?;
+    check_schema_type(&rt, SchemaType::String, "string")?;
+    check_schema_type(&rt, set_of(&rt, SchemaType::Long)?, "set")?;
+    check_schema_type(&rt, SchemaType::EmptySet, "set")?;
+    check_schema_type(&rt, record_type(&rt)?, "record")?;
+    check_schema_type(&rt, extension(&rt, "x")?, "x")?;
+    let ty = EntityType::from(name(&rt, "A")?);
+    check_schema_type(&rt, SchemaType::Entity { ty }, "(entity of type `A`)")
+}
+
+#[test]
+fn schema_types_differ(rt: HostRuntime) -> Result<(), Fail> {
     assert!(rt; set_of(&rt, SchemaType::Long)? != set_of(&rt, SchemaType::Bool)?);
     assert!(rt; set_of(&rt, SchemaType::Long)? != SchemaType::EmptySet);
     Ok(())

@@ -1,5 +1,9 @@
 // Values from outside: texts, places, error texts, and each call once.
-use super::*;
+use cedar_names::{
+    AllDefs, AnyId, ConditionalName, FromNormalizedStr, Id, InternalName, Loc, Name, NonEmpty,
+    ParseErrors, PrincipalOrResource, RawName, ReferenceType, Slot, SlotId, UnreservedId,
+    is_normalized_ident,
+};
 use std::collections::{BTreeMap, BTreeSet, HashMap};
 use std::convert::{AsRef, AsStr, TryFrom};
 use std::fmt::Display;
@@ -96,6 +100,7 @@ fn refuses_what_is_no_identifier(rt: HostRuntime) -> Result<(), Fail> {
     assert!(rt; all_refused::<UnreservedId>(&rt, KEYWORDS, "not a normalized Unreserved Id")?);
     assert!(rt; all_refused::<UnreservedId>(&rt, "A::__cedar", "not a normalized Unreserved Id")?);
     assert!(rt; all_refused::<AnyId>(&rt, NO_NAMES, "not a normalized AnyId")?);
+    assert!(rt; all_refused::<AnyId>(&rt, "foo::bar", "not a normalized AnyId")?);
     assert!(rt;
         all_refused::<UnreservedId>(
             &rt,
@@ -121,7 +126,7 @@ fn reads_names(rt: HostRuntime) -> Result<(), Fail> {
     let names = "foo|foo::bar::baz|___cedar::foo|permit::foo|A::_cedar";
     assert!(rt; all_read::<InternalName>(&rt, names)?);
     assert!(rt; all_read::<Name>(&rt, names)?);
-    assert!(rt; all_read::<InternalName>(&rt, "A::__cedar::B|__cedar|A::__cedar")?);
+    assert!(rt; all_read::<InternalName>(&rt, "A::__cedar::B|__cedar|A::__cedar|__cedar::A")?);
     assert!(rt;
         all_read::<Name>(
             &rt,
@@ -139,34 +144,64 @@ fn refuses_what_is_no_name(rt: HostRuntime) -> Result<(), Fail> {
     assert!(rt; all_refused::<InternalName>(&rt, no_names, "not a normalized internal name")?);
     assert!(rt; all_refused::<Name>(&rt, NO_NAMES, "not a normalized Name")?);
     assert!(rt; all_refused::<Name>(&rt, no_names, "not a normalized Name")?);
-    assert!(rt;
-        all_refused::<Name>(
-            &rt,
-            "A::__cedar::B",
-            "The name `A::__cedar::B` contains `__cedar`, which is reserved"
-        )?
-    );
     Ok(())
+}
+
+#[test]
+fn refuses_reserved_names(rt: HostRuntime) -> Result<(), Fail> {
+    for (s, error) in [
+        (
+            "A::__cedar::B",
+            "The name `A::__cedar::B` contains `__cedar`, which is reserved",
+        ),
+        (
+            "A::__cedar",
+            "The name `A::__cedar` contains `__cedar`, which is reserved",
+        ),
+        (
+            "__cedar::A",
+            "The name `__cedar::A` contains `__cedar`, which is reserved",
+        ),
+        (
+            "__cedar",
+            "The name `__cedar` contains `__cedar`, which is reserved",
+        ),
+    ] {
+        assert!(rt; all_refused::<Name>(&rt, s, error)?, "{s}");
+    }
+    Ok(())
+}
+
+// Whether the text was refused with this error text.
+fn is_refused<T: Display + Drop>(
+    rt: &HostRuntime,
+    read: Result<T, ParseErrors>,
+    error: &str,
+) -> Result<bool, Fail> {
+    Ok(text_of(rt, read)?.as_str() == error)
 }
 
 #[test]
 fn reads_one_identifier_as_a_name(rt: HostRuntime) -> Result<(), Fail> {
     let alloc = rt.alloc();
-    for s in "a::b|a::__cedar|if|a b".split('|') {
-        let internal = text_of(&rt, InternalName::parse_unqualified_name(alloc, s))?;
-        assert!(rt; internal.as_str() == "not a normalized Id", "{s}");
-        let plain = text_of(&rt, Name::parse_unqualified_name(alloc, s))?;
-        assert!(rt; plain.as_str() == "not a normalized Id", "{s}");
-    }
     let reserved = InternalName::parse_unqualified_name(alloc, "__cedar")?;
     assert!(rt; reserved == InternalName::cedar(alloc)?);
-    let refused = text_of(&rt, Name::parse_unqualified_name(alloc, "__cedar"))?;
-    assert_eq!(rt;
-        refused.as_str(),
-        "The name `__cedar` contains `__cedar`, which is reserved"
-    );
     let plain = Name::parse_unqualified_name(alloc, "foo")?;
-    assert!(rt; plain.loc().is_none());
+    assert!(rt; plain == name(&rt, "foo")? && plain.loc().is_none());
+    Ok(())
+}
+
+#[test]
+fn refuses_more_than_one_identifier(rt: HostRuntime) -> Result<(), Fail> {
+    for s in "a::b|a::__cedar|if|a b".split('|') {
+        let read = InternalName::parse_unqualified_name(rt.alloc(), s);
+        assert!(rt; is_refused(&rt, read, "not a normalized Id")?, "{s}");
+        let read = Name::parse_unqualified_name(rt.alloc(), s);
+        assert!(rt; is_refused(&rt, read, "not a normalized Id")?, "{s}");
+    }
+    let read = Name::parse_unqualified_name(rt.alloc(), "__cedar");
+    let error = "The name `__cedar` contains `__cedar`, which is reserved";
+    assert!(rt; is_refused(&rt, read, error)?);
     Ok(())
 }
 
@@ -179,19 +214,30 @@ fn keeps_the_place_of_a_text(rt: HostRuntime) -> Result<(), Fail> {
     Ok(())
 }
 
+// The name within the namespace, at this place.
+fn within(
+    rt: &HostRuntime,
+    basename: &str,
+    namespace: &str,
+    loc: Option<Loc>,
+) -> Result<InternalName, Fail> {
+    let (basename, namespace) = (id(rt, basename)?, internal(rt, namespace)?);
+    Ok(InternalName::type_in_namespace(rt.alloc(), basename, namespace, loc)?)
+}
+
+#[test]
+fn goes_within_a_namespace(rt: HostRuntime) -> Result<(), Fail> {
+    let made = within(&rt, "C", "A::B", None)?;
+    assert_eq!(rt; made.to_string(rt.alloc())?.as_str(), "A::B::C");
+    Ok(())
+}
+
 #[test]
 fn keeps_the_place_given(rt: HostRuntime) -> Result<(), Fail> {
-    let alloc = rt.alloc();
     let place = loc(&rt, 3, 5, "x = A")?;
-    let given = Loc::clone_option(alloc, Some(&place))?;
-    let made = InternalName::type_in_namespace(
-        alloc,
-        id(&rt, "C")?,
-        internal(&rt, "A::B")?,
-        given,
-    )?;
-    assert_eq!(rt; made.to_string(alloc)?.as_str(), "A::B::C");
-    assert!(rt; made.clone(alloc)?.loc() == Some(&place));
+    let given = Loc::clone_option(rt.alloc(), Some(&place))?;
+    let made = within(&rt, "C", "A::B", given)?;
+    assert!(rt; made.clone(rt.alloc())?.loc() == Some(&place));
     Ok(())
 }
 
@@ -244,9 +290,25 @@ fn qualifies(rt: HostRuntime) -> Result<(), Fail> {
 
 #[test]
 fn qualifies_by_no_namespace(rt: HostRuntime) -> Result<(), Fail> {
-    let alone = name(&rt, "A")?;
-    assert!(rt; alone.qualify_with(rt.alloc(), None)? == internal(&rt, "A")?);
-    assert!(rt; alone.qualify_with_name(rt.alloc(), None)? == alone);
+    let bare = internal(&rt, "A")?;
+    assert!(rt; bare.qualify_with(rt.alloc(), None)? == bare);
+    assert!(rt; bare.qualify_with_name(rt.alloc(), None)? == bare);
+    Ok(())
+}
+
+#[test]
+fn qualifies_plain_names_by_no_namespace(rt: HostRuntime) -> Result<(), Fail> {
+    let plain = name(&rt, "A")?;
+    assert!(rt; plain.qualify_with(rt.alloc(), None)? == internal(&rt, "A")?);
+    assert!(rt; plain.qualify_with_name(rt.alloc(), None)? == plain);
+    Ok(())
+}
+
+#[test]
+fn qualifies_raw_names_by_no_namespace(rt: HostRuntime) -> Result<(), Fail> {
+    let raw = RawName::parse_unqualified_name(rt.alloc(), "A")?;
+    assert!(rt; raw.qualify_with(rt.alloc(), None)? == internal(&rt, "A")?);
+    assert!(rt; raw.qualify_with_name(rt.alloc(), None)? == internal(&rt, "A")?);
     Ok(())
 }
 
@@ -259,9 +321,11 @@ fn shows_namespaces(rt: HostRuntime) -> Result<(), Fail> {
     for (s, want, reserved) in [
         ("A::__cedar::B", "A::__cedar", true),
         ("__cedar", "", true),
+        ("__cedar::A", "__cedar", true),
         ("__cedar::A::B", "__cedar::A", true),
         ("A::__cedar", "A", true),
         ("__cedarr", "", false),
+        ("A::_cedar", "A", false),
         ("A::___cedar::B", "A::___cedar", false),
     ] {
         assert_eq!(rt; namespace(&rt, s)?.as_str(), want);
@@ -271,15 +335,23 @@ fn shows_namespaces(rt: HostRuntime) -> Result<(), Fail> {
 }
 
 #[test]
-fn shows_parts_of_names(rt: HostRuntime) -> Result<(), Fail> {
+fn shows_basenames(rt: HostRuntime) -> Result<(), Fail> {
     let plain = name(&rt, "A::B")?;
     assert!(rt; !plain.is_unqualified());
     assert_eq!(rt; plain.basename_as_ref().as_str(), "B");
     assert_eq!(rt; plain.basename(rt.alloc())?.as_str(), "B");
-    assert_eq!(rt;
-        plain.clone(rt.alloc())?.to_string(rt.alloc())?.as_str(),
-        "A::B"
-    );
+    Ok(())
+}
+
+#[test]
+fn copies_names(rt: HostRuntime) -> Result<(), Fail> {
+    let copy = name(&rt, "A::B")?.clone(rt.alloc())?;
+    assert_eq!(rt; copy.to_string(rt.alloc())?.as_str(), "A::B");
+    Ok(())
+}
+
+#[test]
+fn shows_namespaces_by_parts(rt: HostRuntime) -> Result<(), Fail> {
     let read = internal(&rt, "A::B")?;
     let mut parts = read.namespace_components();
     assert!(rt; parts.next() == Some(&id(&rt, "A")?) && parts.next().is_none());
@@ -295,44 +367,66 @@ fn names_its_kinds(rt: HostRuntime) {
     assert_eq!(rt; Name::describe_self(), "Name");
 }
 
+fn unreserved(rt: &HostRuntime) -> Result<UnreservedId, Fail> {
+    Ok(UnreservedId::try_from(id(rt, "foo")?)?)
+}
+
 #[test]
 fn converts_identifiers(rt: HostRuntime) -> Result<(), Fail> {
-    let alloc = rt.alloc();
-    let unreserved = UnreservedId::try_from(id(&rt, "foo")?)?;
+    let unreserved = unreserved(&rt)?;
     let borrowed: &Id = unreserved.as_ref();
-    assert!(rt; *borrowed == id(&rt, "foo")?.clone(alloc)?);
-    assert_eq!(rt; unreserved.clone(alloc)?.into_smolstr().as_str(), "foo");
+    assert!(rt; *borrowed == id(&rt, "foo")?.clone(rt.alloc())?);
     assert_eq!(rt; unreserved.as_str(), "foo");
+    let copy = unreserved.clone(rt.alloc())?;
+    assert_eq!(rt; copy.into_smolstr().as_str(), "foo");
     assert_eq!(rt; Id::from(unreserved).into_smolstr().as_str(), "foo");
-    let any = AnyId::from_normalized_str(alloc, "if")?;
-    assert!(rt; any.clone(alloc)? == any);
+    Ok(())
+}
+
+#[test]
+fn converts_words(rt: HostRuntime) -> Result<(), Fail> {
+    let any = AnyId::from_normalized_str(rt.alloc(), "if")?;
+    assert!(rt; any.clone(rt.alloc())? == any);
     assert_eq!(rt; any.as_str(), "if");
     assert_eq!(rt; any.into_smolstr().as_str(), "if");
     Ok(())
 }
 
 #[test]
-fn converts_names(rt: HostRuntime) -> Result<(), Fail> {
-    let unreserved = UnreservedId::try_from(id(&rt, "foo")?)?;
-    let plain = Name::from(unreserved.clone(rt.alloc())?);
+fn converts_names_of_one_identifier(rt: HostRuntime) -> Result<(), Fail> {
+    let plain = Name::from(unreserved(&rt)?);
     let borrowed: &InternalName = plain.as_ref();
     assert!(rt; *borrowed == internal(&rt, "foo")?);
-    assert!(rt; plain == Name::unqualified_name(unreserved.clone(rt.alloc())?));
-    assert!(rt; UnreservedId::try_from(plain)? == unreserved);
-    assert!(rt;
-        InternalName::from(Name::try_from(internal(&rt, "A::B")?)?) == internal(&rt, "A::B")?
-    );
-    assert!(rt; InternalName::from(id(&rt, "A")?) == internal(&rt, "A")?);
+    assert!(rt; plain == Name::unqualified_name(unreserved(&rt)?));
+    assert!(rt; UnreservedId::try_from(plain)? == unreserved(&rt)?);
+    Ok(())
+}
+
+// Whether the name has this text.
+fn is_named(rt: &HostRuntime, made: InternalName, text: &str) -> Result<bool, Fail> {
+    Ok(made == internal(rt, text)?)
+}
+
+#[test]
+fn converts_names(rt: HostRuntime) -> Result<(), Fail> {
+    let plain = Name::try_from(internal(&rt, "A::B")?)?;
+    assert!(rt; is_named(&rt, InternalName::from(plain), "A::B")?);
+    assert!(rt; is_named(&rt, InternalName::from(id(&rt, "A")?), "A")?);
     assert!(rt; Id::try_from(internal(&rt, "A")?)? == id(&rt, "A")?);
     Ok(())
 }
 
 #[test]
 fn refuses_conversions(rt: HostRuntime) -> Result<(), Fail> {
-    let alloc = rt.alloc();
     assert!(rt; Id::try_from(internal(&rt, "A::B")?).is_err());
     assert!(rt; UnreservedId::try_from(name(&rt, "A::B")?).is_err());
     assert!(rt; Name::try_from(internal(&rt, "A::__cedar")?).is_err());
+    Ok(())
+}
+
+#[test]
+fn refuses_a_reserved_identifier(rt: HostRuntime) -> Result<(), Fail> {
+    let alloc = rt.alloc();
     let refused = UnreservedId::try_from(id(&rt, "__cedar")?)
         .err()
         .ok_or("reserved")?;
@@ -342,21 +436,31 @@ fn refuses_conversions(rt: HostRuntime) -> Result<(), Fail> {
     Ok(())
 }
 
+// Whether the first text is below the second.
+fn is_below<T: FromNormalizedStr + PartialOrd + Drop>(
+    rt: &HostRuntime,
+    low: &str,
+    high: &str,
+) -> Result<bool, Fail> {
+    let low = T::from_normalized_str(rt.alloc(), low)?;
+    let high = T::from_normalized_str(rt.alloc(), high)?;
+    Ok(low < high)
+}
+
 #[test]
 fn orders_names(rt: HostRuntime) -> Result<(), Fail> {
-    assert!(rt; internal(&rt, "B::A")? < internal(&rt, "A::B")?);
-    assert!(rt; internal(&rt, "B")? < internal(&rt, "A::B")?);
-    assert!(rt; internal(&rt, "A::B")? < internal(&rt, "A::A::B")?);
-    assert!(rt; name(&rt, "B::A")? < name(&rt, "A::B")?);
-    assert!(rt; id(&rt, "Z")? < id(&rt, "_a")?);
-    assert!(rt; id(&rt, "_a")? < id(&rt, "a")?);
+    for (low, high) in [("B::A", "A::B"), ("B", "A::B"), ("A::B", "A::A::B")] {
+        assert!(rt; is_below::<InternalName>(&rt, low, high)?, "{low}");
+    }
+    assert!(rt; is_below::<Name>(&rt, "B::A", "A::B")?);
+    assert!(rt; is_below::<Id>(&rt, "Z", "_a")?);
+    assert!(rt; is_below::<Id>(&rt, "_a", "a")?);
     Ok(())
 }
 
 // The name `A::B` with no place.
 fn unplaced(rt: &HostRuntime) -> Result<InternalName, Fail> {
-    let namespace = internal(rt, "A")?;
-    Ok(InternalName::type_in_namespace(rt.alloc(), id(rt, "B")?, namespace, None)?)
+    within(rt, "B", "A", None)
 }
 
 #[test]
@@ -404,24 +508,39 @@ fn compares_slots_without_places(rt: HostRuntime) -> Result<(), Fail> {
     Ok(())
 }
 
+// The list of `a`, and of `b` if it is long.
+fn list(rt: &HostRuntime, is_long: bool) -> Result<NonEmpty<RcStr>, Fail> {
+    let mut tail = Vec::new(rt.alloc());
+    if is_long {
+        tail.push(RcStr::from_str(rt.alloc(), "b")?)?;
+    }
+    Ok(NonEmpty::new(RcStr::from_str(rt.alloc(), "a")?, tail))
+}
+
 #[test]
 fn compares_lists_of_one_or_more(rt: HostRuntime) -> Result<(), Fail> {
-    let alloc = rt.alloc();
-    let mut tail = Vec::new(alloc);
-    tail.push(RcStr::from_str(alloc, "b")?)?;
-    let list = NonEmpty::new(RcStr::from_str(alloc, "a")?, tail);
-    let copy = list.clone(alloc)?;
-    let short = NonEmpty::new(RcStr::from_str(alloc, "a")?, Vec::new(alloc));
-    assert!(rt; copy == list && short < list && short != list);
-    let mut seen = String::new(alloc);
-    for text in list.iter() {
+    let (long, short) = (list(&rt, true)?, list(&rt, false)?);
+    assert!(rt; long.clone(rt.alloc())? == long);
+    assert!(rt; short < long && short != long);
+    Ok(())
+}
+
+#[test]
+fn gives_the_items_of_lists(rt: HostRuntime) -> Result<(), Fail> {
+    let mut seen = String::new(rt.alloc());
+    for text in list(&rt, true)?.iter() {
         seen.push_str(text.as_str())?;
     }
     assert_eq!(rt; seen.as_str(), "ab");
-    let mut hashed = HashMap::new(alloc);
-    hashed.insert(list, 1u8)?;
-    assert!(rt; hashed.get(&copy) == Some(&1));
-    assert!(rt; hashed.get(&short).is_none());
+    Ok(())
+}
+
+#[test]
+fn hashes_lists_of_one_or_more(rt: HostRuntime) -> Result<(), Fail> {
+    let mut hashed = HashMap::new(rt.alloc());
+    hashed.insert(list(&rt, true)?, 1u8)?;
+    assert!(rt; hashed.get(&list(&rt, true)?) == Some(&1));
+    assert!(rt; hashed.get(&list(&rt, false)?).is_none());
     Ok(())
 }
 
@@ -507,12 +626,23 @@ fn refuses_with_the_reference(rt: HostRuntime) -> Result<(), Fail> {
     Ok(())
 }
 
+// Whether the reference to `Foo` equals the one of common types in `NS`.
+fn is_common_in_ns(rt: &HostRuntime, ns: &str, kind: ReferenceType) -> Result<bool, Fail> {
+    let here = reference(rt, "Foo", "NS", ReferenceType::Common)?;
+    Ok(here == reference(rt, "Foo", ns, kind)?)
+}
+
 #[test]
 fn compares_references(rt: HostRuntime) -> Result<(), Fail> {
+    assert!(rt; is_common_in_ns(&rt, "NS", ReferenceType::Common)?);
+    assert!(rt; !is_common_in_ns(&rt, "MS", ReferenceType::Common)?);
+    assert!(rt; !is_common_in_ns(&rt, "NS", ReferenceType::Entity)?);
+    Ok(())
+}
+
+#[test]
+fn keeps_the_places_of_references(rt: HostRuntime) -> Result<(), Fail> {
     let here = reference(&rt, "Foo", "NS", ReferenceType::Common)?;
-    assert!(rt; here == reference(&rt, "Foo", "NS", ReferenceType::Common)?);
-    assert!(rt; here != reference(&rt, "Foo", "MS", ReferenceType::Common)?);
-    assert!(rt; here != reference(&rt, "Foo", "NS", ReferenceType::Entity)?);
     let whole = loc(&rt, 0, 3, "Foo")?;
     assert!(rt; here.loc() == Some(&whole) && here.raw().loc() == Some(&whole));
     Ok(())
@@ -530,28 +660,45 @@ fn stands_for_one_name(rt: HostRuntime) -> Result<(), Fail> {
 
 #[test]
 fn makes_raw_names(rt: HostRuntime) -> Result<(), Fail> {
-    let alloc = rt.alloc();
     let raw = RawName::new(id(&rt, "foo")?, Some(loc(&rt, 0, 3, "foo")?));
     assert!(rt; raw.is_unqualified());
-    assert!(rt; raw.clone(alloc)?.loc() == raw.loc());
-    let unreserved = UnreservedId::from_normalized_str(alloc, "foo")?;
-    assert!(rt; raw == RawName::new_from_unreserved(unreserved, None));
-    assert!(rt; raw == RawName::parse_unqualified_name(alloc, "foo")?);
-    assert!(rt; raw == RawName::from_name(internal(&rt, "foo")?));
-    assert!(rt; raw < RawName::from_normalized_str(alloc, "A::foo")?);
+    assert!(rt; raw.clone(rt.alloc())?.loc() == raw.loc());
+    assert!(rt; raw == RawName::new_from_unreserved(unreserved(&rt)?, None));
     Ok(())
 }
 
 #[test]
+fn compares_raw_names(rt: HostRuntime) -> Result<(), Fail> {
+    let raw = RawName::parse_unqualified_name(rt.alloc(), "foo")?;
+    assert!(rt; raw == RawName::new(id(&rt, "foo")?, None));
+    assert!(rt; raw == RawName::from_name(internal(&rt, "foo")?));
+    assert!(rt; raw < RawName::from_normalized_str(rt.alloc(), "A::foo")?);
+    Ok(())
+}
+
+fn raw_qualified(rt: &HostRuntime, namespace: &str) -> Result<InternalName, Fail> {
+    let namespace = internal(rt, namespace)?;
+    let raw = RawName::parse_unqualified_name(rt.alloc(), "foo")?;
+    Ok(raw.qualify_with(rt.alloc(), Some(&namespace))?)
+}
+
+fn raw_qualified_by_name(rt: &HostRuntime, namespace: &str) -> Result<InternalName, Fail> {
+    let namespace = name(rt, namespace)?;
+    let raw = RawName::parse_unqualified_name(rt.alloc(), "foo")?;
+    Ok(raw.qualify_with_name(rt.alloc(), Some(&namespace))?)
+}
+
+#[test]
 fn qualifies_raw_names(rt: HostRuntime) -> Result<(), Fail> {
-    let alloc = rt.alloc();
-    let raw = RawName::parse_unqualified_name(alloc, "foo")?;
-    let within = raw.qualify_with(alloc, Some(&internal(&rt, "A")?))?;
-    assert!(rt; raw.qualify_with_name(alloc, Some(&name(&rt, "A")?))? == within);
-    assert_eq!(rt;
-        RawName::from_name(within).to_string(alloc)?.as_str(),
-        "A::foo"
-    );
+    assert!(rt; is_named(&rt, raw_qualified(&rt, "A")?, "A::foo")?);
+    assert!(rt; is_named(&rt, raw_qualified_by_name(&rt, "A")?, "A::foo")?);
+    Ok(())
+}
+
+#[test]
+fn shows_raw_names(rt: HostRuntime) -> Result<(), Fail> {
+    let raw = RawName::from_name(internal(&rt, "A::foo")?);
+    assert_eq!(rt; raw.to_string(rt.alloc())?.as_str(), "A::foo");
     Ok(())
 }
 
