@@ -17,3 +17,8 @@ pub mod Negated
 pub mod Count
 pub mod NodeByNode
 pub mod Rebuilding
+pub mod Shapes
+pub mod ShapeFeed
+pub mod NestedKeys
+pub mod ShapeOrder
+pub mod Queries

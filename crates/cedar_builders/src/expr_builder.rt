@@ -509,7 +509,7 @@ pub trait ExprBuilder: Sized + Drop {
             (MakesNegated is_new place_of kept_place makes_unary makes_binary self BinaryOp.Eq
             arg1 arg2) }
     {
-        let inner = Self::new().with_maybe_source_loc(copied(alloc, self.loc())?);
+        let inner = Self::new().with_maybe_source_loc(Loc::clone_option(alloc, self.loc())?);
         let inner = inner.is_eq(alloc, arg1, arg2)?;
         self.not(alloc, inner)
     }
@@ -531,7 +531,7 @@ pub trait ExprBuilder: Sized + Drop {
             (MakesNegated is_new place_of kept_place makes_unary makes_binary self
             BinaryOp.LessEq arg1 arg2) }
     {
-        let inner = Self::new().with_maybe_source_loc(copied(alloc, self.loc())?);
+        let inner = Self::new().with_maybe_source_loc(Loc::clone_option(alloc, self.loc())?);
         let inner = inner.lesseq(alloc, arg1, arg2)?;
         self.not(alloc, inner)
     }
@@ -553,19 +553,9 @@ pub trait ExprBuilder: Sized + Drop {
             (MakesNegated is_new place_of kept_place makes_unary makes_binary self BinaryOp.Less
             arg1 arg2) }
     {
-        let inner = Self::new().with_maybe_source_loc(copied(alloc, self.loc())?);
+        let inner = Self::new().with_maybe_source_loc(Loc::clone_option(alloc, self.loc())?);
         let inner = inner.less(alloc, arg1, arg2)?;
         self.not(alloc, inner)
-    }
-}
-
-// A copy of the place, if there is one.
-fn copied(alloc: Global, loc: Option<&Loc>) -> Result<Option<Loc>, AllocError>
-    ensures { IfOk result (λ l. l ≡ option_copied loc.entry) }
-{
-    match loc {
-        None => Ok(None),
-        Some(loc) => Ok(Some(loc.clone(alloc)?)),
     }
 }
 

@@ -1,7 +1,7 @@
 //! Maps of pairs that come in any order.
-ghost use Rattle.std.specs.Prelude.{◌≡◌, IfOk, IfErr, OnOk, IsTrue};
+ghost use Rattle.std.specs.Prelude.{◌≡◌, IfOk, IfErr, OnOk, IsTrue, codes};
 ghost use Rattle.cedar_builders.specs.Keys.{keys_of, are_distinct, keyed, in_key_order, IsFirstRepeat, IsRising, HasRepeat};
-ghost use Rattle.cedar_builders.specs.Errors.{key_of, OnDuplicateKey};
+ghost use Rattle.cedar_builders.specs.Errors.{key_of, context_of, OnDuplicateKey};
 ghost use Rattle.cedar_builders.specs.declared.expression_construction_errors.ExpressionConstructionError.TheVariants as error;
 
 use crate::expression_construction_errors::{DuplicateKeyError, ExpressionConstructionError};
@@ -20,6 +20,8 @@ pub fn collect_distinct<A: Drop>(
     ensures distinct { OnOk result (IsTrue (are_distinct (keys_of pairs.items))) }
     ensures refused { IfErr result (OnDuplicateKey
         (λ e. IsFirstRepeat (keys_of pairs.items) (key_of e))) }
+    ensures context { IfErr result (OnDuplicateKey
+        (λ e. context_of e ≡ codes "in record literal")) }
     ensures repeats { IfErr result (OnDuplicateKey (λ _. HasRepeat (keys_of pairs.items))) }
 
     // Pairs that come in order stay as they come.

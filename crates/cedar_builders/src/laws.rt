@@ -1,10 +1,16 @@
-//! The laws of substitution, for all trees and environments.
+//! The laws of substitution, of shapes and of walks, for all trees and environments.
 //!
 //! Each function here does nothing: its contract is the law, over the definitions alone.
-ghost use Rattle.std.specs.Prelude.{IsTrue};
+ghost use Rattle.std.specs.Prelude.{◌≡◌, ◌↔◌, IsTrue};
+ghost use Rattle.std.specs.Cmp.{IsTotalOrder};
+ghost use Rattle.std.specs.declared.cmp.Ordering.TheVariants.{Equal};
+ghost use Rattle.cedar_terms.specs.Literals.{BareLiteral};
+ghost use Rattle.cedar_builders.specs.BareExpr.{BareExpr, Lit, If, Set, no_trees, tree};
 ghost use Rattle.cedar_builders.specs.Keys.{keys_of, keyed, are_distinct, in_key_order, IsInKeyOrder};
 ghost use Rattle.cedar_builders.specs.Laws.{BuiltAfter, RebuiltTwice, SubstitutedTwice, ThenIsBoth, ThenIsNotAlwaysBoth, SubstitutedByFold, RestrictedRebuilt};
+ghost use Rattle.cedar_builders.specs.Shapes.{shape_cmp};
 ghost use Rattle.cedar_builders.specs.TypeClash.{ClashByChildren};
+ghost use Rattle.cedar_builders.specs.Walks.{need};
 
 use crate::expr_builder::LawfulExprBuilder;
 use std::rc::RcStr;
@@ -60,4 +66,24 @@ pub fn clash_by_children()
 pub fn pairs_in_key_order<A>(pairs: &[(RcStr, A)])
     ensures { IsTrue (are_distinct (keys_of pairs.now))
         → IsInKeyOrder (keyed pairs.now) (in_key_order (keyed pairs.now)) }
+{}
+
+/// The order of trees by their shape is total, and two trees are equal in it just where they are
+/// the same.
+pub fn shapes_are_ordered()
+    ensures total { IsTotalOrder shape_cmp }
+    ensures exact { (a b : BareExpr) → (shape_cmp a b ≡ Equal) ↔ (a ≡ b) }
+{}
+
+/// How many entries the stack of a walk needs at some trees of literals: the later a child, the
+/// more of those before it wait.
+pub fn stack_needs()
+    ensures literal { (l : BareLiteral) → need (Lit l) ≡ 1 }
+    ensures empty_set { need (Set no_trees) ≡ 1 }
+    ensures set_of_five { (a b c d e : BareLiteral) → need (Set (tree (Lit a) (tree (Lit b)
+        (tree (Lit c) (tree (Lit d) (tree (Lit e) no_trees)))))) ≡ 5 }
+    ensures if_as_test { (a b c d e : BareLiteral) →
+        need (If (If (Lit a) (Lit b) (Lit c)) (Lit d) (Lit e)) ≡ 3 }
+    ensures if_as_else { (a b c d e : BareLiteral) →
+        need (If (Lit a) (Lit b) (If (Lit c) (Lit d) (Lit e))) ≡ 5 }
 {}

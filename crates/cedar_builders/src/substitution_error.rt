@@ -7,7 +7,7 @@ use std::alloc::{AllocError, Global};
 use thiserror::Error;
 
 /// Why values were not substituted.
-#[derive(Debug, PartialEq, Eq, Drop, Error)]
+#[derive(Debug, Drop, Error)]
 pub enum SubstitutionError {
     /// The value of an unknown has another type than the unknown's annotation says.
     #[error("expected a value of type {expected}, got a value of type {actual}")]
