@@ -5,10 +5,10 @@ use Rattle.std.specs.declared.rc.RcStr.{RcStr}
 use Rattle.std.proofs.lemmas.List.{map-append}
 use Rattle.cedar_builders.specs.BareExpr.{BareExpr, trees_of}
 use Rattle.cedar_builders.specs.Walks as bare
-use Rattle.cedar_builders.specs.Walks.{forward}
+use Rattle.cedar_builders.specs.Walks.{forward, backward}
 use Rattle.cedar_exprs.specs.BareExpr.{bare_expr, bare_expr_kind, bare_step, node_step, fields_at}
-use Rattle.cedar_exprs.specs.Walks.{parts, children, walk, preorder}
-use Rattle.cedar_exprs.specs.declared.expr.Expr.{Expr, Expr-F, fold_out-Expr}
+use Rattle.cedar_exprs.specs.Walks.{parts, children, walk, preorder, positions}
+use Rattle.cedar_exprs.specs.declared.expr.Expr.{Expr, fold_out-Expr}
 use Rattle.cedar_exprs.specs.declared.expr.ExprKind.{ExprKind, ExprKind-F, out-ExprKind, fold_out-ExprKind, map-ExprKind}
 use Rattle.cedar_exprs.proofs.Walks.{walk_is, by_children}
 
@@ -19,6 +19,10 @@ members_of-trees_of (e ∷ es) = ap (λ xs. e ∷ xs) (members_of-trees_of es)
 map-forward : {A B : Type 0} (f : A → B) (xss : List (List A)) → map f (forward xss) ≡ forward (map (map f) xss)
 map-forward f [] = refl
 map-forward f (xs ∷ rest) = map-append f xs (forward rest) ∙ ap (λ ys. map f xs ++ ys) (map-forward f rest)
+
+map-backward : {A B : Type 0} (f : A → B) (xss : List (List A)) → map f (backward xss) ≡ backward (map (map f) xss)
+map-backward f [] = refl
+map-backward f (xs ∷ rest) = map-append f (backward rest) xs ∙ ap (λ ys. ys ++ map f xs) (map-backward f rest)
 
 module _ {T : Type 0} where
   values : (es : List (RcStr Global × Expr T)) → map bare_expr (map (λ e. e.1) es) ≡ bare.values_of (fields_at (map (λ e. (e.0, bare_expr e.1)) es))
@@ -38,14 +42,29 @@ module _ {T : Type 0} where
       ∙ ap bare.children (sym (fold_out-ExprKind T BareExpr BareExpr bare_step node_step e.expr_kind))
       ∙ ap bare.children (sym (fold_out-Expr T BareExpr BareExpr bare_step node_step e))
 
+  -- what a walk gives that puts each node before what its children give, joined
+  module _ (join : List (List (Expr T)) → List (Expr T)) (joined : List (List BareExpr) → List BareExpr) (alike : (xss : List (List (Expr T))) → map bare_expr (join xss) ≡ joined (map (map bare_expr) xss)) where
+    abbrev given : Expr T → List (Expr T)
+    given = walk (λ e below. e ∷ join below)
+
+    abbrev bare_given : BareExpr → List BareExpr
+    bare_given = bare.walk (λ e below. e ∷ joined below)
+
+    all_bare : (es : List (Expr T)) → AllByRecursion (λ e. map bare_expr (given e) ≡ bare_given (bare_expr e)) es → map (map bare_expr) (map given es) ≡ map bare_given (map bare_expr es)
+    all_bare [] h = refl
+    all_bare (e ∷ es) h = rw (h.0, all_bare es h.1) refl
+
+    given_bare : (e : Expr T) → map bare_expr (given e) ≡ bare_given (bare_expr e)
+    given_bare =
+        by_children (λ e. map bare_expr (given e) ≡ bare_given (bare_expr e)) (λ e below.
+        ap (map bare_expr) (walk_is (λ e below. e ∷ join below) e)
+        ∙ ap (λ xs. bare_expr e ∷ xs) (alike (map given (children e)) ∙ ap joined (all_bare (children e) below ∙ ap (map bare_given) (children_bare e)))
+        ∙ sym (bare.walk_is (λ e below. e ∷ joined below) (bare_expr e)))
+
   -- the bare trees in preorder are the preorder of the bare tree
   pub preorder_bare : (e : Expr T) → map bare_expr (preorder e) ≡ bare.preorder (bare_expr e)
-  preorder_bare =
-      by_children (λ e. map bare_expr (preorder e) ≡ bare.preorder (bare_expr e)) (λ e below.
-      ap (map bare_expr) (walk_is (λ e below. e ∷ forward below) e)
-      ∙ ap (λ xs. bare_expr e ∷ xs) (map-forward bare_expr (map preorder (children e)) ∙ ap forward (all (children e) below ∙ ap (map bare.preorder) (children_bare e)))
-      ∙ sym (bare.walk_is (λ e below. e ∷ forward below) (bare_expr e)))
-    where
-      all : (es : List (Expr T)) → AllByRecursion (λ e. map bare_expr (preorder e) ≡ bare.preorder (bare_expr e)) es → map (map bare_expr) (map preorder es) ≡ map bare.preorder (map bare_expr es)
-      all [] h = refl
-      all (e ∷ es) h = rw (h.0, all es h.1) refl
+  preorder_bare = given_bare forward forward (map-forward bare_expr)
+
+  -- the bare trees of the positions are the positions of the bare tree
+  pub positions_bare : (e : Expr T) → map bare_expr (positions e) ≡ bare.positions (bare_expr e)
+  positions_bare = given_bare backward backward (map-backward bare_expr)

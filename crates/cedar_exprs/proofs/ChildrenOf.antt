@@ -1,6 +1,8 @@
 -- The bare trees and the children of expressions with lists of children.
-use Rattle.std.proofs.Common.{◌≡◌, ℕ, List, [], ◌∷◌, map, length, Global, refl, sym, ap, ◌∙◌, subst, BTreeMap, Vec, rules}
+use Rattle.std.proofs.Common.{◌≡◌, ℕ, Bool, List, [], ◌∷◌, map, length, Global, refl, sym, ap, ◌∙◌, subst, BTreeMap, Vec, rules}
 use Rattle.std.proofs.lemmas.List.{length-map}
+use Rattle.std.proofs.lemmas.List.Folds.{list_all-map}
+use Rattle.std.specs.List.{list_all}
 use Rattle.std.specs.declared.rc.Rc.{Rc}
 use Rattle.std.specs.declared.rc.RcStr.{RcStr}
 use Rattle.cedar_names.specs.PlainNames.{bare_name}
@@ -48,6 +50,10 @@ bare_at_is e a t is = bare_kind_of e ∙ (ap bare_expr_kind is ∙ bare_is a t)
 pub members_of-trees_of : (bs : List BareExpr) → members_of (trees_of bs) ≡ bs
 members_of-trees_of [] = refl
 members_of-trees_of (b ∷ bs) = ap (λ cs. b ∷ cs) (members_of-trees_of bs)
+
+-- what holds of all expressions holds of all members
+pub all_members : {T : Type 0} (p : BareExpr → Bool) (es : List (Expr T)) → list_all (λ e. p (bare_expr e)) es ≡ list_all p (members_of (bare_exprs es))
+all_members p es = sym (list_all-map p bare_expr es) ∙ ap (list_all p) (sym (members_of-trees_of (map bare_expr es)))
 
 pub values_of-fields : {T : Type 0} (es : List (RcStr Global × Expr T)) → values_of (bare_fields es) ≡ map (λ e. bare_expr e.1) es
 values_of-fields [] = refl

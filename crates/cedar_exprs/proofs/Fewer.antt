@@ -1,19 +1,27 @@
 -- Steps of a drop.
-use Rattle.std.proofs.Common.{◌≡◌, ℕ, ◌+◌, ◌*◌, ◌≤◌, ◌<◌, suc, sym, ap, ◌∙◌, arith, Global, List, [], ◌∷◌, ◌++◌, BTreeMap, Vec}
+use Rattle.std.proofs.Common.{◌≡◌, ℕ, ◌+◌, ◌*◌, ◌≤◌, ◌<◌, suc, refl, sym, ap, ◌∙◌, arith, Global, List, [], ◌∷◌, ◌++◌, length, true, false, Equal, Some, subst, BTreeMap, Vec}
 use Rattle.std.proofs.Math.Nat.{mul-le-mul_right, suc-mul}
+use Rattle.std.proofs.lemmas.Bool.{false≢true}
+use Rattle.std.proofs.lemmas.Cmp.{nat_list_cmp_total, tied_itself}
+use Rattle.std.specs.BTreeMap.{insert_entry}
+use Rattle.std.specs.List.{slice_get}
+use Rattle.std.specs.Map.{keys_of, values_of}
+use Rattle.std.specs.Option.{is_some, unwrap_or}
+use Rattle.std.specs.Ordering.{match_ordering}
+use Rattle.std.specs.Rc.{rc_with_value, rc_str_bytes}
 use Rattle.std.specs.declared.rc.Rc.{Rc}
 use Rattle.std.specs.declared.rc.RcStr.{RcStr}
 use Rattle.cedar_names.specs.declared.plain_name.Name.{Name}
-use Rattle.cedar_builders.specs.Count.{count, sum, one_more}
+use Rattle.cedar_builders.specs.Count.{count, count_is, sum, one_more}
 use Rattle.cedar_builders.specs.Walks.{walk_all, walk_fields}
-use Rattle.cedar_exprs.specs.BareExpr.{bare_exprs, bare_fields, kind_of}
+use Rattle.cedar_exprs.specs.BareExpr.{bare_expr_kind, bare_exprs, bare_fields, kind_of}
 use Rattle.cedar_exprs.specs.Steps.{nodes, kind_nodes, row_nodes, field_nodes}
 use Rattle.cedar_exprs.specs.declared.expr.Expr.{Expr}
 use Rattle.cedar_exprs.specs.declared.expr.ExprKind.{ExprKind}
 use Rattle.cedar_exprs.specs.declared.expr.ExprKind as kind
 use Rattle.cedar_exprs.proofs.Nodes.{bare_set, bare_record}
 use Rattle.cedar_exprs.proofs.ChildrenOf.{bare_call}
-use Rattle.cedar_exprs.proofs.Records.{bare_kind_of}
+use Rattle.cedar_exprs.proofs.Records.{text_cmp, bare_kind_of}
 
 pub fewer : (n k m j c : ℕ) → m < n → j ≤ m → m ≤ c → m * (c + 1) + j < n * (c + 1) + k
 fewer n k m j c less in_all fits =
@@ -43,6 +51,17 @@ module _ {T : Type 0} where
   pub record_nodes : (k : ExprKind T) (m : Rc (BTreeMap (RcStr Global) (Expr T)) Global) → k ≡ kind.Record m → kind_nodes k ≡ suc (field_nodes m.value.entries)
   record_nodes k m is = ap kind_nodes is ∙ ap count (bare_record m) ∙ ap suc (in_fields m.value.entries)
 
+  -- a kind has a node
+  pub some_nodes : (k : ExprKind T) → 0 < kind_nodes k
+  some_nodes k = let is = count_is (bare_expr_kind k) in omega (arith, is)
+
+  -- a set and a record whose items were written
+  pub written_set : (es : Rc (Vec (Expr T) Global) Global) (v : Vec (Expr T) Global) → kind_nodes (kind.Set (rc_with_value es v)) ≡ suc (row_nodes v.items)
+  written_set es v = set_nodes _ (rc_with_value es v) refl
+
+  pub written_record : (es : Rc (BTreeMap (RcStr Global) (Expr T)) Global) (m : BTreeMap (RcStr Global) (Expr T)) → kind_nodes (kind.Record (rc_with_value es m)) ≡ suc (field_nodes m.entries)
+  written_record es m = record_nodes _ (rc_with_value es m) refl
+
   row-snoc : (es : List (Expr T)) (e : Expr T) → row_nodes (es ++ e ∷ []) ≡ row_nodes es + nodes e
   row-snoc [] e = omega arith
   row-snoc (x ∷ es) e = omega (arith, row-snoc es e)
@@ -54,5 +73,35 @@ module _ {T : Type 0} where
   pub one_pair_off : (all es : List (RcStr Global × Expr T)) (k : RcStr Global) (e : Expr T) → all ≡ (k, e) ∷ es → field_nodes all ≡ field_nodes es + nodes e
   one_pair_off all es k e is = let here = ap field_nodes is in omega (arith, here)
 
+  fields-snoc : (es : List (RcStr Global × Expr T)) (k : RcStr Global) (e : Expr T) → field_nodes (es ++ (k, e) ∷ []) ≡ field_nodes es + nodes e
+  fields-snoc [] k e = omega arith
+  fields-snoc (x ∷ es) k e = omega (arith, fields-snoc es k e)
+
+  -- a record without its last value
+  pub last_pair_off : (all es : List (RcStr Global × Expr T)) (k : RcStr Global) (e : Expr T) → all ≡ es ++ (k, e) ∷ [] → field_nodes all ≡ field_nodes es + nodes e
+  last_pair_off all es k e is = ap field_nodes is ∙ fields-snoc es k e
+
   pub nodes_of : (e : Expr T) (k : ExprKind T) → k ≡ kind_of e → kind_nodes k ≡ nodes e
   nodes_of e k is = ap kind_nodes is ∙ sym (ap count (bare_kind_of e))
+
+  -- a map has a first value, or no nodes
+  pub no_fields : (es : List (RcStr Global × Expr T)) → (0 < length es → false ≡ true) → field_nodes es ≡ 0
+  no_fields [] none = refl
+  no_fields (e ∷ es) none = absurd (false≢true (none (omega arith)))
+
+  pub has_first : (es : List (RcStr Global × Expr T)) (v : Expr T) → slice_get (values_of es) 0 ≡ Some v → nodes v ≤ field_nodes es
+  has_first [] v first = absurd (false≢true (ap is_some first))
+  has_first (e ∷ es) v first = let same : nodes e.1 ≡ nodes v = ap (λ o. nodes (unwrap_or o v)) first in omega (arith, same)
+
+  put_first : (es : List (RcStr Global × Expr T)) (k : RcStr Global) (v w : Expr T) → slice_get (keys_of es) 0 ≡ Some k → slice_get (values_of es) 0 ≡ Some v → field_nodes (insert_entry text_cmp es k w) + nodes v ≡ field_nodes es + nodes w
+  put_first [] k v w key first = absurd (false≢true (ap is_some key))
+  put_first (e ∷ es) k v w key first =
+      let tied : text_cmp k e.0 ≡ Equal = subst (λ x. text_cmp k x ≡ Equal) (sym (ap (λ o. unwrap_or o k) key)) (tied_itself nat_list_cmp_total (rc_str_bytes k)) in
+      let is : insert_entry text_cmp (e ∷ es) k w ≡ (e.0, w) ∷ es = ap (λ o. match_ordering o ((k, w) ∷ e ∷ es) ((e.0, w) ∷ es) (e ∷ insert_entry text_cmp es k w)) tied in
+      let same : nodes e.1 ≡ nodes v = ap (λ o. nodes (unwrap_or o v)) first in
+      omega (arith, ap field_nodes is, same)
+
+  -- the entries of a map whose first value v was replaced by w
+  pub first_replaced : (es fs : List (RcStr Global × Expr T)) (k : RcStr Global) (v w : Expr T) (old new : ExprKind T) → slice_get (keys_of es) 0 ≡ Some k → slice_get (values_of es) 0 ≡ Some v → fs ≡ insert_entry text_cmp es k w → old ≡ kind_of v → new ≡ kind_of w → kind_nodes old + field_nodes fs ≡ field_nodes es + kind_nodes new
+  first_replaced es fs k v w old new key first put before after =
+      omega (arith, put_first es k v w key first, ap field_nodes put, nodes_of v old before, nodes_of w new after)

@@ -13,3 +13,6 @@ pub mod BareWalks
 pub mod NotRestrictedLemmas
 pub mod RecordKeys
 pub mod Running
+pub mod Stacks
+pub mod ShapeWalks
+pub mod RestrictedCalls

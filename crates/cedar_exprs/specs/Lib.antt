@@ -10,3 +10,6 @@ pub mod Children
 pub mod NotRestricted
 pub mod RestrictedExprs
 pub mod Refusals
+pub mod TypedAnswers
+pub mod Iterators
+pub mod ShapeOnly

@@ -1,6 +1,7 @@
 -- The first node of a kind that no restricted expression has (`RestrictedExpr` of Cedar's `restricted_expr.rs`).
 use Rattle.std.specs.Prelude.{◌≡◌, Bool, not, List, map, Option, Some, option_map, IsSome}
 use Rattle.std.specs.List.{find}
+use Rattle.std.specs.Option.{option_and_then}
 use Rattle.cedar_builders.specs.Walks.{forward}
 use Rattle.cedar_builders.specs.Restricted.{is_restricted_node}
 use Rattle.cedar_exprs.specs.BareExpr.{bare_expr, expr_place}
@@ -21,7 +22,7 @@ first_not_restricted e = find is_not_restricted (preorder e)
 abbrev pub first_not_restricted_of : {T : Type 0} → List (Expr T) → Option (Expr T)
 first_not_restricted_of es = find is_not_restricted (forward (map preorder es))
 
--- the error has the place of the node that was found, or there was no memory to copy that place
+-- the error has the place of the node that was found, or that node has a place, and there was no memory to copy it
 abbrev pub IsRefusalOf : {T : Type 0} → Option (Expr T) → RestrictedExprError → Type 0
 IsRefusalOf found (NotRestricted loc) = option_map expr_place found ≡ Some loc
-IsRefusalOf found Memory = IsSome found
+IsRefusalOf found Memory = IsSome (option_and_then expr_place found)

@@ -1,5 +1,5 @@
 //! The builder of expressions (the struct `ExprBuilder` of `expr.rs`).
-ghost use Rattle.std.specs.Prelude.{◌≡◌, None, IfOk, IfErr, OnOk, IsTrue, Ok, map, refl, ⊤};
+ghost use Rattle.std.specs.Prelude.{◌≡◌, None, [], ◌∷◌, IfOk, IfErr, OnOk, IsTrue, codes, Ok, map, refl, ⊤};
 ghost use Rattle.std.specs.Option.{option_copied};
 ghost use Rattle.std.specs.Rc.{rc_str_bytes};
 ghost use Rattle.cedar_names.specs.PlainNames.{bare_name};
@@ -8,13 +8,14 @@ ghost use Rattle.cedar_terms.specs.Literals.{bare_literal, BoolLit};
 ghost use Rattle.cedar_terms.specs.Unknowns.{bare_unknown};
 ghost use Rattle.cedar_builders.specs.BareExpr.{BareExpr, Lit, ExtensionFunctionApp, Set, Record};
 ghost use Rattle.cedar_builders.specs.Keys.{keys_of, are_distinct, meant_pairs, IsRising, HasRepeat, IsFirstRepeat};
-ghost use Rattle.cedar_builders.specs.Errors.{key_of, OnDuplicateKey};
+ghost use Rattle.cedar_builders.specs.Errors.{key_of, context_of, OnDuplicateKey};
 ghost use Rattle.cedar_builders.specs.declared.expression_construction_errors.ExpressionConstructionError.TheVariants as error;
 ghost use Rattle.cedar_builders.specs.Trees.{tree_ops};
 ghost use Rattle.cedar_exprs.specs.BareExpr.{bare_expr, bare_expr_kind, bare_exprs, bare_fields, expr_place, further, unknown_tree};
 ghost use Rattle.cedar_exprs.specs.ExprData.{kind_data, data_trees, values_data, no_data, one_child, two_children, three_children, of_connective};
 ghost use Rattle.cedar_exprs.specs.RecordPairs.{record_fields, record_data};
 ghost use Rattle.cedar_builders.specs.Answers.{never, IfBuilt};
+ghost use Rattle.cedar_exprs.specs.Walks.{children, kind_children};
 ghost use Rattle.cedar_exprs.specs.BuiltNode.{builder_place, builder_data, IsMadeBy};
 
 use crate::expr::{Expr, ExprKind};
@@ -72,7 +73,8 @@ impl<T: Default + Copy> ExprBuilder<T> {
 
     /// The node of this kind, as it stands: nothing is simplified.
     pub fn with_expr_kind(self, expr_kind: ExprKind<T>) -> Expr<T>
-        ensures { IsMadeBy self (bare_expr_kind expr_kind) (kind_data expr_kind) result }
+        ensures node { IsMadeBy self (bare_expr_kind expr_kind) (kind_data expr_kind) result }
+        ensures over { children result ≡ kind_children expr_kind }
     {
         Expr::new(expr_kind, self.source_loc, self.data)
     }
@@ -157,8 +159,9 @@ impl<T: Default + Copy> expr_builder::ExprBuilder for ExprBuilder<T> {
 
     ghost kept_place = { λ place. place };
 
-    ghost makes_unary = { λ b op arg e. IsMadeBy b (tree_ops.unary_of op (bare_expr arg)) (one_child arg)
-        e };
+    ghost makes_unary = { λ b op arg e.
+        IsMadeBy b (tree_ops.unary_of op (bare_expr arg)) (one_child arg) e
+        × (children e ≡ arg ∷ []) };
 
     ghost makes_binary = { λ b op arg1 arg2 e. IsMadeBy b (tree_ops.binary_of op (bare_expr arg1) (bare_expr arg2))
         (two_children arg1 arg2) e };
@@ -278,8 +281,9 @@ impl<T: Default + Copy> expr_builder::ExprBuilder for ExprBuilder<T> {
     }
 
     fn unary_app(self, alloc: Global, op: UnaryOp, arg: Expr<T>) -> Result<Expr<T>, AllocError>
-        ensures { IfOk result
+        ensures node { IfOk result
             (IsMadeBy self (tree_ops.unary_of op (bare_expr arg)) (one_child arg)) }
+        ensures over { IfOk result (λ e. children e ≡ arg ∷ []) }
     {
         Ok(self.with_expr_kind(ExprKind::UnaryApp {
             op,
@@ -406,6 +410,8 @@ impl<T: Default + Copy> expr_builder::ExprBuilder for ExprBuilder<T> {
         ensures distinct { OnOk result (IsTrue (are_distinct (keys_of pairs.items))) }
         ensures refused { IfErr result (OnDuplicateKey
             (λ e. IsFirstRepeat (keys_of pairs.items) (key_of e))) }
+        ensures context { IfErr result (OnDuplicateKey
+            (λ e. context_of e ≡ codes "in record literal")) }
 
         // What the trait asks of every builder.
         ensures means { IsRising (keys_of pairs.items)

@@ -1,6 +1,6 @@
 //! The constructors of expressions without data and places (`expr.rs`): what the builder makes that
 //! has neither.
-ghost use Rattle.std.specs.Prelude.{◌≡◌, IfOk, IfErr, OnOk, IsTrue};
+ghost use Rattle.std.specs.Prelude.{◌≡◌, None, map, [], ◌∷◌, IfOk, IfErr, OnOk, IsTrue, codes};
 ghost use Rattle.std.specs.Rc.{rc_str_bytes};
 ghost use Rattle.cedar_names.specs.PlainNames.{bare_name};
 ghost use Rattle.cedar_terms.specs.Entities.{bare_entity_type};
@@ -8,11 +8,12 @@ ghost use Rattle.cedar_terms.specs.Literals.{bare_literal};
 ghost use Rattle.cedar_terms.specs.Unknowns.{bare_unknown};
 ghost use Rattle.cedar_builders.specs.BareExpr.{ExtensionFunctionApp, Set, Record};
 ghost use Rattle.cedar_builders.specs.Keys.{keys_of, are_distinct, IsFirstRepeat};
-ghost use Rattle.cedar_builders.specs.Errors.{key_of, OnDuplicateKey};
+ghost use Rattle.cedar_builders.specs.Errors.{key_of, context_of, OnDuplicateKey};
 ghost use Rattle.cedar_builders.specs.Trees.{tree_ops};
-ghost use Rattle.cedar_exprs.specs.BareExpr.{bare_expr, bare_exprs, bare_fields, further, unknown_tree};
+ghost use Rattle.cedar_exprs.specs.BareExpr.{bare_expr, bare_exprs, bare_fields, expr_place, further, unknown_tree};
 ghost use Rattle.cedar_exprs.specs.RecordPairs.{record_fields};
 ghost use Rattle.cedar_exprs.specs.BuiltNode.{IsPlain};
+ghost use Rattle.cedar_exprs.specs.Walks.{children};
 
 use crate::builder::ExprBuilder;
 use crate::expr::{Expr, ExprKind};
@@ -97,7 +98,8 @@ impl Expr<()> {
 
     /// An operator on one argument.
     pub fn unary_app(alloc: Global, op: UnaryOp, arg: Expr<()>) -> Result<Expr<()>, AllocError>
-        ensures { IfOk result (IsPlain (tree_ops.unary_of op (bare_expr arg))) }
+        ensures node { IfOk result (IsPlain (tree_ops.unary_of op (bare_expr arg))) }
+        ensures over { IfOk result (λ e. children e ≡ arg ∷ []) }
     {
         ExprBuilder::new().unary_app(alloc, op, arg)
     }
@@ -203,6 +205,8 @@ impl Expr<()> {
         ensures distinct { OnOk result (IsTrue (are_distinct (keys_of pairs.items))) }
         ensures refused { IfErr result (OnDuplicateKey
             (λ e. IsFirstRepeat (keys_of pairs.items) (key_of e))) }
+        ensures context { IfErr result (OnDuplicateKey
+            (λ e. context_of e ≡ codes "in record literal")) }
     {
         ExprBuilder::new().record(alloc, pairs)
     }
@@ -216,7 +220,8 @@ impl Expr<()> {
 
     /// `!arg`.
     pub fn not(alloc: Global, arg: Expr<()>) -> Result<Expr<()>, AllocError>
-        ensures { IfOk result (IsPlain (tree_ops.unary_of UnaryOp.Not (bare_expr arg))) }
+        ensures node { IfOk result (IsPlain (tree_ops.unary_of UnaryOp.Not (bare_expr arg))) }
+        ensures over { IfOk result (λ e. children e ≡ arg ∷ []) }
     {
         Expr::unary_app(alloc, UnaryOp::Not, arg)
     }
@@ -339,32 +344,35 @@ impl Expr<()> {
         Expr::binary_app(alloc, BinaryOp::HasTag, arg1, arg2)
     }
 
-    /// `!(arg1 == arg2)`: two nodes.
+    /// `!(arg1 == arg2)`: two nodes, both without a place.
     pub fn noteq(alloc: Global, arg1: Expr<()>, arg2: Expr<()>) -> Result<Expr<()>, AllocError>
-        ensures { IfOk result
+        ensures node { IfOk result
             (IsPlain
             (tree_ops.unary_of UnaryOp.Not
             (tree_ops.binary_of BinaryOp.Eq (bare_expr arg1) (bare_expr arg2)))) }
+        ensures inner { IfOk result (λ e. map expr_place (children e) ≡ None ∷ []) }
     {
         Expr::not(alloc, Expr::is_eq(alloc, arg1, arg2)?)
     }
 
-    /// `!(arg1 <= arg2)`: two nodes.
+    /// `!(arg1 <= arg2)`: two nodes, both without a place.
     pub fn greater(alloc: Global, arg1: Expr<()>, arg2: Expr<()>) -> Result<Expr<()>, AllocError>
-        ensures { IfOk result
+        ensures node { IfOk result
             (IsPlain
             (tree_ops.unary_of UnaryOp.Not
             (tree_ops.binary_of BinaryOp.LessEq (bare_expr arg1) (bare_expr arg2)))) }
+        ensures inner { IfOk result (λ e. map expr_place (children e) ≡ None ∷ []) }
     {
         Expr::not(alloc, Expr::lesseq(alloc, arg1, arg2)?)
     }
 
-    /// `!(arg1 < arg2)`: two nodes.
+    /// `!(arg1 < arg2)`: two nodes, both without a place.
     pub fn greatereq(alloc: Global, arg1: Expr<()>, arg2: Expr<()>) -> Result<Expr<()>, AllocError>
-        ensures { IfOk result
+        ensures node { IfOk result
             (IsPlain
             (tree_ops.unary_of UnaryOp.Not
             (tree_ops.binary_of BinaryOp.Less (bare_expr arg1) (bare_expr arg2)))) }
+        ensures inner { IfOk result (λ e. map expr_place (children e) ≡ None ∷ []) }
     {
         Expr::not(alloc, Expr::less(alloc, arg1, arg2)?)
     }

@@ -1,11 +1,12 @@
 // Expression trees.
-ghost use Rattle.std.specs.Prelude.{◌≡◌, ℕ, ◌+◌, ◌<◌, suc, IfOk, IfSome};
+ghost use Rattle.std.specs.Prelude.{◌≡◌, ℕ, ◌+◌, ◌<◌, ◌≤◌, suc, IfOk, IfErr, IfSome};
 ghost use Rattle.std.specs.Option.{option_copied};
 ghost use Rattle.cedar_terms.specs.Literals.{bare_literal};
 ghost use Rattle.cedar_builders.specs.Trees.{bool_of, literal_bool};
 ghost use Rattle.cedar_exprs.specs.BareExpr.{bare_expr, bare_expr_kind, kind_of, expr_place, data_of};
 ghost use Rattle.cedar_exprs.specs.ExprData.{data_tree, kind_data};
-ghost use Rattle.cedar_exprs.specs.Steps.{nodes, kind_nodes, if_any, IsStep};
+ghost use Rattle.cedar_exprs.specs.Walks.{children, kind_children};
+ghost use Rattle.cedar_exprs.specs.Steps.{nodes, kind_nodes, if_node, if_row, row_nodes, field_nodes, all_nodes, IsStep};
 
 use cedar_names::{Loc, Name, NonEmpty, SlotId};
 use cedar_terms::{BinaryOp, EntityType, Literal, Pattern, UnaryOp, Unknown, Var};
@@ -109,174 +110,202 @@ impl<T: Drop> Drop for Expr<T> {
     }
 }
 
-// Drops a kind with all that it alone owns, without memory, and without the stack but for rows
-// inside rows.
+// Drops a kind with all that it alone owns, without memory, and without the stack but where a weak
+// pointer keeps a block.
 //
-// A node that is done with, but for some of its children, waits: its own block holds those children
-// and the node that waits below it. So the nodes that wait are a list in blocks that are to be
-// freed anyway.
+// What is not dropped yet waits, in two lists, in blocks that are to be freed anyway. A node that
+// is done with, but for some of its children, waits: its own block holds those children and the
+// node that waits below it. A row (the members of a set, the arguments of a call, the values of a
+// record) waits with the items that it still has: the first of them is the row that waits below it.
 #[cycle(dropped)]
 fn drop_kind<T: Drop>(kind: ExprKind<T>) {
-    let mut kind = kind;
-    let mut waiting: Option<Rc<Expr<T>>> = None;
+    let mut left = Left {
+        kind,
+        waiting: None,
+        rows: None,
+    };
     'down: loop {
-        match enter(kind, waiting) {
-            Step::Down(below, node) => {
-                kind = below;
-                waiting = Some(node);
-            }
-            Step::Through(below, above) => {
-                kind = below;
-                waiting = above;
-            }
-            Step::Shared(rest) => {
-                kind = rest;
-                waiting = None;
-            }
-            // A node with a weak pointer keeps its block, so that the others cannot wait there.
-            Step::Watched(below, rest) => {
+        match enter(left) {
+            Step::Into(next) => left = next,
+            Step::On(next) => left = next,
+            Step::Watched(rest, next) => {
                 drop_kind(rest);
-                kind = below;
-                waiting = None;
+                left = next;
             }
-            Step::Up(next) => {
-                kind = next;
-                waiting = None;
-            }
-            Step::Row(row, above) => {
+            Step::Row(row, next) => {
                 drop_row(row);
-                match next_of(above) {
-                    Some(next) => kind = next,
+                match next {
+                    Some(next) => left = next,
                     None => return,
                 }
-                waiting = None;
             }
-            Step::Fields(fields, above) => {
+            Step::Fields(fields, next) => {
                 drop_fields(fields);
-                match next_of(above) {
-                    Some(next) => kind = next,
+                match next {
+                    Some(next) => left = next,
                     None => return,
                 }
-                waiting = None;
             }
             Step::End => return,
         }
     }
 }
 
+// What a drop has still to do.
+struct Left<T> {
+    // The kind that comes next.
+    kind: ExprKind<T>,
+    // The nodes that wait.
+    waiting: Option<Rc<Expr<T>>>,
+    // The rows that wait, as the set or the record that is the first of them. Nodes go first.
+    rows: Option<ExprKind<T>>,
+}
+
 // A step of a drop.
 enum Step<T> {
-    // The kind of the first child, whose block now holds the rest.
-    Down(ExprKind<T>, Rc<Expr<T>>),
-    // The kind of an only child, and what waits.
-    Through(ExprKind<T>, Option<Rc<Expr<T>>>),
-    // The first child had another owner; this is the rest.
-    Shared(ExprKind<T>),
-    // The first child's kind, and the rest.
-    Watched(ExprKind<T>, ExprKind<T>),
-    // What waited.
-    Up(ExprKind<T>),
-    // Arguments or members, and what waits.
-    Row(Rc<Vec<Expr<T>>>, Option<Rc<Expr<T>>>),
-    // The keys and values of a record, and what waits.
-    Fields(Rc<BTreeMap<RcStr, Expr<T>>>, Option<Rc<Expr<T>>>),
+    // Into a part, beside which the others wait.
+    Into(Left<T>),
+    // A node is gone.
+    On(Left<T>),
+    // A weak pointer keeps the block of a node, so that the children beside it can't wait there:
+    // these, and what is left beside them.
+    Watched(ExprKind<T>, Left<T>),
+    // Items that can't wait, and what is left beside them.
+    Row(Rc<Vec<Expr<T>>>, Option<Left<T>>),
+    // Keys and values that can't wait, and what is left beside them.
+    Fields(Rc<BTreeMap<RcStr, Expr<T>>>, Option<Left<T>>),
     // Nothing is left.
     End,
 }
 
-fn enter<T: Drop>(kind: ExprKind<T>, waiting: Option<Rc<Expr<T>>>) -> Step<T>
-    ensures { IsStep (kind_nodes kind) (kind_nodes kind + if_any waiting) result }
+fn enter<T: Drop>(left: Left<T>) -> Step<T>
+    ensures { IsStep (kind_nodes left.kind) (all_nodes left) result }
 {
+    let Left {
+        kind,
+        waiting,
+        rows,
+    } = left;
     match kind {
         ExprKind::Lit(literal) => {
             drop(literal);
-            go_up(waiting)
+            go_up(waiting, rows)
         }
-        ExprKind::Var(_) => go_up(waiting),
-        ExprKind::Slot(_) => go_up(waiting),
+        ExprKind::Var(_) => go_up(waiting, rows),
+        ExprKind::Slot(_) => go_up(waiting, rows),
         ExprKind::Unknown(unknown) => {
             drop(unknown);
-            go_up(waiting)
+            go_up(waiting, rows)
         }
         ExprKind::If {
             test_expr,
             then_expr,
             else_expr,
-        } => go_down(test_expr, rest_of_two(then_expr, else_expr, waiting)),
-        ExprKind::And { left, right } => go_down(left, rest_of_one(right, waiting)),
-        ExprKind::Or { left, right } => go_down(left, rest_of_one(right, waiting)),
-        ExprKind::UnaryApp { op: _, arg } => go_through(arg, waiting),
-        ExprKind::BinaryApp { op: _, arg1, arg2 } => go_down(arg1, rest_of_one(arg2, waiting)),
+        } => go_down(test_expr, rest_of_two(then_expr, else_expr, waiting), rows),
+        ExprKind::And { left, right } => go_down(left, rest_of_one(right, waiting), rows),
+        ExprKind::Or { left, right } => go_down(left, rest_of_one(right, waiting), rows),
+        ExprKind::UnaryApp { op: _, arg } => go_through(arg, waiting, rows),
+        ExprKind::BinaryApp { op: _, arg1, arg2 } => {
+            go_down(arg1, rest_of_one(arg2, waiting), rows)
+        }
         ExprKind::ExtensionFunctionApp { fn_name, args } => {
             drop(fn_name);
-            Step::Row(args, waiting)
+            open_row(args, waiting, rows)
         }
         ExprKind::GetAttr { expr, attr } => {
             drop(attr);
-            go_through(expr, waiting)
+            go_through(expr, waiting, rows)
         }
         ExprKind::HasAttr { expr, attr } => {
             drop(attr);
-            go_through(expr, waiting)
+            go_through(expr, waiting, rows)
         }
         ExprKind::ExtHasAttr { expr, attrs } => {
             drop(attrs);
-            go_through(expr, waiting)
+            go_through(expr, waiting, rows)
         }
         ExprKind::Like { expr, pattern } => {
             drop(pattern);
-            go_through(expr, waiting)
+            go_through(expr, waiting, rows)
         }
-        ExprKind::Set(members) => Step::Row(members, waiting),
-        ExprKind::Record(fields) => Step::Fields(fields, waiting),
+        ExprKind::Set(members) => open_row(members, waiting, rows),
+        ExprKind::Record(fields) => open_fields(fields, waiting, rows),
         ExprKind::Is { expr, entity_type } => {
             drop(entity_type);
-            go_through(expr, waiting)
+            go_through(expr, waiting, rows)
         }
     }
 }
 
 // Into an only child. Nothing waits for it, so its block is freed at once.
-fn go_through<T: Drop>(child: Rc<Expr<T>>, waiting: Option<Rc<Expr<T>>>) -> Step<T>
-    ensures { IsStep (suc (nodes child.value)) (suc (nodes child.value) + if_any waiting) result }
+fn go_through<T: Drop>(
+    child: Rc<Expr<T>>,
+    waiting: Option<Rc<Expr<T>>>,
+    rows: Option<ExprKind<T>>,
+) -> Step<T>
+    ensures { IsStep (suc (nodes child.value))
+        (suc (nodes child.value) + (if_node waiting + if_row rows)) result }
 {
     match Rc::into_inner(child) {
-        Some(node) => Step::Through(node.into_parts().0, waiting),
-        None => go_up(waiting),
+        Some(node) => Step::On(Left {
+            kind: node.into_parts().0,
+            waiting,
+            rows,
+        }),
+        None => go_up(waiting, rows),
     }
 }
 
 // Into a child, whose block then holds the rest.
-fn go_down<T: Drop>(child: Rc<Expr<T>>, rest: ExprKind<T>) -> Step<T>
-    ensures { IsStep (suc (nodes child.value)) (nodes child.value + kind_nodes rest) result }
+fn go_down<T: Drop>(child: Rc<Expr<T>>, rest: ExprKind<T>, rows: Option<ExprKind<T>>) -> Step<T>
+    ensures { IsStep (suc (nodes child.value))
+        (nodes child.value + kind_nodes rest + if_row rows) result }
 {
     let mut child = child;
     match Rc::get_mut(&mut child) {
         Some(node) => {
             let kind = mem::replace(&mut node.expr_kind, rest);
-            Step::Down(kind, child)
+            Step::Into(Left {
+                kind,
+                waiting: Some(child),
+                rows,
+            })
         }
         None => match Rc::into_inner(child) {
-            Some(node) => Step::Watched(node.into_parts().0, rest),
-            None => Step::Shared(rest),
+            Some(node) => Step::Watched(rest, only(node.into_parts().0, rows)),
+            None => Step::On(only(rest, rows)),
         },
     }
 }
 
 // To what waits.
-fn go_up<T: Drop>(waiting: Option<Rc<Expr<T>>>) -> Step<T>
-    ensures from_leaf { IsStep 1 (suc (if_any waiting)) result }
-    ensures from_any { (k : ℕ) → 0 < k → IsStep k (k + if_any waiting) result }
+fn go_up<T: Drop>(waiting: Option<Rc<Expr<T>>>, rows: Option<ExprKind<T>>) -> Step<T>
+    ensures { (k n : ℕ) → if_node waiting + if_row rows < n → IsStep k n result }
+{
+    match go_on(waiting, rows) {
+        Some(left) => Step::On(left),
+        None => Step::End,
+    }
+}
+
+// What waits: a node, and after all of these a row.
+fn go_on<T: Drop>(waiting: Option<Rc<Expr<T>>>, rows: Option<ExprKind<T>>) -> Option<Left<T>>
+    ensures { IfSome result (λ left. all_nodes left ≤ if_node waiting + if_row rows) }
 {
     match next_of(waiting) {
-        Some(kind) => Step::Up(kind),
-        None => Step::End,
+        Some(kind) => Some(only(kind, rows)),
+        None => match rows {
+            Some(ExprKind::Set(row)) => Some(resume_row(row)),
+            Some(ExprKind::Record(fields)) => Some(resume_fields(fields)),
+            Some(kind) => Some(only(kind, None)),
+            None => None,
+        },
     }
 }
 
 // The kind of a node that waits.
 fn next_of<T: Drop>(waiting: Option<Rc<Expr<T>>>) -> Option<ExprKind<T>>
-    ensures { IfSome result (λ kind. kind_nodes kind ≡ if_any waiting) }
+    ensures { IfSome result (λ kind. kind_nodes kind ≡ if_node waiting) }
 {
     match waiting {
         Some(node) => match Rc::into_inner(node) {
@@ -284,6 +313,157 @@ fn next_of<T: Drop>(waiting: Option<Rc<Expr<T>>>) -> Option<ExprKind<T>>
             None => None,
         },
         None => None,
+    }
+}
+
+// A kind and the rows that wait.
+fn only<T>(kind: ExprKind<T>, rows: Option<ExprKind<T>>) -> Left<T>
+    ensures { all_nodes result ≡ kind_nodes kind + if_row rows }
+{
+    Left {
+        kind,
+        waiting: None,
+        rows,
+    }
+}
+
+// Into an item of a row, which then waits.
+fn open_row<T: Drop>(
+    row: Rc<Vec<Expr<T>>>,
+    waiting: Option<Rc<Expr<T>>>,
+    rows: Option<ExprKind<T>>,
+) -> Step<T>
+    ensures { IsStep (suc (row_nodes row.value.items))
+        (suc (row_nodes row.value.items) + (if_node waiting + if_row rows)) result }
+{
+    let mut row = row;
+    match Rc::get_mut(&mut row) {
+        Some(items) => match take_item(items, rows) {
+            Ok(kind) => Step::Into(Left {
+                kind,
+                waiting,
+                rows: Some(ExprKind::Set(row)),
+            }),
+            Err(rows) => Step::Row(row, go_on(waiting, rows)),
+        },
+        None => Step::Row(row, go_on(waiting, rows)),
+    }
+}
+
+// The kind of an item: of the first, which then stands for the row that waits, or if none waits of
+// the last, which is taken off. The row that waits is given back if there are no items.
+fn take_item<T: Drop>(
+    items: &mut Vec<Expr<T>>,
+    rows: Option<ExprKind<T>>,
+) -> Result<ExprKind<T>, Option<ExprKind<T>>>
+    ensures taken { IfOk result (λ kind. kind_nodes kind + row_nodes items.new.items
+        ≡ row_nodes items.old.items + if_row rows) }
+    ensures smaller { IfOk result (λ kind. kind_nodes kind ≤ row_nodes items.old.items) }
+    ensures returned { IfErr result (λ returned. if_row returned ≡ if_row rows) }
+    ensures empty { IfErr result (λ _. row_nodes items.new.items ≡ 0) }
+{
+    match rows {
+        Some(next) => match items.first_mut() {
+            Some(first) => Ok(mem::replace(&mut first.expr_kind, next)),
+            None => Err(Some(next)),
+        },
+        None => match items.pop() {
+            Some(last) => Ok(last.into_parts().0),
+            None => Err(None),
+        },
+    }
+}
+
+// The last item of a row that waits. If it is the only one, it is taken to be the row that waits
+// below, and the row is done with.
+fn resume_row<T: Drop>(row: Rc<Vec<Expr<T>>>) -> Left<T>
+    ensures { all_nodes result ≡ suc (row_nodes row.value.items) }
+{
+    let mut row = row;
+    match Rc::get_mut(&mut row) {
+        Some(items) => match items.pop() {
+            Some(last) => {
+                let kind = last.into_parts().0;
+                if items.is_empty() {
+                    only(ExprKind::Set(row), Some(kind))
+                } else {
+                    only(kind, Some(ExprKind::Set(row)))
+                }
+            }
+            None => only(ExprKind::Set(row), None),
+        },
+        None => only(ExprKind::Set(row), None),
+    }
+}
+
+// Into a value of a record, which then waits.
+fn open_fields<T: Drop>(
+    fields: Rc<BTreeMap<RcStr, Expr<T>>>,
+    waiting: Option<Rc<Expr<T>>>,
+    rows: Option<ExprKind<T>>,
+) -> Step<T>
+    ensures { IsStep (suc (field_nodes fields.value.entries))
+        (suc (field_nodes fields.value.entries) + (if_node waiting + if_row rows)) result }
+{
+    let mut fields = fields;
+    match Rc::get_mut(&mut fields) {
+        Some(pairs) => match take_value(pairs, rows) {
+            Ok(kind) => Step::Into(Left {
+                kind,
+                waiting,
+                rows: Some(ExprKind::Record(fields)),
+            }),
+            Err(rows) => Step::Fields(fields, go_on(waiting, rows)),
+        },
+        None => Step::Fields(fields, go_on(waiting, rows)),
+    }
+}
+
+// As `take_item`, of a record.
+fn take_value<T: Drop>(
+    pairs: &mut BTreeMap<RcStr, Expr<T>>,
+    rows: Option<ExprKind<T>>,
+) -> Result<ExprKind<T>, Option<ExprKind<T>>>
+    ensures taken { IfOk result (λ kind. kind_nodes kind + field_nodes pairs.new.entries
+        ≡ field_nodes pairs.old.entries + if_row rows) }
+    ensures smaller { IfOk result (λ kind. kind_nodes kind ≤ field_nodes pairs.old.entries) }
+    ensures returned { IfErr result (λ returned. if_row returned ≡ if_row rows) }
+    ensures empty { IfErr result (λ _. field_nodes pairs.new.entries ≡ 0) }
+{
+    match rows {
+        Some(next) => match pairs.first_entry() {
+            Some(first) => Ok(mem::replace(&mut first.into_mut().expr_kind, next)),
+            None => Err(Some(next)),
+        },
+        None => match pairs.pop_last() {
+            Some((key, last)) => {
+                drop(key);
+                Ok(last.into_parts().0)
+            }
+            None => Err(None),
+        },
+    }
+}
+
+// As `resume_row`, of a record.
+fn resume_fields<T: Drop>(fields: Rc<BTreeMap<RcStr, Expr<T>>>) -> Left<T>
+    ensures { all_nodes result ≡ suc (field_nodes fields.value.entries) }
+{
+    let mut fields = fields;
+    match Rc::get_mut(&mut fields) {
+        Some(pairs) => match pairs.pop_last() {
+            Some((key, last)) => {
+                drop(key);
+                let kind = last.into_parts().0;
+                if pairs.is_empty() {
+                    only(ExprKind::Record(fields), Some(kind))
+                } else {
+                    only(kind, Some(ExprKind::Record(fields)))
+                }
+            }
+            None => only(ExprKind::Record(fields), None),
+        },
+        None => only(ExprKind::Record(fields), None),
     }
 }
 
@@ -310,7 +490,7 @@ fn drop_fields<T: Drop>(fields: Rc<BTreeMap<RcStr, Expr<T>>>) {
 
 // A kind with one child, and what waits.
 fn rest_of_one<T>(child: Rc<Expr<T>>, waiting: Option<Rc<Expr<T>>>) -> ExprKind<T>
-    ensures { kind_nodes result ≡ suc (nodes child.value + if_any waiting) }
+    ensures { kind_nodes result ≡ suc (nodes child.value + if_node waiting) }
 {
     match waiting {
         Some(waiting) => ExprKind::And {
@@ -330,7 +510,7 @@ fn rest_of_two<T>(
     second: Rc<Expr<T>>,
     waiting: Option<Rc<Expr<T>>>,
 ) -> ExprKind<T>
-    ensures { kind_nodes result ≡ suc (nodes first.value + nodes second.value + if_any waiting) }
+    ensures { kind_nodes result ≡ suc (nodes first.value + nodes second.value + if_node waiting) }
 {
     match waiting {
         Some(waiting) => ExprKind::If {
@@ -448,6 +628,7 @@ impl<T: Copy> Expr<T> {
     pub fn clone(&self, alloc: Global) -> Result<Expr<T>, AllocError>
         ensures tree { IfOk result (λ e. bare_expr e ≡ bare_expr self.now) }
         ensures place { IfOk result (λ e. expr_place e ≡ expr_place self.now) }
+        ensures children { IfOk result (λ e. children e ≡ children self.now) }
         ensures at_each_position { IfOk result (λ e. data_tree e ≡ data_tree self.now) }
     {
         Ok(Expr::new(
@@ -472,6 +653,7 @@ impl<T: Copy> ExprKind<T> {
     /// A copy, which shares the children.
     pub fn clone(&self, alloc: Global) -> Result<ExprKind<T>, AllocError>
         ensures tree { IfOk result (λ k. bare_expr_kind k ≡ bare_expr_kind self.now) }
+        ensures children { IfOk result (λ k. kind_children k ≡ kind_children self.now) }
         ensures at_each_position { IfOk result (λ k. kind_data k ≡ kind_data self.now) }
     {
         match self {

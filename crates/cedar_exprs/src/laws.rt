@@ -1,17 +1,20 @@
 //! The laws of expressions, and those of substitution over their bare trees.
 //!
 //! A function here does nothing but carry its contract, which is the law.
-ghost use Rattle.std.specs.Prelude.{◌≡◌, ◌↔◌, IsTrue};
+ghost use Rattle.std.specs.Prelude.{◌≡◌, ◌↔◌, ◌∷◌, IsTrue, map};
 ghost use Rattle.cedar_builders.specs.RisingKeys.{KeysRise};
+ghost use Rattle.cedar_builders.specs.Walks as bare;
+ghost use Rattle.cedar_builders.specs.Walks.{forward};
 ghost use Rattle.cedar_exprs.specs.ExprData.{SameData, data_tree};
 ghost use Rattle.cedar_exprs.specs.BareExpr.{bare_expr};
+ghost use Rattle.cedar_exprs.specs.Walks.{children, positions, preorder};
 ghost use Rattle.cedar_exprs.specs.declared.expr.Expr.{Expr};
 
 use crate::children::Children;
 use crate::expr::Expr;
 pub use cedar_builders::laws::{
-    built_after, clash_by_children, rebuilt_twice, restricted_rebuilt, substituted_by_fold,
-    substituted_twice, then_is_both, then_is_not_always_both,
+    built_after, clash_by_children, rebuilt_twice, restricted_rebuilt, shapes_are_ordered,
+    stack_needs, substituted_by_fold, substituted_twice, then_is_both, then_is_not_always_both,
 };
 use std::hash::Hash;
 
@@ -30,6 +33,11 @@ pub fn alike_expressions<T: Hash>()
         → ⟦<Expr<T> as Hash>⟧.hash_input a ≡ ⟦<Expr<T> as Hash>⟧.hash_input b }
 {}
 
+/// The bare trees of the positions of an expression are the positions of its bare tree.
+pub fn bare_positions<T>(expr: &Expr<T>)
+    ensures { map bare_expr (positions expr.now) ≡ bare.positions (bare_expr expr.now) }
+{}
+
 /// The keys of each record in an expression strictly rise, by bytes.
 ///
 /// This one walks the expression, since it is the maps inside that know the order of their keys.
@@ -40,3 +48,10 @@ pub fn record_keys_rise<T>(expr: &Expr<T>)
         record_keys_rise(child);
     }
 }
+
+/// In preorder a node stands before the nodes of its children, the first child first. The bare trees
+/// of these nodes are the nodes of the bare tree.
+pub fn nodes_in_preorder<T>()
+    ensures order { (e : Expr T) → preorder e ≡ e ∷ forward (map preorder (children e)) }
+    ensures trees { (e : Expr T) → map bare_expr (preorder e) ≡ bare.preorder (bare_expr e) }
+{}

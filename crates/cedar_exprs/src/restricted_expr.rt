@@ -1,15 +1,16 @@
 //! Expressions of literals, unknowns, sets, records and calls, and the values that unknowns are
 //! bound to.
-ghost use Rattle.std.specs.Prelude.{◌≡◌, IfOk, MatchResult, IsOk, ◌↔◌};
+ghost use Rattle.std.specs.Prelude.{◌≡◌, IfOk, MatchResult, IsOk, ◌↔◌, map};
+ghost use Rattle.cedar_names.specs.PlainNames.{bare_name};
 ghost use Rattle.cedar_terms.specs.Literals.{bare_literal};
 ghost use Rattle.cedar_terms.specs.Types.{BareType, bare_type, literal_type};
-ghost use Rattle.cedar_builders.specs.BareExpr.{BareExpr, Lit};
+ghost use Rattle.cedar_builders.specs.BareExpr.{BareExpr, ExtensionFunctionApp, Lit, trees_of};
 ghost use Rattle.cedar_builders.specs.Restricted.{IsRestricted};
 ghost use Rattle.cedar_exprs.specs.BareExpr.{bare_expr};
 
 use crate::expr::Expr;
 use crate::not_restricted::first_not_restricted;
-use cedar_names::Loc;
+use cedar_names::{Loc, Name};
 use cedar_terms::{Literal, StaticallyTyped, Type};
 use std::alloc::{AllocError, Global};
 use thiserror::Error;
@@ -41,6 +42,14 @@ impl RestrictedExpr {
         }
     }
 
+    /// The same expression, where the caller knows that it is restricted: it is not walked.
+    pub fn new_unchecked(expr: Expr<()>) -> RestrictedExpr
+        requires { IsRestricted (bare_expr expr) }
+        ensures { expr_of result ≡ expr }
+    {
+        RestrictedExpr { expr }
+    }
+
     /// The expression.
     pub fn as_expr(&self) -> &Expr<()>
         ensures same { result.now ≡ expr_of self.now }
@@ -55,6 +64,28 @@ impl RestrictedExpr {
         ensures restricted { IsRestricted (bare_expr result) }
     {
         self.expr
+    }
+
+    /// The call of an extension function.
+    pub fn call_extension_fn(
+        alloc: Global,
+        fn_name: Name,
+        args: Vec<RestrictedExpr>,
+    ) -> Result<RestrictedExpr, AllocError>
+        ensures { IfOk result (λ r. bare_restricted_expr r
+            ≡ ExtensionFunctionApp (bare_name fn_name)
+            (trees_of (map bare_restricted_expr args.items))) }
+    {
+        let exprs = RestrictedExpr::exprs_of(alloc, args)?;
+        let expr = Expr::call_extension_fn(alloc, fn_name, exprs)?;
+        Ok(RestrictedExpr { expr })
+    }
+
+    // The expressions of those that are consumed.
+    fn exprs_of(alloc: Global, restricted: Vec<RestrictedExpr>) -> Result<Vec<Expr<()>>, AllocError>
+        ensures { IfOk result (λ es. es.items ≡ map expr_of restricted.items) }
+    {
+        restricted.into_iter().map(|r| r.into_expr()).collect(alloc)
     }
 
     // The literal.
@@ -118,7 +149,7 @@ pub enum RestrictedExprError {
     /// in the order of their keys.
     #[error("not a restricted expression")]
     NotRestricted { loc: Option<Loc> },
-    /// There is such a node, and no memory to copy its place.
+    /// There is such a node, which has a place, and no memory to copy it.
     #[error("no memory")]
     Memory,
 }

@@ -1,4 +1,10 @@
 // The hash of what an expression is, whatever its places and data.
+ghost use Rattle.std.specs.Prelude.{◌≡◌, ◌++◌, fold};
+ghost use Rattle.std.specs.Hash as fed;
+ghost use Rattle.cedar_builders.specs.ShapeFeed.{shape_fed, row_fed, fields_fed};
+ghost use Rattle.cedar_builders.specs.Shapes.{kind_number, row_count, field_count};
+ghost use Rattle.cedar_exprs.specs.BareExpr.{bare_expr, bare_expr_kind, bare_exprs, bare_fields};
+
 use crate::expr::{Expr, ExprKind};
 use std::collections::BTreeMap;
 use std::hash::{Hash, Hasher};
@@ -9,14 +15,18 @@ impl<T> Expr<T> {
     /// expressions feed alike.
     ///
     /// The keys of each record are fed in rising order.
-    pub fn hash_shape<H: Hasher>(&self, state: &mut H) {
+    pub fn hash_shape<H: Hasher>(&self, state: &mut H)
+        ensures { state.new ≡ fold H.write state.old (shape_fed (bare_expr self.now)) }
+    {
         hash_shape(self, state)
     }
 }
 
 // Feeds the number of the kind as one byte, then the fields in their order.
 #[cycle(shape)]
-pub(crate) fn hash_shape<T, H: Hasher>(e: &Expr<T>, state: &mut H) {
+pub(crate) fn hash_shape<T, H: Hasher>(e: &Expr<T>, state: &mut H)
+    ensures { state.new ≡ fold H.write state.old (shape_fed (bare_expr e.now)) }
+{
     state.write_u8(kind_number(e.expr_kind()));
     match e.expr_kind() {
         ExprKind::Lit(literal) => literal.hash(state),
@@ -80,7 +90,10 @@ pub(crate) fn hash_shape<T, H: Hasher>(e: &Expr<T>, state: &mut H) {
 
 // Feeds their number, then each.
 #[cycle(shape)]
-fn hash_members<T, H: Hasher>(members: &[Expr<T>], state: &mut H) {
+fn hash_members<T, H: Hasher>(members: &[Expr<T>], state: &mut H)
+    ensures { state.new ≡ fold H.write state.old
+        (fed.usize (row_count (bare_exprs members.now)) ++ row_fed (bare_exprs members.now)) }
+{
     state.write_usize(members.len());
     for member in members {
         hash_shape(member, state);
@@ -89,7 +102,11 @@ fn hash_members<T, H: Hasher>(members: &[Expr<T>], state: &mut H) {
 
 // Feeds their number, then each key with its value.
 #[cycle(shape)]
-fn hash_pairs<T, H: Hasher>(pairs: &BTreeMap<RcStr, Expr<T>>, state: &mut H) {
+fn hash_pairs<T, H: Hasher>(pairs: &BTreeMap<RcStr, Expr<T>>, state: &mut H)
+    ensures { state.new ≡ fold H.write state.old
+        (fed.usize (field_count (bare_fields pairs.now.entries))
+        ++ fields_fed (bare_fields pairs.now.entries)) }
+{
     state.write_usize(pairs.len());
     for (key, value) in pairs.iter() {
         key.hash(state);
@@ -98,7 +115,9 @@ fn hash_pairs<T, H: Hasher>(pairs: &BTreeMap<RcStr, Expr<T>>, state: &mut H) {
 }
 
 // The kind's place in the order of kinds.
-fn kind_number<T>(kind: &ExprKind<T>) -> u8 {
+pub(crate) fn kind_number<T>(kind: &ExprKind<T>) -> u8
+    ensures { result ≡ kind_number (bare_expr_kind kind.now) }
+{
     match kind {
         ExprKind::Lit(_) => 0,
         ExprKind::Var(_) => 1,

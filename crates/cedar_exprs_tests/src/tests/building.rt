@@ -1,7 +1,8 @@
-// What builders make of an expression, before substitution and after, and which refusal comes first.
+// What builders make of an expression, before substitution and after, and which refusal comes
+// first.
 use crate::raw::Raw;
 use crate::refuse_at::{RefuseAt, Refused};
-use crate::tests::samples::{at, bind, bound, call, is_at, record, unknown, x_is_a_call};
+use crate::tests::samples::{at, bind, bound, call, is_at, record, two, unknown, x_is_a_call};
 use crate::tests::stored::Stored;
 use cedar_builders::{BuildFault, ExprBuilder as Builder};
 use cedar_exprs::{Expr, ExprBuilder, ExprKind};
@@ -13,8 +14,8 @@ use std::convert::AsStr;
 use std::rc::{Rc, RcStr};
 use std::test::Fail;
 
-// What the struct's builder makes of an expression. It is called through this function, whose type of data is a
-// parameter: at a concrete one the check of the call's bound does not come to its end.
+// What the struct's builder makes of an expression. It is called through this function, whose type
+// of data is a parameter: at a concrete one the check of the call's bound does not come to its end.
 pub fn rebuild<T: Default + Copy>(alloc: Global, e: &Expr<T>) -> Result<Expr<T>, AllocError> {
     e.into_expr::<ExprBuilder<T>>(alloc)
 }
@@ -37,7 +38,8 @@ fn raw_conjunction(rt: &HostRuntime) -> Result<Expr<()>, Fail> {
     Ok(at(rt, 1)?.with_expr_kind(ExprKind::And { left, right }))
 }
 
-// A raw conjunction of two Boolean literals becomes the literal of the result, unless the builder keeps it.
+// A raw conjunction of two Boolean literals becomes the literal of the result, unless the builder
+// keeps it.
 #[test]
 fn builds_again_with_simplification(rt: HostRuntime) -> Result<(), Fail> {
     let alloc = rt.alloc();
@@ -63,12 +65,12 @@ fn copies_make_the_same(rt: HostRuntime) -> Result<(), Fail> {
 }
 
 // A call without arguments.
-fn plain_call(rt: &HostRuntime, function: &str) -> Result<Expr<()>, Fail> {
+pub fn plain_call(rt: &HostRuntime, function: &str) -> Result<Expr<()>, Fail> {
     call(rt, function, Vec::new(rt.alloc()))
 }
 
 // What the builder that refuses calls without arguments refuses first.
-fn refused(answer: Result<Expr<()>, BuildFault<Refused>>) -> Result<Name, Fail> {
+pub fn refused(answer: Result<Expr<()>, BuildFault<Refused>>) -> Result<Name, Fail> {
     match answer {
         Err(BuildFault::Build(refused)) => Ok(refused.name),
         Err(BuildFault::Memory) => Err(Fail::from("no memory")),
@@ -76,106 +78,160 @@ fn refused(answer: Result<Expr<()>, BuildFault<Refused>>) -> Result<Name, Fail> 
     }
 }
 
-// The same call is refused first before substitution and after, and where x is true.
+// Whether the call of this function is refused first.
+fn is_refused(answer: Result<Expr<()>, BuildFault<Refused>>, first: &str) -> Result<bool, Fail> {
+    Ok(refused(answer)?.basename_as_ref().as_str() == first)
+}
+
+// Whether this call is refused first before substitution and after, also where x is 1.
+fn refuses_first(rt: &HostRuntime, e: Expr<()>, first: &str) -> Result<bool, Fail> {
+    let alloc = rt.alloc();
+    let built = is_refused(e.try_into_expr::<RefuseAt<0>>(alloc), first)?;
+    let values = bound(rt, &[])?;
+    let unbound = e.substitute_into_expr::<RefuseAt<0>, Literal>(alloc, &values);
+    let unbound = is_refused(unbound, first)?;
+    let values = bound(rt, &[("x", 1)])?;
+    let bound = e.substitute_into_expr::<RefuseAt<0>, Literal>(alloc, &values);
+    Ok(built && unbound && is_refused(bound, first)?)
+}
+
 #[test]
 fn the_first_refusal_answers(rt: HostRuntime) -> Result<(), Fail> {
-    let alloc = rt.alloc();
-    let (f, g, h) = (
-        || plain_call(&rt, "f"),
-        || plain_call(&rt, "g"),
-        || plain_call(&rt, "h"),
-    );
-    let x = Expr::unknown(unknown(&rt, "x")?);
-    let cases = vec![in alloc;
-        (record(&rt, g()?, f()?)?, "f"),
-        (call(&rt, "h", vec![in alloc; f()?, g()?]?)?, "f"),
-        (h()?, "h"),
-        (Expr::and(alloc, g()?, f()?)?, "g"),
-        (
-            record(&rt, f()?, Expr::set(alloc, vec![in alloc; h()?, f()?]?)?)?,
-            "h"
-        ),
-        (
-            Expr::ite(alloc, x, call(&rt, "f", vec![in alloc; g()?]?)?, h()?)?,
-            "g"
-        ),
-    ]?;
-    let (nothing, values) = (
-        HashMap::<RcStr, Literal>::new(alloc),
-        bound(&rt, &[("x", 1)])?,
-    );
-    for (e, first) in cases {
-        let built = refused(e.try_into_expr::<RefuseAt<0>>(alloc))?;
-        assert_eq!(rt; built.basename_as_ref().as_str(), first);
-        for values in [&nothing, &values] {
-            let built = refused(e.substitute_into_expr::<RefuseAt<0>, Literal>(alloc, values))?;
-            assert_eq!(rt; built.basename_as_ref().as_str(), first);
-        }
-    }
+    let e = record(&rt, plain_call(&rt, "g")?, plain_call(&rt, "f")?)?;
+    assert!(rt; refuses_first(&rt, e, "f")?);
+    let e = Expr::and(rt.alloc(), plain_call(&rt, "g")?, plain_call(&rt, "f")?)?;
+    assert!(rt; refuses_first(&rt, e, "g")?);
     Ok(())
 }
 
-// Where nothing is refused, what is built after substitution is built of the values: here a tree, compared whole.
 #[test]
-fn builds_what_was_substituted(rt: HostRuntime) -> Result<(), Fail> {
-    let alloc = rt.alloc();
-    let (x, u) = (
-        || Ok::<Expr<()>, Fail>(Expr::unknown(unknown(&rt, "x")?)),
-        || Ok::<Expr<()>, Fail>(Expr::unknown(unknown(&rt, "u")?)),
-    );
-    let one = || Expr::val(Literal::Long(1));
-    let cases = vec![in alloc;
-        (
-            Expr::less(alloc, x()?, u()?)?,
-            Expr::less(alloc, one(), u()?)?
-        ),
-        (
-            Expr::and(alloc, u()?, x()?)?,
-            Expr::and(alloc, u()?, one())?
-        ),
-        (
-            Expr::ite(alloc, u()?, x()?, u()?)?,
-            Expr::ite(alloc, u()?, one(), u()?)?
-        ),
-        (record(&rt, x()?, u()?)?, record(&rt, one(), u()?)?),
-        (
-            Expr::set(alloc, vec![in alloc; x()?, u()?]?)?,
-            Expr::set(alloc, vec![in alloc; one(), u()?]?)?
-        ),
-        (
-            call(&rt, "f", vec![in alloc; u()?, x()?]?)?,
-            call(&rt, "f", vec![in alloc; u()?, one()]?)?
-        ),
-    ]?;
-    let values = bound(&rt, &[("x", 1), ("y", 2)])?;
-    for (e, wanted) in cases {
-        match e.substitute_into_expr::<RefuseAt<0>, Literal>(alloc, &values) {
-            Ok(built) => assert!(rt; built == wanted),
-            Err(_) => assert!(rt; false, "nothing is refused"),
-        }
-    }
+fn an_argument_is_refused_before_its_call(rt: HostRuntime) -> Result<(), Fail> {
+    let args = two(&rt, plain_call(&rt, "f")?, plain_call(&rt, "g")?)?;
+    assert!(rt; refuses_first(&rt, call(&rt, "h", args)?, "f")?);
+    assert!(rt; refuses_first(&rt, plain_call(&rt, "h")?, "h")?);
     Ok(())
 }
 
-// A value's tree is not searched: where x is a call of the unknown z and z is bound too, z stays inside the call. A
-// builder that refuses the call refuses it there.
+#[test]
+fn the_first_refusal_inside_answers(rt: HostRuntime) -> Result<(), Fail> {
+    let members = two(&rt, plain_call(&rt, "h")?, plain_call(&rt, "f")?)?;
+    let set = Expr::set(rt.alloc(), members)?;
+    assert!(rt; refuses_first(&rt, record(&rt, plain_call(&rt, "f")?, set)?, "h")?);
+    let args = vec![in rt.alloc(); plain_call(&rt, "g")?]?;
+    let then = call(&rt, "f", args)?;
+    let x = Expr::unknown(unknown(&rt, "x")?);
+    let e = Expr::ite(rt.alloc(), x, then, plain_call(&rt, "h")?)?;
+    assert!(rt; refuses_first(&rt, e, "g")?);
+    Ok(())
+}
+
+// Whether this is built where nothing is refused and x is 1.
+fn builds(rt: &HostRuntime, e: Expr<()>, wanted: Expr<()>) -> Result<bool, Fail> {
+    let values = bound(rt, &[("x", 1), ("y", 2)])?;
+    match e.substitute_into_expr::<RefuseAt<0>, Literal>(rt.alloc(), &values) {
+        Ok(built) => Ok(built == wanted),
+        Err(_) => Ok(false),
+    }
+}
+
+fn x(rt: &HostRuntime) -> Result<Expr<()>, Fail> {
+    Ok(Expr::unknown(unknown(rt, "x")?))
+}
+
+fn u(rt: &HostRuntime) -> Result<Expr<()>, Fail> {
+    Ok(Expr::unknown(unknown(rt, "u")?))
+}
+
+fn one() -> Expr<()> {
+    Expr::val(Literal::Long(1))
+}
+
+fn less_than_u(rt: &HostRuntime, e: Expr<()>) -> Result<Expr<()>, Fail> {
+    Ok(Expr::less(rt.alloc(), e, u(rt)?)?)
+}
+
+fn u_and(rt: &HostRuntime, e: Expr<()>) -> Result<Expr<()>, Fail> {
+    Ok(Expr::and(rt.alloc(), u(rt)?, e)?)
+}
+
+// Where u holds the expression, else u.
+fn if_u(rt: &HostRuntime, e: Expr<()>) -> Result<Expr<()>, Fail> {
+    Ok(Expr::ite(rt.alloc(), u(rt)?, e, u(rt)?)?)
+}
+
+// What is built after substitution is built of the values: here a tree, compared whole.
+#[test]
+fn builds_operators_of_values(rt: HostRuntime) -> Result<(), Fail> {
+    assert!(rt; builds(&rt, less_than_u(&rt, x(&rt)?)?, less_than_u(&rt, one())?)?);
+    assert!(rt; builds(&rt, u_and(&rt, x(&rt)?)?, u_and(&rt, one())?)?);
+    assert!(rt; builds(&rt, if_u(&rt, x(&rt)?)?, if_u(&rt, one())?)?);
+    Ok(())
+}
+
+fn record_with_u(rt: &HostRuntime, e: Expr<()>) -> Result<Expr<()>, Fail> {
+    record(rt, e, u(rt)?)
+}
+
+fn set_with_u(rt: &HostRuntime, e: Expr<()>) -> Result<Expr<()>, Fail> {
+    Ok(Expr::set(rt.alloc(), two(rt, e, u(rt)?)?)?)
+}
+
+fn call_with_u(rt: &HostRuntime, e: Expr<()>) -> Result<Expr<()>, Fail> {
+    call(rt, "f", two(rt, u(rt)?, e)?)
+}
+
+#[test]
+fn builds_collections_of_values(rt: HostRuntime) -> Result<(), Fail> {
+    assert!(rt;
+        builds(
+            &rt,
+            record_with_u(&rt, x(&rt)?)?,
+            record_with_u(&rt, one())?
+        )?
+    );
+    assert!(rt; builds(&rt, set_with_u(&rt, x(&rt)?)?, set_with_u(&rt, one())?)?);
+    assert!(rt; builds(&rt, call_with_u(&rt, x(&rt)?)?, call_with_u(&rt, one())?)?);
+    Ok(())
+}
+
+fn z(rt: &HostRuntime) -> Result<Expr<()>, Fail> {
+    Ok(Expr::unknown(unknown(rt, "z")?))
+}
+
+// Where x is a call of the unknown z, and z is 1.
+fn x_and_z(rt: &HostRuntime) -> Result<HashMap<RcStr, Stored>, Fail> {
+    let mut values = x_is_a_call(rt)?;
+    bind(rt, &mut values, "z", one())?;
+    Ok(values)
+}
+
+fn set_of_x_and_z(rt: &HostRuntime) -> Result<Expr<()>, Fail> {
+    Ok(Expr::set(rt.alloc(), two(rt, x(rt)?, z(rt)?)?)?)
+}
+
+// A set of the call of z, and of 1.
+fn set_of_the_values(rt: &HostRuntime) -> Result<Expr<()>, Fail> {
+    let called = call(rt, "f", vec![in rt.alloc(); z(rt)?]?)?;
+    Ok(Expr::set(rt.alloc(), two(rt, called, one())?)?)
+}
+
+// A value's tree is not searched: z stays inside the call.
 #[test]
 fn builds_values_as_they_are(rt: HostRuntime) -> Result<(), Fail> {
-    let alloc = rt.alloc();
-    let mut values = x_is_a_call(&rt)?;
-    bind(&rt, &mut values, "z", Expr::val(Literal::Long(1)))?;
-    let z = || Ok::<Expr<()>, Fail>(Expr::unknown(unknown(&rt, "z")?));
-    let e = Expr::set(
-        alloc,
-        vec![in alloc; Expr::unknown(unknown(&rt, "x")?), z()?]?,
-    )?;
-    let called = call(&rt, "f", vec![in alloc; z()?]?)?;
-    let wanted = Expr::set(alloc, vec![in alloc; called, Expr::val(Literal::Long(1))]?)?;
-    match e.substitute_into_expr::<RefuseAt<0>, Stored>(alloc, &values) {
+    let (e, values) = (set_of_x_and_z(&rt)?, x_and_z(&rt)?);
+    let wanted = set_of_the_values(&rt)?;
+    match e.substitute_into_expr::<RefuseAt<0>, Stored>(rt.alloc(), &values) {
         Ok(built) => assert!(rt; built == wanted),
         Err(_) => assert!(rt; false, "nothing is refused"),
     }
-    let first = refused(e.substitute_into_expr::<RefuseAt<1>, Stored>(alloc, &values))?;
-    assert_eq!(rt; first.basename_as_ref().as_str(), "f");
+    Ok(())
+}
+
+// A builder that refuses the call refuses it inside the value too.
+#[test]
+fn refuses_inside_values(rt: HostRuntime) -> Result<(), Fail> {
+    let (e, values) = (set_of_x_and_z(&rt)?, x_and_z(&rt)?);
+    let answer = e.substitute_into_expr::<RefuseAt<1>, Stored>(rt.alloc(), &values);
+    assert!(rt; is_refused(answer, "f")?);
     Ok(())
 }

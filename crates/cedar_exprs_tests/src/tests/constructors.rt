@@ -1,9 +1,11 @@
-// Each constructor and each call of the struct `ExprBuilder` makes its node and has an answer where there is memory.
-use crate::tests::samples::{at, children, is_at, name, text};
+// Each constructor and each call of the struct `ExprBuilder` makes its node and has an answer where
+// there is memory.
+use crate::tests::samples::{anything, at, children_are_at, is_at, name, record, text, two};
 use cedar_builders::ExprBuilder as _;
 use cedar_exprs::{Expr, ExprBuilder, ExprKind};
 use cedar_names::{NonEmpty, SlotId};
-use cedar_terms::{BinaryOp, EntityType, Literal, Pattern, PatternElem, UnaryOp, Unknown, Var};
+use cedar_terms::{BinaryOp, EntityType, Literal, UnaryOp, Unknown, Var};
+use std::alloc::{AllocError, Global};
 use std::collections::BTreeMap;
 use std::rc::{Rc, RcStr};
 use std::test::Fail;
@@ -17,11 +19,11 @@ fn shared(rt: &HostRuntime, e: Expr<()>) -> Result<Rc<Expr<()>>, Fail> {
 }
 
 // Two expressions that no constructor simplifies.
-fn x() -> Expr<()> {
+pub fn x() -> Expr<()> {
     Expr::var(Var::Principal)
 }
 
-fn y() -> Expr<()> {
+pub fn y() -> Expr<()> {
     Expr::var(Var::Resource)
 }
 
@@ -36,7 +38,8 @@ fn binary(rt: &HostRuntime, op: BinaryOp) -> Result<Expr<()>, Fail> {
     Ok(node(ExprKind::BinaryApp { op, arg1, arg2 }))
 }
 
-// The constructor and the builder at 1 make this node, the one without a place and the other with the builder's.
+// The constructor and the builder at 1 make this node, the one without a place and the other with
+// the builder's.
 fn are_both(
     rt: &HostRuntime,
     wanted: &Expr<()>,
@@ -57,7 +60,7 @@ fn u(rt: &HostRuntime) -> Result<Unknown, Fail> {
 }
 
 fn both(rt: &HostRuntime) -> Result<Vec<Expr<()>>, Fail> {
-    Ok(vec![in rt.alloc(); x(), y()]?)
+    two(rt, x(), y())
 }
 
 #[test]
@@ -72,154 +75,158 @@ fn leaves(rt: HostRuntime) -> Result<(), Fail> {
     Ok(())
 }
 
+// What the constructor of the operator makes of x.
+pub fn unary_made(alloc: Global, op: UnaryOp) -> Result<Expr<()>, AllocError> {
+    match op {
+        UnaryOp::Not => Expr::not(alloc, x()),
+        UnaryOp::Neg => Expr::neg(alloc, x()),
+        UnaryOp::IsEmpty => Expr::is_empty(alloc, x()),
+    }
+}
+
+// What the builder's call of the operator makes of the expression.
+pub fn unary_built<T: Default + Copy>(
+    builder: ExprBuilder<T>,
+    alloc: Global,
+    op: UnaryOp,
+    arg: Expr<T>,
+) -> Result<Expr<T>, AllocError> {
+    match op {
+        UnaryOp::Not => builder.not(alloc, arg),
+        UnaryOp::Neg => builder.neg(alloc, arg),
+        UnaryOp::IsEmpty => builder.is_empty(alloc, arg),
+    }
+}
+
 #[test]
 fn operators_on_one_argument(rt: HostRuntime) -> Result<(), Fail> {
-    let alloc = rt.alloc();
-    let b = || at(&rt, 1);
-    let cases = vec![in alloc;
-        (UnaryOp::Not, Expr::not(alloc, x())?, b()?.not(alloc, x())?),
-        (UnaryOp::Neg, Expr::neg(alloc, x())?, b()?.neg(alloc, x())?),
-        (
-            UnaryOp::IsEmpty,
-            Expr::is_empty(alloc, x())?,
-            b()?.is_empty(alloc, x())?
-        ),
-        (
-            UnaryOp::Neg,
-            Expr::unary_app(alloc, UnaryOp::Neg, x())?,
-            b()?.unary_app(alloc, UnaryOp::Neg, x())?
-        ),
-    ]?;
-    for (op, made, built) in cases {
-        assert!(rt;
-            are_both(&rt, &unary(&rt, op, x())?, &made, &built)?,
-            "{op}"
-        );
+    for op in [UnaryOp::Not, UnaryOp::Neg, UnaryOp::IsEmpty] {
+        let wanted = unary(&rt, op, x())?;
+        let made = unary_made(rt.alloc(), op)?;
+        let built = unary_built(at(&rt, 1)?, rt.alloc(), op, x())?;
+        assert!(rt; are_both(&rt, &wanted, &made, &built)?, "{op}");
+    }
+    Ok(())
+}
+
+// What the constructor of the operator makes of x and y.
+pub fn binary_made(alloc: Global, op: BinaryOp) -> Result<Expr<()>, AllocError> {
+    match op {
+        BinaryOp::Eq => Expr::is_eq(alloc, x(), y()),
+        BinaryOp::Less => Expr::less(alloc, x(), y()),
+        BinaryOp::LessEq => Expr::lesseq(alloc, x(), y()),
+        BinaryOp::Add => Expr::add(alloc, x(), y()),
+        BinaryOp::Sub => Expr::sub(alloc, x(), y()),
+        BinaryOp::Mul => Expr::mul(alloc, x(), y()),
+        BinaryOp::In => Expr::is_in(alloc, x(), y()),
+        BinaryOp::Contains => Expr::contains(alloc, x(), y()),
+        BinaryOp::ContainsAll => Expr::contains_all(alloc, x(), y()),
+        BinaryOp::ContainsAny => Expr::contains_any(alloc, x(), y()),
+        BinaryOp::GetTag => Expr::get_tag(alloc, x(), y()),
+        BinaryOp::HasTag => Expr::has_tag(alloc, x(), y()),
+    }
+}
+
+// What the builder's call of the operator makes of the two expressions.
+pub fn binary_built<T: Default + Copy>(
+    builder: ExprBuilder<T>,
+    alloc: Global,
+    op: BinaryOp,
+    arg1: Expr<T>,
+    arg2: Expr<T>,
+) -> Result<Expr<T>, AllocError> {
+    match op {
+        BinaryOp::Eq => builder.is_eq(alloc, arg1, arg2),
+        BinaryOp::Less => builder.less(alloc, arg1, arg2),
+        BinaryOp::LessEq => builder.lesseq(alloc, arg1, arg2),
+        BinaryOp::Add => builder.add(alloc, arg1, arg2),
+        BinaryOp::Sub => builder.sub(alloc, arg1, arg2),
+        BinaryOp::Mul => builder.mul(alloc, arg1, arg2),
+        BinaryOp::In => builder.is_in(alloc, arg1, arg2),
+        BinaryOp::Contains => builder.contains(alloc, arg1, arg2),
+        BinaryOp::ContainsAll => builder.contains_all(alloc, arg1, arg2),
+        BinaryOp::ContainsAny => builder.contains_any(alloc, arg1, arg2),
+        BinaryOp::GetTag => builder.get_tag(alloc, arg1, arg2),
+        BinaryOp::HasTag => builder.has_tag(alloc, arg1, arg2),
+    }
+}
+
+// The operators on two arguments.
+pub const BINARY_OPS: [BinaryOp; 12] = [
+    BinaryOp::Eq,
+    BinaryOp::Less,
+    BinaryOp::LessEq,
+    BinaryOp::Add,
+    BinaryOp::Sub,
+    BinaryOp::Mul,
+    BinaryOp::In,
+    BinaryOp::Contains,
+    BinaryOp::ContainsAll,
+    BinaryOp::ContainsAny,
+    BinaryOp::GetTag,
+    BinaryOp::HasTag,
+];
+
+#[test]
+fn operators_on_two_arguments(rt: HostRuntime) -> Result<(), Fail> {
+    for op in BINARY_OPS {
+        let wanted = binary(&rt, op)?;
+        let made = binary_made(rt.alloc(), op)?;
+        let built = binary_built(at(&rt, 1)?, rt.alloc(), op, x(), y())?;
+        assert!(rt; are_both(&rt, &wanted, &made, &built)?, "{op}");
     }
     Ok(())
 }
 
 #[test]
-fn operators_that_compare_and_calculate(rt: HostRuntime) -> Result<(), Fail> {
+fn operators_by_their_code(rt: HostRuntime) -> Result<(), Fail> {
     let alloc = rt.alloc();
-    let b = || at(&rt, 1);
-    let cases = vec![in alloc;
-        (
-            BinaryOp::Eq,
-            Expr::is_eq(alloc, x(), y())?,
-            b()?.is_eq(alloc, x(), y())?
-        ),
-        (
-            BinaryOp::Less,
-            Expr::less(alloc, x(), y())?,
-            b()?.less(alloc, x(), y())?
-        ),
-        (
-            BinaryOp::LessEq,
-            Expr::lesseq(alloc, x(), y())?,
-            b()?.lesseq(alloc, x(), y())?
-        ),
-        (
-            BinaryOp::Add,
-            Expr::add(alloc, x(), y())?,
-            b()?.add(alloc, x(), y())?
-        ),
-        (
-            BinaryOp::Sub,
-            Expr::sub(alloc, x(), y())?,
-            b()?.sub(alloc, x(), y())?
-        ),
-        (
-            BinaryOp::Mul,
-            Expr::mul(alloc, x(), y())?,
-            b()?.mul(alloc, x(), y())?
-        ),
-    ]?;
-    for (op, made, built) in cases {
-        assert!(rt; are_both(&rt, &binary(&rt, op)?, &made, &built)?, "{op}");
-    }
+    let wanted = unary(&rt, UnaryOp::Neg, x())?;
+    let made = Expr::unary_app(alloc, UnaryOp::Neg, x())?;
+    let built = at(&rt, 1)?.unary_app(alloc, UnaryOp::Neg, x())?;
+    assert!(rt; are_both(&rt, &wanted, &made, &built)?);
+    let any = BinaryOp::ContainsAny;
+    let wanted = binary(&rt, any)?;
+    let made = Expr::binary_app(alloc, any, x(), y())?;
+    let built = at(&rt, 1)?.binary_app(alloc, any, x(), y())?;
+    assert!(rt; are_both(&rt, &wanted, &made, &built)?);
     Ok(())
 }
 
-#[test]
-fn operators_on_sets_and_entities(rt: HostRuntime) -> Result<(), Fail> {
-    let alloc = rt.alloc();
-    let b = || at(&rt, 1);
-    let (all, any) = (BinaryOp::ContainsAll, BinaryOp::ContainsAny);
-    let cases = vec![in alloc;
-        (
-            BinaryOp::In,
-            Expr::is_in(alloc, x(), y())?,
-            b()?.is_in(alloc, x(), y())?
-        ),
-        (
-            BinaryOp::Contains,
-            Expr::contains(alloc, x(), y())?,
-            b()?.contains(alloc, x(), y())?
-        ),
-        (
-            all,
-            Expr::contains_all(alloc, x(), y())?,
-            b()?.contains_all(alloc, x(), y())?
-        ),
-        (
-            any,
-            Expr::contains_any(alloc, x(), y())?,
-            b()?.contains_any(alloc, x(), y())?
-        ),
-        (
-            BinaryOp::GetTag,
-            Expr::get_tag(alloc, x(), y())?,
-            b()?.get_tag(alloc, x(), y())?
-        ),
-        (
-            BinaryOp::HasTag,
-            Expr::has_tag(alloc, x(), y())?,
-            b()?.has_tag(alloc, x(), y())?
-        ),
-        (
-            any,
-            Expr::binary_app(alloc, any, x(), y())?,
-            b()?.binary_app(alloc, any, x(), y())?
-        ),
-    ]?;
-    for (op, made, built) in cases {
-        assert!(rt; are_both(&rt, &binary(&rt, op)?, &made, &built)?, "{op}");
+// What the constructor makes that negates the operator on x and y.
+pub fn negated_made(alloc: Global, op: BinaryOp) -> Result<Expr<()>, AllocError> {
+    match op {
+        BinaryOp::LessEq => Expr::greater(alloc, x(), y()),
+        BinaryOp::Less => Expr::greatereq(alloc, x(), y()),
+        _ => Expr::noteq(alloc, x(), y()),
     }
-    Ok(())
+}
+
+// What the builder's call makes that negates the operator on the two expressions.
+pub fn negated_built<T: Default + Copy>(
+    builder: ExprBuilder<T>,
+    alloc: Global,
+    op: BinaryOp,
+    arg1: Expr<T>,
+    arg2: Expr<T>,
+) -> Result<Expr<T>, AllocError> {
+    match op {
+        BinaryOp::LessEq => builder.greater(alloc, arg1, arg2),
+        BinaryOp::Less => builder.greatereq(alloc, arg1, arg2),
+        _ => builder.noteq(alloc, arg1, arg2),
+    }
 }
 
 // The inner node has the builder's place too.
 #[test]
 fn negated_operators(rt: HostRuntime) -> Result<(), Fail> {
-    let alloc = rt.alloc();
-    let b = || at(&rt, 1);
-    let cases = vec![in alloc;
-        (
-            BinaryOp::Eq,
-            Expr::noteq(alloc, x(), y())?,
-            b()?.noteq(alloc, x(), y())?
-        ),
-        (
-            BinaryOp::LessEq,
-            Expr::greater(alloc, x(), y())?,
-            b()?.greater(alloc, x(), y())?
-        ),
-        (
-            BinaryOp::Less,
-            Expr::greatereq(alloc, x(), y())?,
-            b()?.greatereq(alloc, x(), y())?
-        ),
-    ]?;
-    for (op, made, built) in cases {
+    for op in [BinaryOp::Eq, BinaryOp::LessEq, BinaryOp::Less] {
         let wanted = unary(&rt, UnaryOp::Not, binary(&rt, op)?)?;
+        let made = negated_made(rt.alloc(), op)?;
+        let built = negated_built(at(&rt, 1)?, rt.alloc(), op, x(), y())?;
         assert!(rt; are_both(&rt, &wanted, &made, &built)?, "not {op}");
-        for inner in children(alloc, &made)? {
-            assert!(rt; is_at(&rt, inner, None)?, "not {op}");
-        }
-        for inner in children(alloc, &built)? {
-            assert!(rt; is_at(&rt, inner, Some(1))?, "not {op}");
-        }
+        assert!(rt; children_are_at(&rt, &made, None)?, "not {op}");
+        assert!(rt; children_are_at(&rt, &built, Some(1))?, "not {op}");
     }
     Ok(())
 }
@@ -240,21 +247,24 @@ fn nodes_carry_data(rt: HostRuntime) -> Result<(), Fail> {
     Ok(())
 }
 
+// The expression is this conjunction, and has no place.
+fn is_and(rt: &HostRuntime, made: Expr<()>, left: Expr<()>, right: Expr<()>) -> Result<bool, Fail> {
+    let left = shared(rt, left)?;
+    let right = shared(rt, right)?;
+    Ok(is_node(made, ExprKind::And { left, right }))
+}
+
 #[test]
 fn connectives(rt: HostRuntime) -> Result<(), Fail> {
-    let (left, right) = (shared(&rt, x())?, shared(&rt, y())?);
-    let made = Expr::and(rt.alloc(), x(), y())?;
-    assert!(rt; is_node(made, ExprKind::And { left, right }));
-    let (left, right) = (shared(&rt, x())?, shared(&rt, y())?);
-    let made = Expr::or(rt.alloc(), x(), y())?;
-    assert!(rt; is_node(made, ExprKind::Or { left, right }));
+    assert!(rt; is_and(&rt, Expr::and(rt.alloc(), x(), y())?, x(), y())?);
     let (one, no) = (
         || Expr::val(Literal::Long(1)),
         || Expr::val(Literal::Bool(false)),
     );
-    let (left, right) = (shared(&rt, one())?, shared(&rt, no())?);
-    let made = Expr::and(rt.alloc(), one(), no())?;
-    assert!(rt; is_node(made, ExprKind::And { left, right }));
+    assert!(rt; is_and(&rt, Expr::and(rt.alloc(), one(), no())?, one(), no())?);
+    let (left, right) = (shared(&rt, x())?, shared(&rt, y())?);
+    let made = Expr::or(rt.alloc(), x(), y())?;
+    assert!(rt; is_node(made, ExprKind::Or { left, right }));
     Ok(())
 }
 
@@ -310,11 +320,6 @@ fn paths_of_attributes(rt: HostRuntime) -> Result<(), Fail> {
     Ok(())
 }
 
-fn anything(rt: &HostRuntime) -> Result<Pattern, Fail> {
-    let elems = vec![in rt.alloc(); PatternElem::Wildcard]?;
-    Ok(Pattern::from_vec(rt.alloc(), elems)?)
-}
-
 #[test]
 fn patterns_and_types(rt: HostRuntime) -> Result<(), Fail> {
     let made = Expr::like(rt.alloc(), x(), anything(&rt)?)?;
@@ -343,9 +348,8 @@ fn records(rt: HostRuntime) -> Result<(), Fail> {
     let mut values = BTreeMap::new(rt.alloc());
     drop(values.insert(text(&rt, "b")?, x())?);
     drop(values.insert(text(&rt, "a")?, y())?);
-    let record = Expr::record_arc(Rc::new(rt.alloc(), values)?);
-    let pairs = vec![in rt.alloc(); (text(&rt, "b")?, x()), (text(&rt, "a")?, y())]?;
-    assert!(rt; Expr::record(rt.alloc(), pairs)? == record);
+    let wanted = Expr::record_arc(Rc::new(rt.alloc(), values)?);
+    assert!(rt; record(&rt, x(), y())? == wanted);
     Ok(())
 }
 

@@ -1,11 +1,13 @@
+use crate::tests::samples::record;
 use cedar_builders::expr_builder::ExprBuilder as _;
 use cedar_exprs::laws::*;
 use cedar_exprs::{Expr, ExprBuilder};
 use cedar_names::Loc;
-use cedar_terms::Literal;
+use cedar_terms::{Literal, Var};
 use std::alloc::{AllocError, Global};
 use std::collections::HashSet;
 use std::rc::RcStr;
+use std::test::Fail;
 
 // A text as a literal, with the start of its place and its data.
 fn text_literal(alloc: Global, text: &str, start: usize, data: u8) -> Result<Expr<u8>, AllocError> {
@@ -25,11 +27,26 @@ fn laws_of_the_builder<T: Default + Copy>() {
 fn laws_hold() {
     equal_expressions::<u8>();
     alike_expressions::<u8>();
+    nodes_in_preorder::<u8>();
     laws_of_the_builder::<u8>();
+    clash_by_children();
     rebuilt_twice();
+    restricted_rebuilt();
+    shapes_are_ordered();
+    stack_needs();
     substituted_by_fold();
     then_is_both();
     then_is_not_always_both();
+}
+
+// The laws of one expression: what they walk over is a record in a record.
+#[test]
+fn laws_of_an_expression_hold(rt: HostRuntime) -> Result<(), Fail> {
+    let inner = record(&rt, Expr::var(Var::Action), Expr::var(Var::Context))?;
+    let e = record(&rt, inner, Expr::var(Var::Resource))?;
+    bare_positions(&e);
+    record_keys_rise(&e);
+    Ok(())
 }
 
 #[test]

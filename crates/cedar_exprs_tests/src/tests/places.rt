@@ -1,6 +1,8 @@
 // Places, by start, stop and text: what keeps its own, what brings one, and what has none.
 use crate::tests::building::rebuild;
-use crate::tests::samples::{at, bind, bound, children, each_kind, is_at, place, text, unknown};
+use crate::tests::samples::{
+    at, bind, bound, children, children_are_at, each_kind, is_at, place, text, unknown,
+};
 use crate::tests::stored::Stored;
 use cedar_builders::ExprBuilder as _;
 use cedar_exprs::{Expr, ExprBuilder};
@@ -18,8 +20,8 @@ fn x_is_placed(rt: &HostRuntime) -> Result<HashMap<RcStr, Stored>, Fail> {
     Ok(values)
 }
 
-// The kinds with the place that they have after substitution: a literal, a variable and a slot keep theirs, and a bound
-// unknown has its value's.
+// The kinds with the place that they have after substitution: a literal, a variable and a slot keep
+// theirs, and a bound unknown has its value's.
 fn kinds_with_places(
     rt: &HostRuntime,
     start: usize,
@@ -42,9 +44,7 @@ fn substitution_keeps_and_drops_places(rt: HostRuntime) -> Result<(), Fail> {
         for (e, outer) in kinds_with_places(&rt, 1, &child)? {
             let made = e.substitute(rt.alloc(), &values)?;
             assert!(rt; is_at(&rt, &made, outer)?, "place of {made:?}");
-            for child in children(rt.alloc(), &made)? {
-                assert!(rt; is_at(&rt, child, inner)?, "places in {made:?}");
-            }
+            assert!(rt; children_are_at(&rt, &made, inner)?, "places in {made:?}");
         }
     }
     Ok(())
@@ -59,11 +59,12 @@ fn building_again_keeps_places(rt: HostRuntime) -> Result<(), Fail> {
             let built = rebuild(alloc, &e)?;
             assert!(rt; built == e, "built of {e:?}");
             assert!(rt; is_at(&rt, &built, Some(1))?, "place of {built:?}");
+            assert!(rt;
+                children_are_at(&rt, &built, Some(5))?,
+                "places in {built:?}"
+            );
             for child in children(alloc, &built)? {
-                assert!(rt; is_at(&rt, child, Some(5))?, "places in {built:?}");
-                for leaf in children(alloc, child)? {
-                    assert!(rt; is_at(&rt, leaf, None)?, "places in {built:?}");
-                }
+                assert!(rt; children_are_at(&rt, child, None)?, "places in {built:?}");
             }
         }
     }
@@ -90,7 +91,8 @@ fn spans(rt: &HostRuntime, e: &Expr<()>) -> Result<Vec<Option<(usize, usize)>>, 
     Ok(found)
 }
 
-// After substitution the literal alone has a place, whether x is bound or not; built again, all three keep theirs.
+// After substitution the literal alone has a place, whether x is bound or not; built again, all
+// three keep theirs.
 #[test]
 fn places_of_a_conjunction(rt: HostRuntime) -> Result<(), Fail> {
     let alloc = rt.alloc();
@@ -120,9 +122,7 @@ fn places_are_set(rt: HostRuntime) -> Result<(), Fail> {
         let e = at(&rt, 1)?.not(alloc, at(&rt, 2)?.var(alloc, Var::Action)?)?;
         let e = e.with_maybe_source_loc(loc);
         assert!(rt; is_at(&rt, &e, start)?);
-        for child in children(alloc, &e)? {
-            assert!(rt; is_at(&rt, child, Some(2))?);
-        }
+        assert!(rt; children_are_at(&rt, &e, Some(2))?);
         let other = at(&rt, 3)?.with_same_source_loc(alloc, &e)?;
         assert!(rt; is_at(&rt, &other.var(alloc, Var::Action)?, start)?);
     }

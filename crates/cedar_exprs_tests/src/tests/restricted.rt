@@ -1,5 +1,5 @@
 // Which expressions are refused and at which place, and that the others come back as they are.
-use crate::tests::samples::{at, each_kind, name, text, unknown};
+use crate::tests::samples::{at, each_kind, name, pairs, two, unknown};
 use cedar_builders::ExprBuilder as _;
 use cedar_exprs::{Expr, ExprKind, RestrictedExpr, RestrictedExprError};
 use cedar_terms::{Literal, Var};
@@ -27,15 +27,13 @@ fn call(rt: &HostRuntime, start: usize, args: Vec<Expr<()>>) -> Result<Expr<()>,
 
 // A record with two keys, the later one first.
 fn record(rt: &HostRuntime, start: usize, b: Expr<()>, a: Expr<()>) -> Result<Expr<()>, Fail> {
-    let pairs = vec![in rt.alloc(); (text(rt, "b")?, b), (text(rt, "a")?, a)]?;
-    Ok(at(rt, start)?.record(rt.alloc(), pairs)?)
+    Ok(at(rt, start)?.record(rt.alloc(), pairs(rt, b, a)?)?)
 }
 
 // A tree of the five kinds that are allowed.
 fn allowed(rt: &HostRuntime) -> Result<Expr<()>, Fail> {
-    let alloc = rt.alloc();
-    let members = vec![in alloc; literal(rt, 2)?, open(rt, 3)?]?;
-    let args = vec![in alloc; set(rt, 4, members)?, literal(rt, 5)?]?;
+    let members = two(rt, literal(rt, 2)?, open(rt, 3)?)?;
+    let args = two(rt, set(rt, 4, members)?, literal(rt, 5)?)?;
     record(rt, 1, call(rt, 6, args)?, literal(rt, 7)?)
 }
 
@@ -48,7 +46,8 @@ fn refused_at(rt: &HostRuntime, expr: Expr<()>) -> Result<Option<usize>, Fail> {
     }
 }
 
-// Every other kind is refused where it stands. A call, a set and a record are refused for their children.
+// Every other kind is refused where it stands. A call, a set and a record are refused for their
+// children.
 #[test]
 fn refuses_each_other_kind(rt: HostRuntime) -> Result<(), Fail> {
     let child = variable(&rt, 2)?;
@@ -66,27 +65,35 @@ fn refuses_each_other_kind(rt: HostRuntime) -> Result<(), Fail> {
     Ok(())
 }
 
+// A set in a set, with a variable in each, the inner one first.
+fn nested(rt: &HostRuntime) -> Result<Expr<()>, Fail> {
+    let inner = set(rt, 2, two(rt, literal(rt, 3)?, variable(rt, 4)?)?)?;
+    let mut members = two(rt, literal(rt, 5)?, inner)?;
+    members.push(variable(rt, 6)?)?;
+    set(rt, 1, members)
+}
+
+// A record whose earlier key has a variable inside its value, and whose later key has one for its
+// value.
+fn by_key(rt: &HostRuntime) -> Result<Expr<()>, Fail> {
+    let of_a = set(rt, 3, vec![in rt.alloc(); variable(rt, 4)?]?)?;
+    record(rt, 1, variable(rt, 2)?, of_a)
+}
+
+// A call with two variables behind what is allowed.
+fn by_order(rt: &HostRuntime) -> Result<Expr<()>, Fail> {
+    let mut args = two(rt, allowed(rt)?, open(rt, 2)?)?;
+    args.push(variable(rt, 3)?)?;
+    args.push(variable(rt, 4)?)?;
+    call(rt, 1, args)
+}
+
 #[test]
 fn refuses_at_the_first_place(rt: HostRuntime) -> Result<(), Fail> {
-    let alloc = rt.alloc();
-    let inner = set(&rt, 2, vec![in alloc; literal(&rt, 3)?, variable(&rt, 4)?]?)?;
-    let nested = set(
-        &rt,
-        1,
-        vec![in alloc; literal(&rt, 5)?, inner, variable(&rt, 6)?]?,
-    )?;
-    assert_eq!(rt; refused_at(&rt, nested)?, Some(4));
-    let of_a = set(&rt, 3, vec![in alloc; variable(&rt, 4)?]?)?;
-    let by_key = record(&rt, 1, variable(&rt, 2)?, of_a)?;
-    assert_eq!(rt; refused_at(&rt, by_key)?, Some(4));
-    let args = vec![in alloc;
-        allowed(&rt)?,
-        open(&rt, 2)?,
-        variable(&rt, 3)?,
-        variable(&rt, 4)?,
-    ]?;
-    assert_eq!(rt; refused_at(&rt, call(&rt, 1, args)?)?, Some(3));
-    let unplaced = vec![in alloc; Expr::var(Var::Action), variable(&rt, 2)?]?;
+    assert_eq!(rt; refused_at(&rt, nested(&rt)?)?, Some(4));
+    assert_eq!(rt; refused_at(&rt, by_key(&rt)?)?, Some(4));
+    assert_eq!(rt; refused_at(&rt, by_order(&rt)?)?, Some(3));
+    let unplaced = two(&rt, Expr::var(Var::Action), variable(&rt, 2)?)?;
     assert_eq!(rt; refused_at(&rt, set(&rt, 1, unplaced)?)?, None);
     Ok(())
 }

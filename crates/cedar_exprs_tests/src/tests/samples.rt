@@ -45,6 +45,14 @@ pub fn unknown(rt: &HostRuntime, name: &str) -> Result<Unknown, Fail> {
     Ok(Unknown::new_untyped(text(rt, name)?))
 }
 
+// Two items. A `vec!` with a `?` in several of its items takes the checker minutes.
+pub fn two<T: Drop>(rt: &HostRuntime, first: T, second: T) -> Result<Vec<T>, Fail> {
+    let mut items = Vec::new(rt.alloc());
+    items.push(first)?;
+    items.push(second)?;
+    Ok(items)
+}
+
 // A call without a place.
 pub fn call(rt: &HostRuntime, function: &str, args: Vec<Expr<()>>) -> Result<Expr<()>, Fail> {
     Ok(Expr::call_extension_fn(rt.alloc(), name(rt, function)?, args)?)
@@ -52,8 +60,16 @@ pub fn call(rt: &HostRuntime, function: &str, args: Vec<Expr<()>>) -> Result<Exp
 
 // A record of two keys without a place, made from the later key to the earlier.
 pub fn record(rt: &HostRuntime, b: Expr<()>, a: Expr<()>) -> Result<Expr<()>, Fail> {
-    let pairs = vec![in rt.alloc(); (text(rt, "b")?, b), (text(rt, "a")?, a)]?;
-    Ok(Expr::record(rt.alloc(), pairs)?)
+    Ok(Expr::record(rt.alloc(), pairs(rt, b, a)?)?)
+}
+
+// Two pairs, from the later key to the earlier.
+pub fn pairs<T: Drop>(
+    rt: &HostRuntime,
+    b: Expr<T>,
+    a: Expr<T>,
+) -> Result<Vec<(RcStr, Expr<T>)>, Fail> {
+    two(rt, (text(rt, "b")?, b), (text(rt, "a")?, a))
 }
 
 // A map that binds each name to the integer.
@@ -90,69 +106,167 @@ pub fn x_is_a_call(rt: &HostRuntime) -> Result<HashMap<RcStr, Stored>, Fail> {
     Ok(values)
 }
 
-// An expression of each kind, by their numbers, with the place that starts here. Each child is a copy of the given one.
+// An expression of each kind, by their numbers, with the place that starts here. Each child is a
+// copy of the given one.
 pub fn each_kind(rt: &HostRuntime, start: usize, child: &Expr<()>) -> Result<Vec<Expr<()>>, Fail> {
-    let mut kinds = vec![in rt.alloc();
-        at(rt, start)?.val(rt.alloc(), Literal::Long(7))?,
-        at(rt, start)?.var(rt.alloc(), Var::Context)?,
-        at(rt, start)?.slot(rt.alloc(), SlotId::resource())?,
-        at(rt, start)?.unknown(rt.alloc(), unknown(rt, "u")?)?,
-    ]?;
-    push_operators(rt, start, child, &mut kinds)?;
-    push_attributes(rt, start, child, &mut kinds)?;
-    push_collections(rt, start, child, &mut kinds)?;
-    let entity_type = EntityType::from(name(rt, "E")?);
-    let child = child.clone(rt.alloc())?;
-    kinds.push(at(rt, start)?.is_entity_type(rt.alloc(), child, entity_type)?)?;
+    each_kind_by(rt, &at(rt, start)?, child)
+}
+
+// The same by copies of any builder.
+pub fn each_kind_by<T: Default + Copy>(
+    rt: &HostRuntime,
+    builder: &ExprBuilder<T>,
+    child: &Expr<T>,
+) -> Result<Vec<Expr<T>>, Fail> {
+    let mut kinds = Vec::new(rt.alloc());
+    push_leaves(rt, builder, &mut kinds)?;
+    push_connectives(rt.alloc(), builder, child, &mut kinds)?;
+    push_operators(rt.alloc(), builder, child, &mut kinds)?;
+    push_call(rt, builder, child, &mut kinds)?;
+    push_attributes(rt, builder, child, &mut kinds)?;
+    push_tests(rt, builder, child, &mut kinds)?;
+    push_collections(rt, builder, child, &mut kinds)?;
+    push_type(rt, builder, child, &mut kinds)?;
     Ok(kinds)
 }
 
-fn push_operators(
+fn push_leaves<T: Default + Copy>(
     rt: &HostRuntime,
-    start: usize,
-    child: &Expr<()>,
-    kinds: &mut Vec<Expr<()>>,
+    builder: &ExprBuilder<T>,
+    kinds: &mut Vec<Expr<T>>,
 ) -> Result<(), Fail> {
     let alloc = rt.alloc();
-    let c = || child.clone(alloc);
-    kinds.push(at(rt, start)?.ite(alloc, c()?, c()?, c()?)?)?;
-    kinds.push(at(rt, start)?.and(alloc, c()?, c()?)?)?;
-    kinds.push(at(rt, start)?.or(alloc, c()?, c()?)?)?;
-    kinds.push(at(rt, start)?.unary_app(alloc, UnaryOp::Not, c()?)?)?;
-    kinds.push(at(rt, start)?.binary_app(alloc, BinaryOp::Eq, c()?, c()?)?)?;
-    let args = vec![in alloc; c()?, c()?]?;
-    kinds.push(at(rt, start)?.call_extension_fn(alloc, name(rt, "f")?, args)?)?;
+    kinds.push(builder.clone(alloc)?.val(alloc, Literal::Long(7))?)?;
+    kinds.push(builder.clone(alloc)?.var(alloc, Var::Context)?)?;
+    kinds.push(builder.clone(alloc)?.slot(alloc, SlotId::resource())?)?;
+    kinds.push(builder.clone(alloc)?.unknown(alloc, unknown(rt, "u")?)?)?;
     Ok(())
 }
 
-fn push_attributes(
-    rt: &HostRuntime,
-    start: usize,
-    child: &Expr<()>,
-    kinds: &mut Vec<Expr<()>>,
+// Two copies.
+fn copies<T: Copy>(alloc: Global, child: &Expr<T>) -> Result<(Expr<T>, Expr<T>), AllocError> {
+    let first = child.clone(alloc)?;
+    Ok((first, child.clone(alloc)?))
+}
+
+fn push_connectives<T: Default + Copy>(
+    alloc: Global,
+    builder: &ExprBuilder<T>,
+    child: &Expr<T>,
+    kinds: &mut Vec<Expr<T>>,
 ) -> Result<(), Fail> {
-    let alloc = rt.alloc();
-    let c = || child.clone(alloc);
-    kinds.push(at(rt, start)?.get_attr(alloc, c()?, text(rt, "a")?)?)?;
-    kinds.push(at(rt, start)?.has_attr(alloc, c()?, text(rt, "a")?)?)?;
-    let attrs = NonEmpty::new(text(rt, "a")?, vec![in alloc; text(rt, "b")?]?);
-    kinds.push(at(rt, start)?.extended_has_attr(alloc, c()?, attrs)?)?;
-    let pattern = Pattern::from_vec(alloc, vec![in alloc; PatternElem::Wildcard]?)?;
-    kinds.push(at(rt, start)?.like(alloc, c()?, pattern)?)?;
+    let (first, second) = copies(alloc, child)?;
+    let test = child.clone(alloc)?;
+    kinds.push(builder.clone(alloc)?.ite(alloc, test, first, second)?)?;
+    let (left, right) = copies(alloc, child)?;
+    kinds.push(builder.clone(alloc)?.and(alloc, left, right)?)?;
+    let (left, right) = copies(alloc, child)?;
+    kinds.push(builder.clone(alloc)?.or(alloc, left, right)?)?;
     Ok(())
 }
 
-fn push_collections(
+fn push_operators<T: Default + Copy>(
+    alloc: Global,
+    builder: &ExprBuilder<T>,
+    child: &Expr<T>,
+    kinds: &mut Vec<Expr<T>>,
+) -> Result<(), Fail> {
+    let arg = child.clone(alloc)?;
+    kinds.push(builder.clone(alloc)?.unary_app(alloc, UnaryOp::Not, arg)?)?;
+    let (left, right) = copies(alloc, child)?;
+    kinds.push(
+        builder
+            .clone(alloc)?
+            .binary_app(alloc, BinaryOp::Eq, left, right)?,
+    )?;
+    Ok(())
+}
+
+fn push_call<T: Default + Copy>(
     rt: &HostRuntime,
-    start: usize,
-    child: &Expr<()>,
-    kinds: &mut Vec<Expr<()>>,
+    builder: &ExprBuilder<T>,
+    child: &Expr<T>,
+    kinds: &mut Vec<Expr<T>>,
+) -> Result<(), Fail> {
+    let (first, second) = copies(rt.alloc(), child)?;
+    let args = two(rt, first, second)?;
+    let builder = builder.clone(rt.alloc())?;
+    kinds.push(builder.call_extension_fn(rt.alloc(), name(rt, "f")?, args)?)?;
+    Ok(())
+}
+
+fn push_attributes<T: Default + Copy>(
+    rt: &HostRuntime,
+    builder: &ExprBuilder<T>,
+    child: &Expr<T>,
+    kinds: &mut Vec<Expr<T>>,
 ) -> Result<(), Fail> {
     let alloc = rt.alloc();
-    let c = || child.clone(alloc);
-    kinds.push(at(rt, start)?.set(alloc, vec![in alloc; c()?, c()?]?)?)?;
-    let pairs = vec![in alloc; (text(rt, "b")?, c()?), (text(rt, "a")?, c()?)]?;
-    kinds.push(at(rt, start)?.record(alloc, pairs)?)?;
+    let expr = child.clone(alloc)?;
+    kinds.push(builder.clone(alloc)?.get_attr(alloc, expr, text(rt, "a")?)?)?;
+    let expr = child.clone(alloc)?;
+    kinds.push(builder.clone(alloc)?.has_attr(alloc, expr, text(rt, "a")?)?)?;
+    Ok(())
+}
+
+// The attributes `a` and `b`.
+pub fn a_and_b(rt: &HostRuntime) -> Result<NonEmpty<RcStr>, Fail> {
+    let further = vec![in rt.alloc(); text(rt, "b")?]?;
+    Ok(NonEmpty::new(text(rt, "a")?, further))
+}
+
+// The pattern of one wildcard.
+pub fn anything(rt: &HostRuntime) -> Result<Pattern, Fail> {
+    let elems = vec![in rt.alloc(); PatternElem::Wildcard]?;
+    Ok(Pattern::from_vec(rt.alloc(), elems)?)
+}
+
+fn push_tests<T: Default + Copy>(
+    rt: &HostRuntime,
+    builder: &ExprBuilder<T>,
+    child: &Expr<T>,
+    kinds: &mut Vec<Expr<T>>,
+) -> Result<(), Fail> {
+    let alloc = rt.alloc();
+    let expr = child.clone(alloc)?;
+    kinds.push(
+        builder
+            .clone(alloc)?
+            .extended_has_attr(alloc, expr, a_and_b(rt)?)?,
+    )?;
+    let expr = child.clone(alloc)?;
+    kinds.push(builder.clone(alloc)?.like(alloc, expr, anything(rt)?)?)?;
+    Ok(())
+}
+
+fn push_collections<T: Default + Copy>(
+    rt: &HostRuntime,
+    builder: &ExprBuilder<T>,
+    child: &Expr<T>,
+    kinds: &mut Vec<Expr<T>>,
+) -> Result<(), Fail> {
+    let alloc = rt.alloc();
+    let (first, second) = copies(alloc, child)?;
+    kinds.push(builder.clone(alloc)?.set(alloc, two(rt, first, second)?)?)?;
+    let (b, a) = copies(alloc, child)?;
+    kinds.push(builder.clone(alloc)?.record(alloc, pairs(rt, b, a)?)?)?;
+    Ok(())
+}
+
+fn push_type<T: Default + Copy>(
+    rt: &HostRuntime,
+    builder: &ExprBuilder<T>,
+    child: &Expr<T>,
+    kinds: &mut Vec<Expr<T>>,
+) -> Result<(), Fail> {
+    let alloc = rt.alloc();
+    let entity_type = EntityType::from(name(rt, "E")?);
+    let expr = child.clone(alloc)?;
+    kinds.push(
+        builder
+            .clone(alloc)?
+            .is_entity_type(alloc, expr, entity_type)?,
+    )?;
     Ok(())
 }
 
@@ -201,4 +315,14 @@ pub fn children(alloc: Global, e: &Expr<()>) -> Result<Vec<&Expr<()>>, AllocErro
         }
     }
     Ok(found)
+}
+
+// Each child of the outermost node has the place that starts here, or none.
+pub fn children_are_at(rt: &HostRuntime, e: &Expr<()>, start: Option<usize>) -> Result<bool, Fail> {
+    for child in children(rt.alloc(), e)? {
+        if !is_at(rt, child, start)? {
+            return Ok(false);
+        }
+    }
+    Ok(true)
 }

@@ -1,7 +1,8 @@
 // What is refused for its type, what is let through, and that the tree of a value is not searched.
-use crate::tests::samples::{bind, bound, call, record, text, unknown, x_is_a_call};
+use crate::tests::samples::{bind, bound, call, record, text, two, unknown, x_is_a_call};
 use cedar_exprs::{Expr, SubstitutionError};
 use cedar_terms::{Literal, Type, Unknown};
+use std::alloc::Global;
 use std::test::Fail;
 
 fn annotated(rt: &HostRuntime, name: &str, ty: Type) -> Result<Expr<()>, Fail> {
@@ -16,16 +17,35 @@ fn clash(expected: Type, actual: Type) -> SubstitutionError {
     SubstitutionError::TypeError { expected, actual }
 }
 
+// Where this type was expected, and that of an integer came.
+fn is_clash(error: &SubstitutionError, wanted: Type) -> bool {
+    match error {
+        SubstitutionError::TypeError { expected, actual } => {
+            *expected == wanted && *actual == Type::Long
+        }
+        SubstitutionError::Memory => false,
+    }
+}
+
+// Where x and y are integers, this type was expected.
+fn expects(rt: &HostRuntime, e: Expr<()>, wanted: Type) -> Result<bool, Fail> {
+    let values = bound(rt, &[("x", 1), ("y", 2)])?;
+    match e.substitute_typed(rt.alloc(), &values) {
+        Ok(_) => Ok(false),
+        Err(error) => Ok(is_clash(&error, wanted)),
+    }
+}
+
 #[test]
 fn refuses_another_type(rt: HostRuntime) -> Result<(), Fail> {
     let alloc = rt.alloc();
-    let foo = annotated(&rt, "foo", Type::Bool)?;
-    let values = bound(&rt, &[("foo", 1)])?;
-    assert!(rt; foo.substitute(alloc, &values)? == Expr::val(Literal::Long(1)));
-    assert!(rt; foo.substitute_typed(alloc, &values) == Err(clash(Type::Bool, Type::Long)));
+    let x = annotated(&rt, "x", Type::Bool)?;
+    let values = bound(&rt, &[("x", 1)])?;
+    assert!(rt; x.substitute(alloc, &values)? == Expr::val(Literal::Long(1)));
     let none = bound(&rt, &[])?;
-    assert!(rt; foo.substitute(alloc, &none)? == foo);
-    assert!(rt; foo.substitute_typed(alloc, &none) == Ok(annotated(&rt, "foo", Type::Bool)?));
+    assert!(rt; x.substitute(alloc, &none)? == x);
+    assert!(rt; x.substitute_typed(alloc, &none)? == x);
+    assert!(rt; expects(&rt, x, Type::Bool)?);
     Ok(())
 }
 
@@ -33,8 +53,8 @@ fn refuses_another_type(rt: HostRuntime) -> Result<(), Fail> {
 fn lets_equal_types_and_none_through(rt: HostRuntime) -> Result<(), Fail> {
     let alloc = rt.alloc();
     let values = bound(&rt, &[("x", 1)])?;
-    for x in vec![in alloc; plain(&rt, "x")?, annotated(&rt, "x", Type::Long)?]? {
-        assert!(rt; x.substitute_typed(alloc, &values) == Ok(Expr::val(Literal::Long(1))));
+    for x in two(&rt, plain(&rt, "x")?, annotated(&rt, "x", Type::Long)?)? {
+        assert!(rt; x.substitute_typed(alloc, &values)? == Expr::val(Literal::Long(1)));
     }
     Ok(())
 }
@@ -49,12 +69,6 @@ fn y(rt: &HostRuntime) -> Result<Expr<()>, Fail> {
 
 fn free(rt: &HostRuntime) -> Result<Expr<()>, Fail> {
     annotated(rt, "z", Type::Set)
-}
-
-// Where x and y are integers, this type was expected.
-fn expects(rt: &HostRuntime, e: Expr<()>, expected: Type) -> Result<bool, Fail> {
-    let values = bound(rt, &[("x", 1), ("y", 2)])?;
-    Ok(e.substitute_typed(rt.alloc(), &values) == Err(clash(expected, Type::Long)))
 }
 
 // The first of two clashes, by the order of children.
@@ -91,7 +105,7 @@ fn refuses_the_leftmost(rt: HostRuntime) -> Result<(), Fail> {
 // The same inside a call in a set, and by the keys of a record.
 #[test]
 fn refuses_the_leftmost_of_many(rt: HostRuntime) -> Result<(), Fail> {
-    let members = vec![in rt.alloc(); call_of(&rt, x(&rt)?)?, y(&rt)?]?;
+    let members = two(&rt, call_of(&rt, x(&rt)?)?, y(&rt)?)?;
     assert!(rt; expects(&rt, Expr::set(rt.alloc(), members)?, Type::Bool)?);
     assert!(rt; expects(&rt, record(&rt, x(&rt)?, y(&rt)?)?, Type::String)?);
     Ok(())
@@ -110,7 +124,7 @@ fn does_not_search_values(rt: HostRuntime) -> Result<(), Fail> {
     let x = plain(&rt, "x")?;
     let called = call_of(&rt, plain(&rt, "z")?)?;
     assert!(rt; x.substitute(rt.alloc(), &values)? == called);
-    assert!(rt; x.substitute_typed(rt.alloc(), &values) == Ok(called));
+    assert!(rt; x.substitute_typed(rt.alloc(), &values)? == called);
     Ok(())
 }
 
@@ -124,17 +138,30 @@ fn then_is_not_both(rt: HostRuntime) -> Result<(), Fail> {
     Ok(())
 }
 
+fn says(alloc: Global, error: &SubstitutionError, wanted: &str) -> Result<bool, Fail> {
+    Ok(error.to_string(alloc)?.as_str() == wanted)
+}
+
 #[test]
 fn says_which_types(rt: HostRuntime) -> Result<(), Fail> {
-    let alloc = rt.alloc();
     let error = clash(Type::String, Type::Long);
-    assert_eq!(rt;
-        error.to_string(alloc)?.as_str(),
-        "expected a value of type string, got a value of type long"
-    );
-    assert!(rt; error.clone(alloc)? == error);
-    let memory = SubstitutionError::Memory;
-    assert_eq!(rt; memory.to_string(alloc)?.as_str(), "no memory");
-    assert!(rt; memory.clone(alloc)? == memory);
+    let wanted = "expected a value of type string, got a value of type long";
+    assert!(rt; says(rt.alloc(), &error, wanted)?);
+    assert!(rt; says(rt.alloc(), &SubstitutionError::Memory, "no memory")?);
+    Ok(())
+}
+
+fn is_memory(error: &SubstitutionError) -> bool {
+    match error {
+        SubstitutionError::TypeError { .. } => false,
+        SubstitutionError::Memory => true,
+    }
+}
+
+#[test]
+fn copies_say_the_same(rt: HostRuntime) -> Result<(), Fail> {
+    let error = clash(Type::String, Type::Long);
+    assert!(rt; is_clash(&error.clone(rt.alloc())?, Type::String));
+    assert!(rt; is_memory(&SubstitutionError::Memory.clone(rt.alloc())?));
     Ok(())
 }

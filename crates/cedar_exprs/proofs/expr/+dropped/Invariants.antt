@@ -1,5 +1,5 @@
 use Rattle.std.proofs.Common.{◌+◌, ◌*◌, ◌≤◌, length, vec_len}
-use Rattle.cedar_exprs.specs.Steps.{kind_nodes, if_any, row_nodes, field_nodes}
+use Rattle.cedar_exprs.specs.Steps.{kind_nodes, row_nodes, field_nodes, all_nodes}
 use Rattle.cedar_exprs.proofs.expr.+dropped.Given as goal
 
 abbrev pub decreases-drop_kind : goal.decreases-drop_kind
@@ -13,11 +13,11 @@ decreases-drop_fields g l = 2 * field_nodes l.fields.value.entries + 1
 
 -- no more nodes are left than there were
 abbrev pub invariant-drop_kind-down : goal.invariant-drop_kind-down
-invariant-drop_kind-down g l = kind_nodes l.kind + if_any l.waiting ≤ kind_nodes l.fn.kind
+invariant-drop_kind-down g l = all_nodes l.left ≤ kind_nodes l.fn.kind
 
 -- each step leaves fewer nodes, or as many and a smaller kind
 abbrev pub decreases-drop_kind-down : goal.decreases-drop_kind-down
-decreases-drop_kind-down g l = (kind_nodes l.kind + if_any l.waiting) * (kind_nodes l.fn.kind + 1) + kind_nodes l.kind
+decreases-drop_kind-down g l = all_nodes l.left * (kind_nodes l.fn.kind + 1) + kind_nodes l.left.kind
 
 abbrev pub invariant-drop_row-each : goal.invariant-drop_row-each
 invariant-drop_row-each g l = row_nodes l.row.items ≤ row_nodes l.initial.row.items

@@ -1,0 +1,37 @@
+// A hasher that keeps the first byte which it is fed, and the number of bytes.
+ghost use Rattle.std.specs.Prelude.{◌≡◌};
+ghost use Rattle.cedar_exprs_tests.specs.Recording.{recorded};
+
+use std::hash::Hasher;
+
+#[derive(Debug, PartialEq, Eq, Drop)]
+pub struct Recorder {
+    pub first: Option<u8>,
+    pub count: u64,
+}
+
+impl Recorder {
+    pub fn new() -> Recorder {
+        Recorder {
+            first: None,
+            count: 0,
+        }
+    }
+}
+
+impl Hasher for Recorder {
+    ghost write = { recorded };
+
+    ghost finish = { λ s. s.count };
+
+    fn finish(&self) -> u64 {
+        self.count
+    }
+
+    fn write(&mut self, bytes: &[u8]) {
+        if self.first.is_none() {
+            self.first = bytes.first().copied();
+        }
+        self.count = self.count.wrapping_add(bytes.len() as u64);
+    }
+}
