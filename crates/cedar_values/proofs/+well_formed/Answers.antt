@@ -1,0 +1,76 @@
+use Rattle.std.proofs.lemmas.List.{drop_all}
+use Rattle.std.proofs.Common.{◌≡◌, Bool, true, false, ◌&&◌, get_or, refl, sym, ap, ◌∙◌}
+use Rattle.std.specs.List.{list_all}
+use Rattle.std.specs.BTreeMap.{values}
+use Rattle.std.proofs.lemmas.List.Folds.{list_all_at, list_all-map}
+use Rattle.rising.specs.Classes.{rises}
+use Rattle.cedar_values.specs.WellFormed.{kind_well_formed, well_formed}
+use Rattle.cedar_values.specs.Sets.{members, by_tree}
+use Rattle.cedar_values.specs.declared.value.ValueKind.TheVariants.{Lit, Set, Record, ExtensionValue, outs-Lit, outs-Set, outs-Record, outs-ExtensionValue}
+use Rattle.cedar_values.proofs.Levels.{value_kept, kind_kept, kind_level}
+use Rattle.cedar_values.proofs.WellFormedSets.{by_trees, set_is}
+use Rattle.cedar_values.proofs.+well_formed.Goals as goal
+
+pub value::Value::is_well_formed-returns : goal.value::Value::is_well_formed-returns
+value::Value::is_well_formed-returns g t c = c.is_well_formed.ensures ∙ sym (value_kept g.X.Ord.cmp c.args.self.now)
+
+pub set::Set::is_well_formed-loop-member-init : goal.set::Set::is_well_formed-loop-member-init
+unfolding members
+set::Set::is_well_formed-loop-member-init g t c = record {
+  whole = c.deref-member-items.ensures.value ∙ λ i. (c.deref.ensures i).items;
+  left = refl;
+}
+
+and_false : (b : Bool) → (b && false) ≡ false
+and_false true = refl
+and_false false = refl
+
+pub set::Set::is_well_formed-returns-then-not-is_well_formed :
+    goal.set::Set::is_well_formed-returns-then-not-is_well_formed
+set::Set::is_well_formed-returns-then-not-is_well_formed g t c =
+    let R = g.X.Ord.cmp in
+    let xs = c.deref-member-items.result.now in
+    let here : well_formed R (get_or xs c.loop-member.member-index c.member-item.result) ≡ false = ap (well_formed R) (sym c.member-item.is) ∙ sym c.is_well_formed.ensures ∙ c.if-not-is_well_formed.true in
+    let all : list_all (well_formed R) (members c.args.self.now) ≡ false = ap (list_all (well_formed R)) (sym c.loop-member.invariant.whole) ∙ list_all_at (well_formed R) xs c.loop-member.member-index c.member-item.result c.loop-member-test.true here in
+    sym (set_is R c.args.self.now ∙ ap (λ b. rises (by_tree R) (members c.args.self.now) && b) all ∙ and_false _)
+
+and_true : (b : Bool) → (b && true) ≡ b
+and_true true = refl
+and_true false = refl
+
+pub set::Set::is_well_formed-returns : goal.set::Set::is_well_formed-returns
+unfolding members
+set::Set::is_well_formed-returns g t c =
+    let R = g.X.Ord.cmp in
+    let s = c.args.self.now in
+    let xs = c.deref-member-items.result.now in
+    let all : list_all (well_formed R) (members s) ≡ true = ap (list_all (well_formed R)) (sym c.loop-member.invariant.whole) ∙ sym c.loop-member.invariant.left ∙ ap (list_all (well_formed R)) (drop_all c.loop-member.member-index xs c.loop-member-test.false) in
+    by_trees R c.order_of_values.ensures.order (λ D. c.is_rising.result ≡ rises D c.as_slice.result.now) c.is_rising.ensures.value
+    ∙ ap (rises (by_tree R)) (c.as_slice.ensures.value ∙ λ i. (c.deref-2.ensures i).items)
+    ∙ sym (set_is R s ∙ ap (λ b. rises (by_tree R) (members s) && b) all ∙ and_true _)
+
+pub value::ValueKind::is_well_formed-loop-value-init : goal.value::ValueKind::is_well_formed-loop-value-init
+value::ValueKind::is_well_formed-loop-value-init g t c = record {
+  can_next = tt;
+  finite = tt;
+  left =
+      let R = g.X.Ord.cmp in
+      ap (list_all (well_formed R)) (c.into_iter-value-iterator.ensures.into_iter_gives ∙ c.values-value-items.ensures.rest ∙ ap values c.deref.ensures)
+      ∙ list_all-map (well_formed R) (λ e. e.1) c.in-Record.pairs.value.entries
+      ∙ sym (ap (kind_well_formed R) c.in-Record.is ∙ kind_kept R (Record c.in-Record.pairs) ∙ ap (kind_level R) (outs-Record c.in-Record.pairs));
+}
+
+pub value::ValueKind::is_well_formed-returns-in-Lit : goal.value::ValueKind::is_well_formed-returns-in-Lit
+value::ValueKind::is_well_formed-returns-in-Lit g t c =
+    let R = g.X.Ord.cmp in
+    sym (ap (kind_well_formed R) c.in-Lit.is ∙ kind_kept R (Lit c.in-Lit.field-0) ∙ ap (kind_level R) (outs-Lit c.in-Lit.field-0))
+
+pub value::ValueKind::is_well_formed-returns-in-Set : goal.value::ValueKind::is_well_formed-returns-in-Set
+value::ValueKind::is_well_formed-returns-in-Set g t c =
+    let R = g.X.Ord.cmp in
+    c.is_well_formed.ensures ∙ sym (ap (kind_well_formed R) c.in-Set.is ∙ kind_kept R (Set c.in-Set.set) ∙ ap (kind_level R) (outs-Set c.in-Set.set))
+
+pub value::ValueKind::is_well_formed-returns-in-ExtensionValue : goal.value::ValueKind::is_well_formed-returns-in-ExtensionValue
+value::ValueKind::is_well_formed-returns-in-ExtensionValue g t c =
+    let R = g.X.Ord.cmp in
+    sym (ap (kind_well_formed R) c.in-ExtensionValue.is ∙ kind_kept R (ExtensionValue c.in-ExtensionValue.field-0) ∙ ap (kind_level R) (outs-ExtensionValue c.in-ExtensionValue.field-0))

@@ -1,0 +1,119 @@
+-- The first node that is no literal, set or record, from a node to its children.
+use Rattle.std.proofs.Common.{◌≡◌, ℕ, ◌+◌, ◌<◌, length, get_or, drop, drop-cons, add-one, List, [], ◌∷◌, ◌++◌, map, Bool, true, false, not, ◌&&◌, if◌then◌else◌, Option, Some, None, option_map, refl, sym, ap, ◌∙◌, subst, Global, BTreeMap, Vec, Result, Ok, Err}
+use Rattle.std.specs.List.{find, list_all}
+use Rattle.std.specs.Option.{option_or, is_none}
+use Rattle.std.specs.Result.{MatchResult}
+use Rattle.std.specs.declared.rc.Rc.{Rc}
+use Rattle.std.specs.declared.rc.RcStr.{RcStr}
+use Rattle.std.specs.declared.cmp.Ordering.{Ordering}
+use Rattle.std.proofs.lemmas.List.Folds.{find-append}
+use Rattle.cedar_names.specs.Place.{Place}
+use Rattle.cedar_builders.specs.BareExpr.{BareExpr}
+use Rattle.cedar_builders.specs.Walks as bare
+use Rattle.cedar_builders.specs.Walks.{forward}
+use Rattle.cedar_exprs.specs.BareExpr.{bare_expr, expr_place, kind_of}
+use Rattle.cedar_exprs.specs.Walks.{parts, children, preorder}
+use Rattle.cedar_exprs.specs.declared.expr.Expr.{Expr}
+use Rattle.cedar_exprs.specs.declared.expr.ExprKind.{ExprKind, out-ExprKind}
+use Rattle.cedar_exprs.specs.declared.expr.ExprKind.TheOpen.{ExprKind-F}
+use Rattle.cedar_exprs.specs.declared.expr.ExprKind.TheVariants.{Set, Record, outs-Set, outs-Record}
+use Rattle.value_trees.specs.BareValue.{BareValue}
+use Rattle.value_trees.specs.Reading.{is_readable_node, is_readable, IsValueOf}
+use Rattle.cedar_values.specs.NotReadable.{is_not_readable, first_not_readable, first_not_readable_of, IsNotValueAt, IsAnswerWhere}
+use Rattle.cedar_values.specs.declared.not_value.NotValue.{NotValue}
+use Rattle.cedar_values.specs.declared.not_value.NotValue.TheVariants as error
+use Rattle.cedar_values.proofs.ExprLevels.{bare_at_set, bare_at_record}
+
+-- none is found exactly where all pass
+none_found : {A : Type 0} (p : A → Bool) (xs : List A) → is_none (find (λ x. not (p x)) xs) ≡ list_all p xs
+none_found p [] = refl
+none_found p (x ∷ xs) = go (p x) (none_found p xs)
+  where
+    go : (b : Bool) → is_none (find (λ x. not (p x)) xs) ≡ list_all p xs → is_none (if not b then Some x else find (λ x. not (p x)) xs) ≡ (b && list_all p xs)
+    go true h = h
+    go false h = refl
+
+list_all-map : {A B : Type 0} (f : A → B) (p : B → Bool) (xs : List A) → list_all p (map f xs) ≡ list_all (λ x. p (f x)) xs
+list_all-map f p [] = refl
+list_all-map f p (x ∷ xs) = ap (λ b. p (f x) && b) (list_all-map f p xs)
+
+is_none_is : {A : Type 0} (r : Option A) → is_none r ≡ true → r ≡ None
+is_none_is None h = refl
+is_none_is (Some x) h = cc
+
+-- what is known of the nodes in preorder
+pub record InPreorder (T : Type 0) : Type 0 where
+  pub order : (e : Expr T) → preorder e ≡ e ∷ forward (map preorder (children e))
+  pub trees : (e : Expr T) → map bare_expr (preorder e) ≡ bare.preorder (bare_expr e)
+
+module _ {T : Type 0} (o : InPreorder T) where
+  at_node : (b : Bool) (e : Expr T) → is_readable_node (bare_expr e) ≡ b → first_not_readable e ≡ (if not b then Some e else first_not_readable_of (children e))
+  at_node b e h = ap (find is_not_readable) (o.order e) ∙ rw h refl
+
+  -- a node of another kind is the first itself
+  pub other : (e : Expr T) (loc : Option Place) → is_readable_node (bare_expr e) ≡ false → loc ≡ expr_place e → option_map expr_place (first_not_readable e) ≡ Some loc
+  other e loc h is = ap (option_map expr_place) (at_node false e h) ∙ ap Some (sym is)
+
+  -- a set and a record have the first of what is in them
+  below : (e : Expr T) (k : ExprKind T) (x : ExprKind-F T (ExprKind T) (Expr T)) → kind_of e ≡ k → out-ExprKind T k ≡ x → is_readable_node (bare_expr e) ≡ true → first_not_readable_of (parts x) ≡ first_not_readable e
+  below e k x is made h = sym (at_node true e h ∙ ap (λ y. first_not_readable_of (parts y)) (ap (out-ExprKind T) is ∙ made))
+
+  pub passes_set : (e : Expr T) (es : Rc (Vec (Expr T) Global) Global) (v : Vec (Expr T) Global) → kind_of e ≡ Set es → v ≡ es.value → first_not_readable_of v.items ≡ first_not_readable e
+  passes_set e es v is at =
+      ap (λ (w : Vec (Expr T) Global). first_not_readable_of w.items) at ∙ below e (Set es) _ is (outs-Set es) (ap is_readable_node (bare_at_set e es is))
+
+  pub passes_record : (e : Expr T) (es : Rc (BTreeMap (RcStr Global) (Expr T)) Global) (v : BTreeMap (RcStr Global) (Expr T)) → kind_of e ≡ Record es → v ≡ es.value → first_not_readable_of (map (λ e. e.1) v.entries) ≡ first_not_readable e
+  passes_record e es v is at =
+      ap (λ (w : BTreeMap (RcStr Global) (Expr T)). first_not_readable_of (map (λ e. e.1) w.entries)) at
+      ∙ below e (Record es) _ is (outs-Record es) (ap is_readable_node (bare_at_record e es is))
+
+  -- no such node is found just in readable expressions
+  decided : (e : Expr T) → is_none (first_not_readable e) ≡ is_readable (bare_expr e)
+  decided e =
+      none_found (λ (d : Expr T). is_readable_node (bare_expr d)) (preorder e)
+      ∙ sym (list_all-map bare_expr is_readable_node (preorder e))
+      ∙ ap (list_all is_readable_node) (o.trees e)
+
+  pub none_in_readable : (e : Expr T) → is_readable (bare_expr e) ≡ true → first_not_readable e ≡ None
+  none_in_readable e h = is_none_is _ (decided e ∙ h)
+
+  found_none : (e : Expr T) (r : Option (Expr T)) (loc : Option Place) → first_not_readable e ≡ r → option_map expr_place r ≡ Some loc → is_readable (bare_expr e) ≡ false
+  found_none e None loc is h = cc
+  found_none e (Some x) loc is h = sym (decided e) ∙ ap is_none is
+
+  -- an answer comes just of readable expressions
+  pub answered : {A : Type 0} (e : Expr T) (P : A → Type 0) → ((a : A) → P a → is_readable (bare_expr e) ≡ true) → (r : Result A NotValue) → MatchResult r P (IsNotValueAt (first_not_readable e)) → IsAnswerWhere (is_readable (bare_expr e)) r
+  answered e P read (Ok a) h = read a h
+  answered e P read (Err (error.NotValue loc)) h = found_none e (first_not_readable e) loc refl h
+  answered e P read (Err error.Memory) h = tt
+
+-- a refusal of the first is one of both
+place_of_first : {T : Type 0} (r s : Option (Expr T)) (p : Option Place) → option_map expr_place r ≡ Some p → option_map expr_place (option_or r s) ≡ Some p
+place_of_first None s p h = cc
+place_of_first (Some x) s p h = h
+
+refused_first : {T : Type 0} (r s : Option (Expr T)) (d : NotValue) → IsNotValueAt r d → IsNotValueAt (option_or r s) d
+refused_first r s (error.NotValue loc) h = place_of_first r s loc h
+refused_first r s error.Memory h = tt
+
+first_of_all : {T : Type 0} (e : Expr T) (es : List (Expr T)) → first_not_readable_of (e ∷ es) ≡ option_or (first_not_readable e) (first_not_readable_of es)
+first_of_all e es = find-append is_not_readable (preorder e) (forward (map preorder es))
+
+-- one turn: what is left begins with an expression
+module _ {T : Type 0} (all : List (Expr T)) (e : Expr T) (es : List (Expr T)) (w : Option (Expr T)) (steps : all ≡ e ∷ es) (left : first_not_readable_of all ≡ w) where
+  split : option_or (first_not_readable e) (first_not_readable_of es) ≡ w
+  split = sym (ap first_not_readable_of steps ∙ first_of_all e es) ∙ left
+
+  pub refused : (d : NotValue) → IsNotValueAt (first_not_readable e) d → IsNotValueAt w d
+  refused d h = subst (λ r. IsNotValueAt r d) split (refused_first _ _ d h)
+
+  pub passed : first_not_readable e ≡ None → first_not_readable_of es ≡ w
+  passed h = ap (λ r. option_or r (first_not_readable_of es)) (sym h) ∙ split
+
+-- what is left of a list begins with the member that is next
+pub next_member : {A : Type 0} (es : List A) (i : ℕ) (e : A) → i < length es → e ≡ get_or es i e → drop i es ≡ e ∷ drop (i + 1) es
+next_member es i e lt is = rw (drop-cons es i e, ← is, add-one)
+
+-- a refusal that is passed on
+pub passed_on : {A T : Type 0} (P : A → Type 0) (answer : Result A NotValue) (d : NotValue) (w w' : Option (Expr T)) → answer ≡ Err d → w ≡ w' → IsNotValueAt w d → MatchResult answer P (IsNotValueAt w')
+passed_on P answer d w w' is same h = subst (λ r. MatchResult r P (IsNotValueAt w')) (sym is) (subst (λ o. IsNotValueAt o d) same h)

@@ -1,0 +1,55 @@
+-- What sets are made of.
+use Rattle.std.proofs.Common.{◌≡◌, true, false, ◌&&◌, ◌||◌, List, [], ◌∷◌, map, cond, refl, sym, ap, subst, ◌∙◌, IsTrue, Result, IfOk}
+use Rattle.std.proofs.lemmas.Result.{IfOk-weaker}
+use Rattle.std.specs.List.{list_all}
+use Rattle.std.specs.Ordering.{is_eq}
+use Rattle.std.specs.declared.cmp.Ordering.{Ordering}
+use Rattle.rising.specs.Classes.{has_class, rises, HaveSameClasses, IsClassesOf}
+use Rattle.value_trees.specs.ValueOrder.{value_cmp}
+use Rattle.cedar_values.specs.BareValues.{bare_value}
+use Rattle.cedar_values.specs.Places.{gathered, is_lit_value, unplaced}
+use Rattle.cedar_values.specs.Sets.{by_tree, members}
+use Rattle.cedar_values.specs.WellFormed.{set_well_formed, well_formed}
+use Rattle.cedar_values.specs.declared.set.Set.{Set}
+use Rattle.cedar_values.specs.declared.value.Value.{Value}
+use Rattle.cedar_values.proofs.Levels.{unplaced_tree, unplaced_kept}
+use Rattle.cedar_values.proofs.WellFormedSets.{set_is}
+
+module _ {X : Type 0} (R : X → X → Ordering) where
+  same_unplaced : (vs : List (Value X)) → HaveSameClasses (by_tree R) (map unplaced vs) vs
+  same_unplaced [] q = refl
+  same_unplaced (v ∷ vs) q = λ i. is_eq (value_cmp R (bare_value q) (unplaced_tree v i)) || same_unplaced vs q i
+
+  -- places make no class
+  pub same_gathered : (vs : List (Value X)) → HaveSameClasses (by_tree R) (gathered vs) vs
+  same_gathered vs q =
+      elim (list_all (λ v. is_lit_value (bare_value v)) vs) as (λ b. has_class (by_tree R) (cond b (map unplaced vs) vs) q ≡ has_class (by_tree R) vs q) [
+        | true ↦ same_unplaced vs q
+        | false ↦ refl
+      ]
+
+  pub gathered_kept : (vs : List (Value X)) → list_all (well_formed R) (gathered vs) ≡ list_all (well_formed R) vs
+  gathered_kept vs =
+      elim (list_all (λ v. is_lit_value (bare_value v)) vs) as (λ b. list_all (well_formed R) (cond b (map unplaced vs) vs) ≡ list_all (well_formed R) vs) [
+        | true ↦ unplaced_kept R vs
+        | false ↦ refl
+      ]
+
+  -- a set without members
+  pub empty_kept : (s : Set X) → members s ≡ [] → set_well_formed R s ≡ true
+  empty_kept s h = set_is R s ∙ ap (λ vs. rises (by_tree R) vs && list_all (well_formed R) vs) h
+
+  -- a set that is made of the gathered values
+  module _ {E : Type 0} (r : Result (Set X) E) (vs ws : List (Value X)) (is : gathered vs ≡ ws) where
+    pub gathered_classes : IfOk r (λ s. IsClassesOf (by_tree R) (members s) ws) → IfOk r (λ s. IsClassesOf (by_tree R) (members s) (gathered vs))
+    gathered_classes = subst (λ xs. IfOk r (λ s. IsClassesOf (by_tree R) (members s) xs)) (sym is)
+
+    pub gathered_same : IfOk r (λ s. IsClassesOf (by_tree R) (members s) ws) → IfOk r (λ s. HaveSameClasses (by_tree R) (members s) vs)
+    gathered_same =
+        IfOk-weaker r (λ s. IsClassesOf (by_tree R) (members s) ws) (λ s. HaveSameClasses (by_tree R) (members s) vs)
+        (λ s h q. h.same q ∙ ap (λ xs. has_class (by_tree R) xs q) (sym is) ∙ same_gathered vs q)
+
+    pub gathered_well : IfOk r (λ s. IsTrue (list_all (well_formed R) ws) → IsTrue (set_well_formed R s)) → IfOk r (λ s. IsTrue (list_all (well_formed R) vs) → IsTrue (set_well_formed R s))
+    gathered_well =
+        IfOk-weaker r (λ s. IsTrue (list_all (well_formed R) ws) → IsTrue (set_well_formed R s)) (λ s. IsTrue (list_all (well_formed R) vs) → IsTrue (set_well_formed R s))
+        (λ s h all. h (ap (list_all (well_formed R)) (sym is) ∙ gathered_kept vs ∙ all))

@@ -1,0 +1,67 @@
+-- Well formed sets, as the lists of their members.
+use Rattle.std.proofs.Common.{◌≡◌, true, ◌&&◌, List, [], ◌∷◌, map, refl, sym, ap, subst, ◌∙◌}
+use Rattle.std.proofs.lemmas.List.Elements.{All-contains, Contains-get_or}
+use Rattle.std.proofs.lemmas.List.Sums.{AllPass-from_list_all, list_all-from_AllPass}
+use Rattle.std.specs.Cmp.{IsTotalOrder}
+use Rattle.std.specs.List.{list_all}
+use Rattle.std.specs.List.Sorted.{IsStrictlySortedBy}
+use Rattle.std.specs.declared.cmp.Ordering.{Ordering}
+use Rattle.rising.specs.Classes.{IsClassesOf, rises}
+use Rattle.rising.specs.Images.{rising_images}
+use Rattle.rising.specs.Rising.{and_left, sorted_of_rises, rises_of_sorted}
+use Rattle.value_trees.specs.BareValue.{BareValue, BareValues, SetValue, values_of, list_of_values}
+use Rattle.value_trees.specs.ValueOrder.{value_cmp}
+use Rattle.value_trees.specs.WellFormed.{is_well_formed, are_well_formed}
+use Rattle.cedar_values.specs.BareValues.{bare_value, bare_set, kind_step, set_step, value_step}
+use Rattle.cedar_values.specs.Sets.{by_tree, members}
+use Rattle.cedar_values.specs.WellFormed.{well_formed, set_well_formed}
+use Rattle.cedar_values.specs.declared.set.Set.{Set, fold_out-Set}
+use Rattle.cedar_values.specs.declared.value.Value.{Value}
+
+module _ {X : Type 0} where
+  pub set_values : (s : Set X) → bare_set s ≡ values_of (map bare_value (members s))
+  unfolding members
+  set_values s = fold_out-Set X (BareValue X) (BareValues X) (BareValue X) kind_step set_step value_step s
+
+module _ {X : Type 0} (R : X → X → Ordering) where
+  all_members : (vs : List (Value X)) → are_well_formed R (values_of (map bare_value vs)) ≡ list_all (well_formed R) vs
+  unfolding well_formed
+  all_members [] = refl
+  all_members (v ∷ vs) = ap (λ b. is_well_formed R (bare_value v) && b) (all_members vs)
+
+  pub set_is : (s : Set X) → set_well_formed R s ≡ (rises (by_tree R) (members s) && list_all (well_formed R) (members s))
+  unfolding set_well_formed
+  set_is s =
+      ap (λ ts. is_well_formed R (SetValue ts)) (set_values s)
+      ∙ λ i. (ap (rises (value_cmp R)) (list_of_values (map bare_value (members s))) ∙ sym (rising_images bare_value (value_cmp R) (members s))) i && all_members (members s) i
+
+  pub sorted_members : IsTotalOrder (by_tree R) → (s : Set X) → set_well_formed R s ≡ true → IsStrictlySortedBy (by_tree R) (members s)
+  sorted_members o s h = sorted_of_rises o (members s) (and_left (rises (by_tree R) (members s)) _ (sym (set_is s) ∙ h))
+
+  -- a set of the classes of well formed values is well formed
+  pub kept_of_classes : (s : Set X) (values : List (Value X)) → IsClassesOf (by_tree R) (members s) values → list_all (well_formed R) values ≡ true → set_well_formed R s ≡ true
+  kept_of_classes s values h all =
+      set_is s
+      ∙ λ i. rises_of_sorted (by_tree R) (members s) h.rising i && list_all-from_AllPass (well_formed R) (members s) (λ k d l. All-contains (λ x. well_formed R x ≡ true) values _ (AllPass-from_list_all (well_formed R) values all) (h.kept _ (Contains-get_or (members s) k d l))) i
+
+-- what is known by the order that values have, by that of their trees
+module _ {X : Type 0} (R : X → X → Ordering) {C : Value X → Value X → Ordering} (order : (a b : Value X) → C a b ≡ by_tree R a b) where
+  cmp_is : C ≡ by_tree R
+  cmp_is = λ i a b. order a b i
+
+  pub by_trees : (P : (Value X → Value X → Ordering) → Type 0) → P C → P (by_tree R)
+  by_trees P h = subst P cmp_is h
+
+  module _ (total : IsTotalOrder (by_tree R)) where
+    pub of_set : (P : (Value X → Value X → Ordering) → List (Value X) → Type 0) (s : Set X) (xs : List (Value X)) → xs ≡ members s
+        → (IsStrictlySortedBy C xs → P C xs) → set_well_formed R s ≡ true → P (by_tree R) (members s)
+    of_set P s xs at h kept =
+        by_trees (λ D. IsStrictlySortedBy D (members s) → P D (members s)) (subst (λ l. IsStrictlySortedBy C l → P C l) at h) (sorted_members R total s kept)
+
+    pub of_sets : (P : (Value X → Value X → Ordering) → List (Value X) → List (Value X) → Type 0) (s t : Set X) (xs ys : List (Value X)) → xs ≡ members s → ys ≡ members t
+        → (IsStrictlySortedBy C xs → IsStrictlySortedBy C ys → P C xs ys) → set_well_formed R s ≡ true → set_well_formed R t ≡ true → P (by_tree R) (members s) (members t)
+    of_sets P s t xs ys at at' h kept kept' =
+        by_trees (λ D. IsStrictlySortedBy D (members s) → IsStrictlySortedBy D (members t) → P D (members s) (members t))
+        (subst (λ l. IsStrictlySortedBy C l → IsStrictlySortedBy C (members t) → P C l (members t)) at
+        (subst (λ l. IsStrictlySortedBy C xs → IsStrictlySortedBy C l → P C xs l) at' h))
+        (sorted_members R total s kept) (sorted_members R total t kept')

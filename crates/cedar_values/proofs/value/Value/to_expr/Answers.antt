@@ -1,0 +1,13 @@
+use Rattle.std.proofs.Common.{sym, subst}
+use Rattle.value_trees.specs.Reading.{ReadsBack}
+use Rattle.cedar_values.specs.BareValues.{bare_value}
+use Rattle.cedar_values.specs.WellFormed.{well_formed}
+use Rattle.cedar_values.proofs.Writings.{if_ok}
+use Rattle.cedar_values.proofs.value.Value.to_expr.Goals as goal
+
+pub returns-clause-read_back : goal.returns-clause-read_back
+unfolding well_formed
+returns-clause-read_back g c =
+    let t = bare_value c.args.self.now in
+    if_ok c.expr_of.result c.expr_of.ensures.tree
+    (λ e is kept. subst (λ b. ReadsBack g.X.Ord.cmp g.X.PartialEq.eq b t) (sym is) (c.expressions_read_back.ensures g.X.ExtensionValue.canonical t kept))

@@ -1,0 +1,42 @@
+-- What a kind of values holds.
+use Rattle.std.specs.Prelude.{◌≡◌, List}
+use Rattle.std.specs.Global.{Global}
+use Rattle.std.specs.declared.rc.RcStr.{RcStr}
+use Rattle.cedar_terms.specs.Literals.{bare_literal, literal_place}
+use Rattle.cedar_values.specs.Sets.{members}
+use Rattle.cedar_values.specs.declared.set.Set as set
+use Rattle.cedar_values.specs.declared.value.Value.{Value}
+use Rattle.cedar_values.specs.declared.value.ValueKind.{ValueKind, out-ValueKind}
+use Rattle.cedar_values.specs.declared.value.ValueKind.TheOpen.{ValueKind-F}
+
+-- it is a set, of which P holds
+abbrev pub is_set_with : {X K : Type 0} → (set.Set X → Type 0) → ValueKind-F X K (set.Set X) (Value X) → Type 0
+is_set_with P (ValueKind-F.Lit l) = ⊥
+is_set_with P (ValueKind-F.Set s) = P s
+is_set_with P (ValueKind-F.Record m) = ⊥
+is_set_with P (ValueKind-F.ExtensionValue e) = ⊥
+
+abbrev pub IsSetWith : {X : Type 0} → (set.Set X → Type 0) → ValueKind X → Type 0
+IsSetWith {X} P k = is_set_with P (out-ValueKind X k)
+
+-- it is a record, of whose keys and values P holds
+abbrev pub is_record_with : {X K : Type 0} → (List (RcStr Global × Value X) → Type 0) → ValueKind-F X K (set.Set X) (Value X) → Type 0
+is_record_with P (ValueKind-F.Lit l) = ⊥
+is_record_with P (ValueKind-F.Set s) = ⊥
+is_record_with P (ValueKind-F.Record m) = P m.value.entries
+is_record_with P (ValueKind-F.ExtensionValue e) = ⊥
+
+abbrev pub IsRecordWith : {X : Type 0} → (List (RcStr Global × Value X) → Type 0) → ValueKind X → Type 0
+IsRecordWith {X} P k = is_record_with P (out-ValueKind X k)
+
+-- the two hold the same, with all places and representations inside
+abbrev pub is_copy : {X K : Type 0} → ValueKind-F X K (set.Set X) (Value X) → ValueKind-F X K (set.Set X) (Value X) → Type 0
+is_copy (ValueKind-F.Lit l) (ValueKind-F.Lit k) =
+    (bare_literal k ≡ bare_literal l) × (literal_place k ≡ literal_place l)
+is_copy (ValueKind-F.Set s) (ValueKind-F.Set t) = members t ≡ members s
+is_copy (ValueKind-F.Record m) (ValueKind-F.Record n) = n.value.entries ≡ m.value.entries
+is_copy (ValueKind-F.ExtensionValue a) (ValueKind-F.ExtensionValue b) = b.value ≡ a.value
+is_copy x y = ⊥
+
+abbrev pub IsCopy : {X : Type 0} → ValueKind X → ValueKind X → Type 0
+IsCopy {X} k l = is_copy (out-ValueKind X k) (out-ValueKind X l)

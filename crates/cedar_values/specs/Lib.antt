@@ -1,0 +1,15 @@
+pub mod BareCalls
+pub mod BareValues
+pub mod Sets
+pub mod WellFormed
+pub mod Places
+pub mod Kinds
+pub mod Records
+pub mod NotReadable
+pub mod Conversions
+pub mod Keyed
+pub mod ValueMaps
+pub mod Holders
+pub mod PartialValues
+pub mod BoundedTexts
+pub mod LiteralUids

@@ -1,0 +1,33 @@
+-- Values at their places.
+use Rattle.std.specs.Prelude.{List, map, Bool, true, false, Option, None, if◌then◌else◌}
+use Rattle.std.specs.List.{list_all}
+use Rattle.cedar_names.specs.Place.{Place}
+use Rattle.cedar_terms.specs.declared.literal.Literal.{Literal}
+use Rattle.value_trees.specs.BareValue.{BareValue, LitValue, SetValue, RecordValue, ExtensionValue}
+use Rattle.cedar_values.specs.BareValues.{bare_value, kind_of}
+use Rattle.cedar_values.specs.declared.value.Value.{Value, roll-Value}
+use Rattle.cedar_values.specs.declared.value.ValueKind.{ValueKind}
+use Rattle.cedar_values.specs.declared.value.ValueKind.TheVariants.{Lit}
+
+-- a value of this kind at this place, if any
+abbrev pub value_at : {X : Type 0} → ValueKind X → Option Place → Value X
+value_at {X} k p = roll-Value X (record { kind = k; loc = p })
+
+-- the same value at no place; the places inside stay
+abbrev pub unplaced : {X : Type 0} → Value X → Value X
+unplaced v = value_at (kind_of v) None
+
+-- a literal as a value at no place
+abbrev pub literal_value : {X : Type 0} → Literal → Value X
+literal_value l = value_at (Lit l) None
+
+-- whether a value is a literal
+abbrev pub is_lit_value : {X : Type 0} → BareValue X → Bool
+is_lit_value (LitValue l) = true
+is_lit_value (SetValue ts) = false
+is_lit_value (RecordValue ps) = false
+is_lit_value (ExtensionValue x g) = false
+
+-- literals alone lose their places; any other values stay as they are
+abbrev pub gathered : {X : Type 0} → List (Value X) → List (Value X)
+gathered vs = if list_all (λ v. is_lit_value (bare_value v)) vs then map unplaced vs else vs

@@ -1,0 +1,25 @@
+//! Values, sets of values and records of values, for any type of extension values.
+#![tactic(auto)]
+
+mod bounded_display;
+mod extension_value;
+mod from_expr;
+pub mod laws;
+mod literal_uids;
+mod literals;
+mod not_value;
+mod partial_value;
+mod put_last;
+mod record;
+mod set;
+mod substitution;
+mod to_expr;
+mod value;
+
+pub use bounded_display::{BoundedDisplay, BoundedToString};
+pub use extension_value::{ExtensionValue, NoExtension, RepresentableExtensionValue};
+pub use not_value::NotValue;
+pub use partial_value::{ContainsUnknown, PartialValue, PartialValueToValueError, split};
+pub use set::Set;
+pub use substitution::{substitute_typed_values_into_expr, substitute_values_into_expr};
+pub use value::{Value, ValueKind};

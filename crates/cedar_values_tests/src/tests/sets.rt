@@ -1,0 +1,144 @@
+// Sets of values, by what is in them.
+use crate::tests::point::Point;
+use crate::tests::samples::{same, set, value, values};
+use crate::tests::steps::Step;
+use crate::tests::steps::Step::{At, Bool, Long, SetOf, Text};
+use cedar_values::{Set, Value, ValueKind};
+use std::test::Fail;
+
+// Whether the first set is a part of the second, whether they have no member in common, and whether
+// they are equal.
+fn compared(rt: &HostRuntime, a: &[Step], b: &[Step]) -> Result<[bool; 3], Fail> {
+    let a = set(rt, a)?;
+    let b = set(rt, b)?;
+    Ok([a.is_subset(&b), a.is_disjoint(&b), a == b])
+}
+
+// {1} and {1, {2}}.
+#[test]
+fn a_set_of_literals_beside_a_mixed_one(rt: HostRuntime) -> Result<(), Fail> {
+    let literals = [Long(1)];
+    let mixed = [Long(2), SetOf(1), Long(1)];
+    assert!(rt; compared(&rt, &literals, &mixed)? == [true, false, false]);
+    assert!(rt; compared(&rt, &mixed, &literals)? == [false, false, false]);
+    Ok(())
+}
+
+#[test]
+fn sets_side_by_side(rt: HostRuntime) -> Result<(), Fail> {
+    assert!(rt; compared(&rt, &[], &[Long(1)])? == [true, true, false]);
+    assert!(rt; compared(&rt, &[Long(2), SetOf(1)], &[Long(1)])? == [false, true, false]);
+    assert!(rt; compared(&rt, &[Long(1), Long(2)], &[Long(2), Long(3)])? == [false, false, false]);
+    let twice = [Long(2), Long(1), Long(2)];
+    assert!(rt; compared(&rt, &twice, &[Long(1), Long(2)])? == [true, false, true]);
+    Ok(())
+}
+
+fn has(rt: &HostRuntime, members: &[Step], member: &[Step]) -> Result<bool, Fail> {
+    let set = set(rt, members)?;
+    Ok(set.contains(&value(rt, member)?))
+}
+
+#[test]
+fn members_are_found(rt: HostRuntime) -> Result<(), Fail> {
+    let mixed = [Long(2), SetOf(1), Long(1)];
+    assert!(rt; has(&rt, &mixed, &[Long(1)])?);
+    assert!(rt; has(&rt, &mixed, &[Long(2), SetOf(1)])?);
+    assert!(rt; !has(&rt, &mixed, &[Long(2)])?);
+    Ok(())
+}
+
+#[test]
+fn equal_values_are_one_member(rt: HostRuntime) -> Result<(), Fail> {
+    let set = set(&rt, &[Long(3), Long(1), Long(3)])?;
+    assert!(rt; set.len() == 2 && set.authoritative().len() == 2);
+    assert!(rt; !set.is_empty() && set.is_well_formed());
+    Ok(())
+}
+
+#[test]
+fn an_empty_set(rt: HostRuntime) -> Result<(), Fail> {
+    let empty: Set<Point> = Set::empty(rt.alloc())?;
+    assert!(rt; empty.is_empty() && empty.len() == 0);
+    assert!(rt; empty.iter().next().is_none() && empty.is_well_formed());
+    Ok(())
+}
+
+// Where the first member stands, if it has a place.
+fn first_place(set: &Set<Point>) -> Option<usize> {
+    match set.iter().next() {
+        Some(member) => member.source_loc().map(|loc| loc.start),
+        None => None,
+    }
+}
+
+// Of equal values one is kept, as it was handed in.
+#[test]
+fn one_of_equal_values_is_kept(rt: HostRuntime) -> Result<(), Fail> {
+    let set = set(&rt, &[Long(1), At(4, 5), Long(1), At(9, 10)])?;
+    assert!(rt; set.len() == 1);
+    let start = first_place(&set);
+    assert!(rt; start == Some(4) || start == Some(9));
+    Ok(())
+}
+
+// Literals alone lose their places where `from_values` makes the set.
+#[test]
+fn literals_alone_lose_their_places(rt: HostRuntime) -> Result<(), Fail> {
+    let alone = Set::from_values(rt.alloc(), values(&rt, &[Long(1), At(4, 5)])?)?;
+    assert!(rt; alone.len() == 1 && first_place(&alone).is_none());
+    let beside = values(&rt, &[SetOf(0), Long(1), At(4, 5)])?;
+    let beside = Set::from_values(rt.alloc(), beside)?;
+    assert!(rt; beside.len() == 2 && first_place(&beside) == Some(4));
+    Ok(())
+}
+
+// The set of true and of the set of "c" and of the set of 1 and 2, each turned or not.
+fn nested(rt: &HostRuntime, turned: [bool; 3]) -> Result<Value<Point>, Fail> {
+    let inner = if turned[0] {
+        [Long(2), Long(1), SetOf(2)]
+    } else {
+        [Long(1), Long(2), SetOf(2)]
+    };
+    let [a, b, c] = inner;
+    match (turned[1], turned[2]) {
+        (false, false) => value(rt, &[a, b, c, Text("c"), SetOf(2), Bool(true), SetOf(2)]),
+        (false, true) => value(rt, &[Bool(true), a, b, c, Text("c"), SetOf(2), SetOf(2)]),
+        (true, false) => value(rt, &[Text("c"), a, b, c, SetOf(2), Bool(true), SetOf(2)]),
+        (true, true) => value(rt, &[Bool(true), Text("c"), a, b, c, SetOf(2), SetOf(2)]),
+    }
+}
+
+fn is_nested(rt: &HostRuntime, turned: [bool; 3]) -> Result<bool, Fail> {
+    let made = nested(rt, turned)?;
+    Ok(made.is_well_formed() && same(&made, &nested(rt, [false, false, false])?))
+}
+
+#[test]
+fn nested_sets_in_all_orders(rt: HostRuntime) -> Result<(), Fail> {
+    for a in [false, true] {
+        for b in [false, true] {
+            assert!(rt; is_nested(&rt, [a, b, false])?);
+            assert!(rt; is_nested(&rt, [a, b, true])?);
+        }
+    }
+    Ok(())
+}
+
+// One value in a set, and that set in another.
+#[test]
+fn sets_are_collected(rt: HostRuntime) -> Result<(), Fail> {
+    let inner = Set::from_values(rt.alloc(), values(&rt, &[Long(1)])?)?;
+    assert!(rt; inner.len() == 1);
+    let mut members = Vec::new(rt.alloc());
+    members.push(Value::new(ValueKind::Set(inner), None))?;
+    assert!(rt; Set::from_values(rt.alloc(), members)?.len() == 1);
+    Ok(())
+}
+
+#[test]
+fn a_copy_of_a_set(rt: HostRuntime) -> Result<(), Fail> {
+    let set = set(&rt, &[Long(2), Long(1)])?;
+    assert!(rt; set.clone(rt.alloc())? == set);
+    Ok(())
+}

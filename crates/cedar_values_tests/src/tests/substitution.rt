@@ -1,0 +1,162 @@
+// Values in place of unknowns.
+use crate::tests::point::Point;
+use crate::tests::samples::{extension, given, is_placed, value};
+use crate::tests::steps::Step::{And, At, Bool, Call, Long, SetOf, Unknown};
+use crate::tests::steps::{Step, expr, name, text};
+use cedar_exprs::{Expr, ExprBuilder, SubstituteValue, TypedBuildFault};
+use cedar_terms::{Type, Unknown as Term};
+use cedar_values::{
+    ExtensionValue, Value, substitute_typed_values_into_expr, substitute_values_into_expr,
+};
+use std::alloc::Global;
+use std::collections::HashMap;
+use std::rc::RcStr;
+use std::test::Fail;
+
+type Values = HashMap<RcStr, Value<Point>>;
+
+fn bind(
+    rt: &HostRuntime,
+    values: &mut Values,
+    name: &str,
+    value: Value<Point>,
+) -> Result<(), Fail> {
+    drop(values.insert(text(rt, name)?, value)?);
+    Ok(())
+}
+
+// The map that binds one name.
+fn bound(rt: &HostRuntime, name: &str, value: Value<Point>) -> Result<Values, Fail> {
+    let mut values = HashMap::new(rt.alloc());
+    bind(rt, &mut values, name, value)?;
+    Ok(values)
+}
+
+// Whether substitution makes the second expression of the first one.
+fn makes(rt: &HostRuntime, values: &Values, steps: &[Step], wanted: &[Step]) -> Result<bool, Fail> {
+    let made = expr(rt, steps)?.substitute(rt.alloc(), values)?;
+    Ok(made == expr(rt, wanted)?)
+}
+
+// The set of 3, 1 and 3 in place of an unknown.
+#[test]
+fn a_set_in_place_of_an_unknown(rt: HostRuntime) -> Result<(), Fail> {
+    let values = bound(
+        &rt,
+        "x",
+        value(&rt, &[Long(3), Long(1), Long(3), SetOf(3)])?,
+    )?;
+    let wanted = [Long(1), Long(3), SetOf(2)];
+    assert!(rt; makes(&rt, &values, &[Unknown("x")], &wanted)?);
+    Ok(())
+}
+
+// u is a point that f(z) made, and z is 5: a bound value is not searched.
+#[test]
+fn bound_values_are_not_searched(rt: HostRuntime) -> Result<(), Fail> {
+    let mut values = bound(&rt, "u", extension(&rt, given(&rt, 1, 2)?)?)?;
+    bind(&rt, &mut values, "z", Value::from(5))?;
+    assert!(rt; makes(&rt, &values, &[Unknown("u")], &[Unknown("z"), Call("f")])?);
+    Ok(())
+}
+
+// First u alone and then z alone.
+#[test]
+fn then_is_not_both(rt: HostRuntime) -> Result<(), Fail> {
+    let u = bound(&rt, "u", extension(&rt, given(&rt, 1, 2)?)?)?;
+    assert!(rt; makes(&rt, &u, &[Unknown("u")], &[Unknown("z"), Call("f")])?);
+    let z = bound(&rt, "z", Value::from(5))?;
+    assert!(rt; makes(&rt, &z, &[Unknown("z"), Call("f")], &[Long(5), Call("f")])?);
+    Ok(())
+}
+
+// `1 && x` at 0 to 6, the 1 at 0 to 1 and x at 5 to 6, with x = 2 at 9 to 10: the value brings its
+// place, the literal keeps its own, and the conjunction has none.
+#[test]
+fn a_bound_value_brings_its_place(rt: HostRuntime) -> Result<(), Fail> {
+    let values = bound(&rt, "x", value(&rt, &[Long(2), At(9, 10)])?)?;
+    let e = expr(
+        &rt,
+        &[Long(1), At(0, 1), Unknown("x"), At(5, 6), And, At(0, 6)],
+    )?;
+    let made = e.substitute(rt.alloc(), &values)?;
+    assert!(rt; is_placed(&rt, &made, &[None, Some((9, 10)), Some((0, 1))])?);
+    Ok(())
+}
+
+#[test]
+fn types_and_expressions_of_values(rt: HostRuntime) -> Result<(), Fail> {
+    let value = extension(&rt, given(&rt, 1, 2)?)?;
+    let ty = Type::Extension {
+        name: name(&rt, "point")?,
+    };
+    assert!(rt; value.value_type(rt.alloc())? == ty);
+    let written = value.value_expr(rt.alloc())?;
+    assert!(rt; *written.as_expr() == expr(&rt, &[Unknown("z"), Call("f")])?);
+    Ok(())
+}
+
+// What the struct's builder makes, if it makes something. The type of its data is a parameter here: at
+// a concrete one the check of the call's bound takes long.
+fn built<T: Default + Copy, X: ExtensionValue + Ord>(
+    alloc: Global,
+    e: &Expr<()>,
+    values: &HashMap<RcStr, Value<X>>,
+) -> Option<Expr<T>> {
+    substitute_values_into_expr::<ExprBuilder<T>, X>(alloc, e, values).ok()
+}
+
+// The map that binds x to {1}.
+fn x_is_a_set(rt: &HostRuntime) -> Result<Values, Fail> {
+    bound(rt, "x", value(rt, &[Long(1), SetOf(1)])?)
+}
+
+fn builds(
+    rt: &HostRuntime,
+    values: &Values,
+    steps: &[Step],
+    wanted: &[Step],
+) -> Result<bool, Fail> {
+    let made: Option<Expr<()>> = built(rt.alloc(), &expr(rt, steps)?, values);
+    Ok(made == Some(expr(rt, wanted)?))
+}
+
+#[test]
+fn builders_get_values(rt: HostRuntime) -> Result<(), Fail> {
+    let values = x_is_a_set(&rt)?;
+    let wanted = [Long(1), SetOf(1), Bool(true), SetOf(2)];
+    assert!(rt; builds(&rt, &values, &[Unknown("x"), Bool(true), SetOf(2)], &wanted)?);
+    Ok(())
+}
+
+// The same by types, or the two types of the first clash.
+fn built_typed<T: Default + Copy, X: ExtensionValue + Ord>(
+    alloc: Global,
+    e: &Expr<()>,
+    values: &HashMap<RcStr, Value<X>>,
+) -> Result<Expr<T>, Option<(Type, Type)>> {
+    match substitute_typed_values_into_expr::<ExprBuilder<T>, X>(alloc, e, values) {
+        Ok(made) => Ok(made),
+        Err(TypedBuildFault::TypeError { expected, actual }) => Err(Some((expected, actual))),
+        Err(_fault) => Err(None),
+    }
+}
+
+// What is made of an unknown x of this type, which is bound to {1}.
+fn of_type(rt: &HostRuntime, ty: Type) -> Result<Result<Expr<()>, Option<(Type, Type)>>, Fail> {
+    let x = Expr::unknown(Term::new_with_type(text(rt, "x")?, ty));
+    Ok(built_typed(rt.alloc(), &x, &x_is_a_set(rt)?))
+}
+
+#[test]
+fn builders_get_values_of_the_type(rt: HostRuntime) -> Result<(), Fail> {
+    let wanted = expr(&rt, &[Long(1), SetOf(1)])?;
+    assert!(rt; of_type(&rt, Type::Set)? == Ok(wanted));
+    Ok(())
+}
+
+#[test]
+fn values_of_another_type_are_refused(rt: HostRuntime) -> Result<(), Fail> {
+    assert!(rt; of_type(&rt, Type::Bool)? == Err(Some((Type::Bool, Type::Set))));
+    Ok(())
+}
