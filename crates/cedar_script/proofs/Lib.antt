@@ -1,3 +1,4 @@
 pub mod Stacks
 pub mod Pairs
 pub mod Spelling
+pub mod Bindings

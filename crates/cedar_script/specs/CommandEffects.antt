@@ -6,6 +6,7 @@ use Rattle.std.specs.Global.{Global}
 use Rattle.std.specs.List.{zip}
 use Rattle.std.specs.String.{string_bytes}
 use Rattle.std.specs.Vec.{vec_len}
+use Rattle.std.specs.declared.cmp.Ordering.{Ordering}
 use Rattle.std.specs.declared.string.String.{String as OwnedText}
 use Rattle.cedar_names.specs.PlainNames.{bare_name}
 use Rattle.cedar_terms.specs.Entities.{bare_entity_type}
@@ -18,9 +19,10 @@ use Rattle.cedar_builders.specs.Trees.{tree_ops}
 use Rattle.cedar_builders.specs.Keys.{in_key_order}
 use Rattle.cedar_exprs.specs.BareExpr.{bare_expr, bare_exprs}
 use Rattle.cedar_exprs.specs.declared.expr.Expr.{Expr}
+use Rattle.cedar_values.specs.Holders.{NoExtension}
 use Rattle.cedar_script.specs.CommandWords.{texts_now}
 use Rattle.cedar_script.specs.SketchTexts.{sketch_ops}
-use Rattle.cedar_script.specs.Stack.{Stack, stack_of, bindings_of, environment, binding_of, Pushes, TopHas, ReplacesOne, ReplacesTwo, ReplacesThree, ReplacesMany}
+use Rattle.cedar_script.specs.Stack.{Stack, stack_of, bindings_of, environment, IsBoundToValueOf, Pushes, TopHas, ReplacesOne, ReplacesTwo, ReplacesThree, ReplacesMany}
 use Rattle.cedar_script.specs.declared.line.Command.{Command}
 use Rattle.cedar_script.specs.declared.line.Command.TheVariants.{Bool as Bool', Long, String, Var, Slot, Unknown, If, And, Or, RawAnd, RawOr, Unary, Binary, Call, Get, Has, ExtHas, Like, Is, Set, Record, Bind, Substitute, Typed, Show}
 use Rattle.cedar_script.specs.declared.work.State.{State}
@@ -94,11 +96,11 @@ Works env Substitute old new = ReplacesOne (λ a e. fold tree_ops env (bare_expr
 Works env Typed old new = ReplacesOne (λ a e. (fold tree_ops env (bare_expr a) ≡ Ok (bare_expr e)) × (clash env (bare_expr a) ≡ None)) old new
 Works env Show old new = new ≡ old
 
--- what is bound after a command: `bind` binds its name to the top, and every other command
--- changes nothing
-abbrev pub Binds : Command → State → State → Type 0
-Binds (Bind name) old new = TopHas (λ top. environment (bindings_of new) name.now ≡ binding_of (bare_expr top)) (stack_of old)
-Binds _ old new = bindings_of new ≡ bindings_of old
+-- what is bound after a command: `bind` binds its name to the value of the top, and every other
+-- command changes nothing; R is the order of extension values, of which there are none
+abbrev pub Binds : (NoExtension → NoExtension → Ordering) → Command → State → State → Type 0
+Binds R (Bind name) old new = TopHas (λ top. IsBoundToValueOf R name.now (bare_expr top) (environment (bindings_of old)) (environment (bindings_of new))) (stack_of old)
+Binds R _ old new = bindings_of new ≡ bindings_of old
 
 -- what a command shows of the stack that it got: `show` the text of the top, and every other
 -- command nothing

@@ -12,7 +12,7 @@ use Rattle.cedar_terms.specs.Types.{BareType, type_text}
 use Rattle.cedar_terms.specs.declared.pattern.PatternElem.{PatternElem}
 use Rattle.cedar_builders.specs.BareExpr.{Text}
 use Rattle.cedar_builders.specs.Ops.{Ops}
-use Rattle.cedar_script.specs.declared.sketch.SExpression.{SExpression, SExpression-F, fold-SExpression}
+use Rattle.cedar_script.specs.declared.sketch.SExpression.{SExpression}
 
 -- each text behind a space
 abbrev pub spaced_text : List Text → Text
@@ -57,11 +57,6 @@ sketch_ops = record {
   is_of = λ e n. list_text (codes "is") (e ∷ name_text n ∷ []);
 }
 
--- one level, whose parts are texts already
-abbrev pub text_step : SExpression-F Text → Text
-text_step (SExpression-F.Atom word) = string_bytes word
-text_step (SExpression-F.List word parts) = list_text (string_bytes word) parts.items
-
--- the text of an S-expression
+-- the text of an S-expression: its pieces, joined
 abbrev pub text_of : SExpression → Text
-text_of = fold-SExpression Text text_step
+text_of e = flat_map string_bytes e.before ++ string_bytes e.last

@@ -1,19 +1,18 @@
 -- The state of a script: a stack of expressions, whose top stands first here, and what names are
 -- bound to.
-use Rattle.std.specs.Prelude.{◌≡◌, ℕ, List, [], ◌∷◌, Option, Some, None, drop, take, reverse}
-use Rattle.std.specs.Global.{Global}
-use Rattle.std.specs.HashMap.{HashMap}
+use Rattle.std.specs.Prelude.{◌≡◌, ◌≢◌, ℕ, List, [], ◌∷◌, Option, Some, drop, take, reverse}
 use Rattle.std.specs.Vec.{vec_len}
-use Rattle.std.specs.declared.rc.RcStr.{RcStr}
-use Rattle.std.specs.declared.hash.FoldHasher.{FoldHasher}
-use Rattle.std.specs.declared.hash.BuildHasherDefault.{BuildHasherDefault}
-use Rattle.cedar_terms.specs.Literals.{bare_literal}
-use Rattle.cedar_terms.specs.Types.{BareType, literal_type}
-use Rattle.cedar_terms.specs.declared.literal.Literal.{Literal}
-use Rattle.cedar_builders.specs.BareExpr.{BareExpr, Lit}
+use Rattle.std.specs.declared.cmp.Ordering.{Ordering}
+use Rattle.cedar_terms.specs.Types.{BareType}
+use Rattle.cedar_builders.specs.BareExpr.{Text, BareExpr}
 use Rattle.cedar_builders.specs.Environment.{Env}
-use Rattle.cedar_exprs.specs.RestrictedExprs.{env_of}
+use Rattle.value_trees.specs.BareValue.{BareValue}
+use Rattle.value_trees.specs.Reading.{IsValueOf}
+use Rattle.value_trees.specs.ValueExpr.{value_expr}
+use Rattle.value_trees.specs.ValueTypes.{value_type}
 use Rattle.cedar_exprs.specs.declared.expr.Expr.{Expr}
+use Rattle.cedar_values.specs.Holders.{NoExtension, held_name, held_call, plain_env}
+use Rattle.cedar_values.specs.ValueMaps.{ValueMap}
 use Rattle.cedar_script.specs.declared.work.State.{State}
 
 -- the expressions on a stack, the top first
@@ -30,19 +29,28 @@ depth state = vec_len state.stack
 
 -- what names are bound to
 abbrev pub Bindings : Type 0
-Bindings = HashMap (RcStr Global) Literal (BuildHasherDefault FoldHasher)
+Bindings = ValueMap NoExtension
 
 abbrev pub bindings_of : State → Bindings
 bindings_of state = state.bindings
 
 -- the type and the tree of what each name is bound to, as substitution sees it
 abbrev pub environment : Bindings → Env
-environment = env_of (λ l. literal_type (bare_literal l)) (λ l. Lit (bare_literal l))
+environment = plain_env
 
--- what a literal binds a name to
-abbrev pub binding_of : BareExpr → Option (BareType × BareExpr)
-binding_of (Lit l) = Some (literal_type l, Lit l)
-binding_of e = None
+-- what a value binds a name to
+abbrev pub binding_of : BareValue NoExtension → Option (BareType × BareExpr)
+binding_of v = Some (value_type held_name v, value_expr held_call v)
+
+-- what is bound once a name is: to this name the entry, and to every other what was
+pub record IsBoundTo (name : Text) (entry : Option (BareType × BareExpr)) (old new : Env) : Type 0 where
+  pub bound : new name ≡ entry
+  pub kept : (other : Text) → other ≢ name → new other ≡ old other
+
+-- the tree is that of a value, and the name is bound to this value; R is the order of extension
+-- values, of which there are none
+abbrev pub IsBoundToValueOf : (NoExtension → NoExtension → Ordering) → Text → BareExpr → Env → Env → Type 0
+IsBoundToValueOf R name e old new = (v : BareValue NoExtension) × IsValueOf R e v × IsBoundTo name (binding_of v) old new
 
 -- an expression with the property stands on the old stack
 abbrev pub Pushes : (Expr Unit → Type 0) → Stack → Stack → Type 0

@@ -5,6 +5,7 @@ ghost use Rattle.cedar_script.specs.declared.refusal.Refusal.TheVariants.{Memory
 use cedar_builders::{DuplicateKeyError, ExpressionConstructionError};
 use cedar_exprs::SubstitutionError;
 use cedar_terms::Type;
+use cedar_values::NotValue;
 use std::alloc::{AllocError, AllocFailed};
 use thiserror::Error;
 
@@ -74,6 +75,19 @@ impl From<SubstitutionError> for Refusal {
                 Refusal::TypeError { expected, actual }
             }
             SubstitutionError::Memory => Refusal::Memory,
+        }
+    }
+}
+
+impl From<NotValue> for Refusal {
+    ghost use Rattle.cedar_script.specs.Refusals.{refusal_of_value};
+
+    ghost from_gives = { λ e r. r ≡ refusal_of_value e };
+
+    fn from(error: NotValue) -> Refusal {
+        match error {
+            NotValue::NotValue { .. } => Refusal::NotAValue,
+            NotValue::Memory => Refusal::Memory,
         }
     }
 }

@@ -1,5 +1,5 @@
 //! The texts of expressions, in prefix form.
-ghost use Rattle.std.specs.Prelude.{◌≡◌, ◌∷◌, ◌++◌, List, ℕ, IfOk, IfErr, OnOk, None, map, string_bytes, ⊤};
+ghost use Rattle.std.specs.Prelude.{◌≡◌, ◌∷◌, ◌++◌, [], List, ℕ, IfOk, IfErr, OnOk, None, map, string_bytes, ⊤};
 ghost use Rattle.std.specs.Rc.{rc_str_bytes};
 ghost use Rattle.cedar_names.specs.PlainNames.{bare_name};
 ghost use Rattle.cedar_names.specs.Names.{name_text};
@@ -18,16 +18,20 @@ use cedar_builders::{
 use cedar_names::{Loc, Name, NonEmpty, SlotId};
 use cedar_terms::{BinaryOp, EntityType, Escaped, Literal, Pattern, UnaryOp, Unknown, Var};
 use std::alloc::{AllocError, Global};
+use std::collections::LinkedList;
 use std::convert::Infallible;
+use std::mem;
 use std::rc::RcStr;
 
-/// An S-expression: a text in parts, which are joined once, when it is written.
+/// An S-expression: a text in pieces, which are joined once, when it is written.
+///
+/// A list takes over the pieces of its parts as they stand, so that a tree of any shape and depth
+/// is made in time proportional to its nodes, and is dropped piece by piece.
 #[derive(Debug, Drop)]
-pub enum SExpression {
-    /// A text as it stands.
-    Atom(String),
-    /// A first word and the parts that follow it, in round brackets.
-    List(String, Vec<SExpression>),
+pub struct SExpression {
+    // What stands before the last piece.
+    before: LinkedList<String>,
+    last: String,
 }
 
 impl SExpression {
@@ -36,46 +40,64 @@ impl SExpression {
         ensures { IfOk result (λ s. string_bytes s ≡ text_of self.now) }
     {
         let mut text = String::new(alloc);
-        push_text(&mut text, self)?;
+        for piece in &self.before {
+            text.push_str(piece)?;
+        }
+        text.push_str(&self.last)?;
         Ok(text)
     }
-}
 
-// Writes the text behind what is there.
-#[cycle(writing)]
-fn push_text(out: &mut String, part: &SExpression) -> Result<(), AllocError>
-    ensures { OnOk result (string_bytes out.new ≡ string_bytes out.old ++ text_of part.now) }
-{
-    match part {
-        SExpression::Atom(word) => out.push_str(word),
-        SExpression::List(word, parts) => {
-            out.push_str("(")?;
-            out.push_str(word)?;
-            push_spaced(out, parts)?;
-            out.push_str(")")
+    // A text as it stands.
+    fn atom(alloc: Global, text: String) -> SExpression
+        ensures { text_of result ≡ string_bytes text }
+    {
+        SExpression {
+            before: LinkedList::new(alloc),
+            last: text,
         }
     }
-}
 
-// Writes each text behind a space.
-#[cycle(writing)]
-fn push_spaced(out: &mut String, parts: &Vec<SExpression>) -> Result<(), AllocError>
-    ensures { OnOk result
-        (string_bytes out.new ≡ string_bytes out.old ++ spaced_text (map text_of parts.now.items)) }
-{
-    for part in parts {
-        out.push_str(" ")?;
-        push_text(out, part)?;
+    // Puts a part behind a space.
+    fn push(&mut self, part: SExpression) -> Result<(), AllocError>
+        ensures { OnOk result (text_of self.new ≡ text_of self.old ++ 32 ∷ text_of part) }
+    {
+        let SExpression { mut before, last } = part;
+        self.last.push(' ')?;
+        self.before.push_back(mem::replace(&mut self.last, last))?;
+        self.before.append(&mut before)
     }
-    Ok(())
+
+    // Puts the bracket behind the last part of a list.
+    fn close(&mut self) -> Result<(), AllocError>
+        ensures { OnOk result (text_of self.new ≡ text_of self.old ++ 41 ∷ []) }
+    {
+        self.last.push(')')
+    }
 }
 
 // Makes the list of a word and these parts.
 fn make_list(alloc: Global, word: &str, parts: Vec<SExpression>) -> Result<SExpression, AllocError>
     ensures { IfOk result (λ e. text_of e ≡ list_text word.now (map text_of parts.items)) }
 {
-    let word = String::from_str(alloc, word)?;
-    Ok(SExpression::List(word, parts))
+    let opening = format!(in alloc; "({word}")?;
+    fill_list(alloc, opening, parts)
+}
+
+// Makes the list of what it opens with, the bracket and the word, and these parts.
+fn fill_list(
+    alloc: Global,
+    opening: String,
+    parts: Vec<SExpression>,
+) -> Result<SExpression, AllocError>
+    ensures { IfOk result (λ e.
+        text_of e ≡ string_bytes opening ++ (spaced_text (map text_of parts.items) ++ 41 ∷ [])) }
+{
+    let mut list = SExpression::atom(alloc, opening);
+    for part in parts {
+        list.push(part)?;
+    }
+    list.close()?;
+    Ok(list)
 }
 
 // Puts a text into double quotes, with its escapes.
@@ -83,14 +105,14 @@ fn quote(alloc: Global, text: &str) -> Result<SExpression, AllocError>
     ensures { IfOk result (λ e. text_of e ≡ quoted text.now) }
 {
     let quoted = format!(in alloc; "\"{}\"", Escaped(text))?;
-    Ok(SExpression::Atom(quoted))
+    Ok(SExpression::atom(alloc, quoted))
 }
 
 // Writes the name of a function or a type.
 fn make_name(alloc: Global, name: &Name) -> Result<SExpression, AllocError>
     ensures { IfOk result (λ e. text_of e ≡ name_text (bare_name name.now)) }
 {
-    Ok(SExpression::Atom(format!(in alloc; "{name}")?))
+    Ok(SExpression::atom(alloc, format!(in alloc; "{name}")?))
 }
 
 // Lists the name of an unknown, and its type, if it has one.
@@ -99,11 +121,11 @@ fn list_unknown_parts(alloc: Global, unknown: &Unknown) -> Result<Vec<SExpressio
         IfOk result (λ parts.
         map text_of parts.items ≡ bare.name ∷ annotation_texts bare.annotation) }
 {
-    let name = SExpression::Atom(String::from_str(alloc, &unknown.name)?);
+    let name = SExpression::atom(alloc, String::from_str(alloc, &unknown.name)?);
     match &unknown.type_annotation {
         None => Ok(vec![in alloc; name]?),
         Some(ty) => {
-            let annotation = SExpression::Atom(format!(in alloc; "{ty}")?);
+            let annotation = SExpression::atom(alloc, format!(in alloc; "{ty}")?);
             Ok(vec![in alloc; name, annotation]?)
         }
     }
@@ -144,8 +166,8 @@ fn make_pair_lists(
 fn make_pair_list(alloc: Global, key: &str, value: SExpression) -> Result<SExpression, AllocError>
     ensures { IfOk result (λ e. text_of e ≡ pair_text (key.now, text_of value)) }
 {
-    let key = format!(in alloc; "\"{}\"", Escaped(key))?;
-    Ok(SExpression::List(key, vec![in alloc; value]?))
+    let opening = format!(in alloc; "(\"{}\"", Escaped(key))?;
+    fill_list(alloc, opening, vec![in alloc; value]?)
 }
 
 /// The builder of texts: what it makes of `1 < 2 && true` is `(and (< 1 2) true)`.
@@ -203,15 +225,15 @@ impl ExprBuilder for Sketch {
     }
 
     fn val(self, alloc: Global, literal: Literal) -> Result<SExpression, AllocError> {
-        Ok(SExpression::Atom(format!(in alloc; "{literal}")?))
+        Ok(SExpression::atom(alloc, format!(in alloc; "{literal}")?))
     }
 
     fn var(self, alloc: Global, var: Var) -> Result<SExpression, AllocError> {
-        Ok(SExpression::Atom(format!(in alloc; "{var}")?))
+        Ok(SExpression::atom(alloc, format!(in alloc; "{var}")?))
     }
 
     fn slot(self, alloc: Global, slot: SlotId) -> Result<SExpression, AllocError> {
-        Ok(SExpression::Atom(format!(in alloc; "{slot}")?))
+        Ok(SExpression::atom(alloc, format!(in alloc; "{slot}")?))
     }
 
     fn unknown(self, alloc: Global, unknown: Unknown) -> Result<SExpression, AllocError> {
@@ -257,8 +279,8 @@ impl ExprBuilder for Sketch {
         op: UnaryOp,
         arg: SExpression,
     ) -> Result<SExpression, AllocError> {
-        let word = format!(in alloc; "{op}")?;
-        Ok(SExpression::List(word, vec![in alloc; arg]?))
+        let opening = format!(in alloc; "({op}")?;
+        fill_list(alloc, opening, vec![in alloc; arg]?)
     }
 
     fn binary_app(
@@ -268,8 +290,8 @@ impl ExprBuilder for Sketch {
         arg1: SExpression,
         arg2: SExpression,
     ) -> Result<SExpression, AllocError> {
-        let word = format!(in alloc; "{op}")?;
-        Ok(SExpression::List(word, vec![in alloc; arg1, arg2]?))
+        let opening = format!(in alloc; "({op}")?;
+        fill_list(alloc, opening, vec![in alloc; arg1, arg2]?)
     }
 
     fn call_extension_fn(
@@ -325,7 +347,7 @@ impl ExprBuilder for Sketch {
         expr: SExpression,
         pattern: Pattern,
     ) -> Result<SExpression, AllocError> {
-        let pattern = SExpression::Atom(format!(in alloc; "\"{pattern}\"")?);
+        let pattern = SExpression::atom(alloc, format!(in alloc; "\"{pattern}\"")?);
         make_list(alloc, "like", vec![in alloc; expr, pattern]?)
     }
 

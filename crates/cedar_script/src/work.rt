@@ -3,7 +3,7 @@
 ghost use Rattle.std.specs.Prelude.{◌≡◌, ◌≢◌, ◌∷◌, Ok, None, drop, take, reverse, ◌+◌, ◌<◌, ◌↔◌, OnOk, IfOk, IsErrOf, IfErr, map, string_bytes, vec_len};
 ghost use Rattle.std.specs.Rc.{rc_str_bytes};
 ghost use Rattle.cedar_names.specs.PlainNames.{bare_name};
-ghost use Rattle.cedar_terms.specs.Literals.{BareLiteral, StringLit, bare_literal};
+ghost use Rattle.cedar_terms.specs.Literals.{StringLit};
 ghost use Rattle.cedar_terms.specs.Unknowns.{bare_annotation};
 ghost use Rattle.cedar_builders.specs.BareExpr.{Lit, Unknown as unknown_tree, And, Or, ExtensionFunctionApp as call_tree, Set as members};
 ghost use Rattle.cedar_builders.specs.TypeClash.{clash};
@@ -12,10 +12,13 @@ ghost use Rattle.cedar_builders.specs.Trees.{tree_ops};
 ghost use Rattle.cedar_exprs.specs.BareExpr.{bare_expr, bare_exprs};
 ghost use Rattle.cedar_builders.specs.Keys.{keyed};
 ghost use Rattle.cedar_builders.specs.SubstitutionErrors.{IsClashError};
+ghost use Rattle.value_trees.specs.Reading.{IsValueOf};
+ghost use Rattle.cedar_values.specs.BareValues.{bare_value};
 ghost use Rattle.cedar_script.specs.CommandEffects.{needed_count, left_count, key_pairs, record_of, Works, Binds, Shows};
 ghost use Rattle.cedar_script.specs.CommandWords.{texts_now};
+ghost use Rattle.cedar_script.specs.Refusals.{IsValueRefusal};
 ghost use Rattle.cedar_script.specs.SketchTexts.{sketch_ops};
-ghost use Rattle.cedar_script.specs.Stack.{stack_of, depth, bindings_of, environment, binding_of, TopHas, ReplacesOne, ReplacesTwo, ReplacesThree, ReplacesMany};
+ghost use Rattle.cedar_script.specs.Stack.{stack_of, depth, bindings_of, environment, binding_of, IsBoundTo, IsBoundToValueOf, TopHas, ReplacesOne, ReplacesTwo, ReplacesThree, ReplacesMany};
 ghost use Rattle.cedar_script.specs.declared.line.Command.{Command};
 
 use crate::line::Command;
@@ -25,6 +28,7 @@ use cedar_builders::ExprBuilder as _;
 use cedar_exprs::{Expr, ExprBuilder, ExprKind, SubstitutionError};
 use cedar_names::{Name, NonEmpty};
 use cedar_terms::{Literal, Type, Unknown};
+use cedar_values::{NoExtension, Value};
 use std::alloc::{AllocError, Global};
 use std::collections::HashMap;
 use std::rc::{Rc, RcStr};
@@ -36,7 +40,7 @@ pub type Shown = Result<Option<String>, Refusal>;
 #[derive(Debug, Drop)]
 pub struct State {
     stack: Vec<Expr>,
-    bindings: HashMap<RcStr, Literal>,
+    bindings: HashMap<RcStr, Value>,
 }
 
 impl State {
@@ -58,7 +62,8 @@ impl State {
         ensures works { OnOk result
             (Works (environment (bindings_of self.old)) command.entry
             (stack_of self.old) (stack_of self.new)) }
-        ensures binds { OnOk result (Binds command.entry self.old self.new) }
+        ensures binds { OnOk result
+            (Binds ⟦<NoExtension as Ord>⟧.cmp command.entry self.old self.new) }
         ensures depth { OnOk result
             (depth self.new + needed_count command.entry
             ≡ depth self.old + left_count command.entry) }
@@ -240,21 +245,23 @@ impl State {
     fn bind(&mut self, alloc: Global, name: &str) -> Shown
         ensures shows { IfOk result (λ shown. shown ≡ None) }
         ensures bound { OnOk result (TopHas
-            (λ top. environment (bindings_of self.new) name.now ≡ binding_of (bare_expr top))
+            (λ top. IsBoundToValueOf ⟦<NoExtension as Ord>⟧.cmp name.now (bare_expr top)
+            (environment (bindings_of self.old)) (environment (bindings_of self.new)))
             (stack_of self.old)) }
         ensures below { OnOk result (stack_of self.new ≡ drop 1 (stack_of self.old)) }
         ensures depth { OnOk result (depth self.new + 1 ≡ depth self.old) }
         ensures too_few { IsErrOf result Refusal.TooFewExpressions ↔ (depth self.old < 1) }
     {
-        let value = into_literal(self.pop()?)?;
+        let value = into_value(alloc, self.pop()?)?;
         self.bind_to(alloc, name, value)
     }
 
     // Binds the name to a value, in place of an earlier binding.
-    fn bind_to(&mut self, alloc: Global, name: &str, value: Literal) -> Shown
+    fn bind_to(&mut self, alloc: Global, name: &str, value: Value) -> Shown
         ensures shows { IfOk result (λ shown. shown ≡ None) }
         ensures bound { OnOk result
-            (environment (bindings_of self.new) name.now ≡ binding_of (Lit (bare_literal value))) }
+            (IsBoundTo name.now (binding_of (bare_value value))
+            (environment (bindings_of self.old)) (environment (bindings_of self.new))) }
         ensures stack { stack_of self.new ≡ stack_of self.old }
         ensures depth { depth self.new ≡ depth self.old }
         ensures refused { IfErr result (λ e. e ≡ Refusal.Memory) }
@@ -393,15 +400,12 @@ fn share_texts(alloc: Global, texts: &[&str]) -> Result<Vec<RcStr>, AllocError>
 }
 
 // Takes the literal out of an expression that is one.
-fn into_literal(expr: Expr) -> Result<Literal, Refusal>
-    ensures value { IfOk result (λ literal. bare_expr expr ≡ Lit (bare_literal literal)) }
-    ensures refused { IfErr result (λ e.
-        (e ≡ Refusal.NotAValue) × ((l : BareLiteral) → bare_expr expr ≢ Lit l)) }
+fn into_value(alloc: Global, expr: Expr) -> Result<Value, Refusal>
+    ensures value { IfOk result (λ v.
+        IsValueOf ⟦<NoExtension as Ord>⟧.cmp (bare_expr expr) (bare_value v)) }
+    ensures refused { IfErr result (IsValueRefusal (bare_expr expr)) }
 {
-    match expr.into_expr_kind() {
-        ExprKind::Lit(literal) => Ok(literal),
-        _ => Err(Refusal::NotAValue),
-    }
+    Ok(Value::try_from_expr(alloc, expr)?)
 }
 
 // Builds the record of keys, each with the value at its index.

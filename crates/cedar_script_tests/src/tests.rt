@@ -238,6 +238,15 @@ fn substitution_binds_names(rt: HostRuntime) -> Result<(), Fail> {
             "unknown x\nunknown y\n==\nlong 1\nbind x\nlong 2\nbind y\nlong 3\nbind x\nsubstitute\nshow\n",
             "(== 3 2)\n",
         ),
+        // A set is bound as the list of its members, which rise and stand once; it is not searched.
+        (
+            "unknown x\nlong 3\nlong 1\nlong 3\nset 3\nbind x\nsubstitute\nshow\n",
+            "(set 1 3)\n",
+        ),
+        (
+            "unknown x\nbool true\nset 0\nrecord b a\nbind x\nsubstitute\nshow\n",
+            "(record (\"a\" (set)) (\"b\" true))\n",
+        ),
         // Only the top is replaced.
         (
             "unknown x\nunknown x\nlong 1\nbind x\nsubstitute\n-\nshow\n",
@@ -475,7 +484,7 @@ fn what_is_no_value_record_or_text_is_refused(rt: HostRuntime) -> Result<(), Fai
         (b"slot principal\nbind y\n", "", "line 2: not a value"),
         (b"call f 0\nbind y\n", "", "line 2: not a value"),
         (b"like \xff\n", "", "line 1: not UTF-8"),
-        (b"set 0\nbind y\n", "", "line 2: not a value"),
+        (b"unknown x\nset 1\nbind y\n", "", "line 3: not a value"),
         (
             b"long 1\nlong 2\nrecord a a\nshow\n",
             "",
