@@ -5,6 +5,7 @@ use cedar_exprs::{Expr, ExprBuilder, SubstitutionError};
 use cedar_script::Sketch;
 use cedar_terms::{Literal, Type, Unknown};
 use std::alloc::{AllocError, Global};
+use std::cmp::Ordering;
 use std::collections::HashMap;
 use std::mem;
 use std::rc::RcStr;
@@ -17,7 +18,7 @@ const WIDE: [usize; 4] = [1_000, 10_000, 100_000, 1_000_000];
 // Numbers of nodes of records of ten records and so on, two to five deep.
 const RECORDS: [usize; 4] = [111, 1_111, 11_111, 111_111];
 
-const LEVELS: [usize; 3] = [1_000, 10_000, 100_000];
+const LEVELS: [usize; 4] = [1_000, 10_000, 100_000, 1_000_000];
 
 impl From<SubstitutionError> for CaseFault {
     fn from(error: SubstitutionError) -> CaseFault {
@@ -37,7 +38,7 @@ impl From<ExpressionConstructionError> for CaseFault {
     }
 }
 
-/// The cases of substitution, building and texts.
+/// The cases of substitution, building, texts, walks and shapes.
 pub fn cases<V: Visit>(visit: &mut V) -> Result<(), BenchFault> {
     visit.case("subst-balanced", &FULL, sums_bound, substitute)?;
     visit.case("subst-unbound", &FULL, sums_unbound, substitute)?;
@@ -46,7 +47,9 @@ pub fn cases<V: Visit>(visit: &mut V) -> Result<(), BenchFault> {
     visit.case("subst-records", &RECORDS, records, substitute)?;
     visit.case("subst-deep", &LEVELS, negations, substitute)?;
     visit.case("build", &FULL, sums, build)?;
-    visit.case("show", &FULL, sums, show)
+    visit.case("show", &FULL, sums, show)?;
+    visit.case("walk", &FULL, sums, walk)?;
+    visit.case("cmp-shape", &FULL, sums_twice, cmp_shape)
 }
 
 // An expression, and what names are bound to.
@@ -63,6 +66,13 @@ impl Substitution {
         drop(values.insert(RcStr::from_str(alloc, "x")?, x)?);
         Ok(Substitution { expr, values })
     }
+}
+
+// An expression, and one that was built again of it.
+#[derive(Drop)]
+struct Pair {
+    expr: Expr,
+    copy: Expr,
 }
 
 fn substitute(alloc: Global, input: &mut Substitution) -> Result<Expr, CaseFault> {
@@ -84,6 +94,29 @@ fn rebuilt<T: Copy + Default>(alloc: Global, expr: &Expr) -> Result<Expr<T>, All
 
 fn show(alloc: Global, expr: &mut Expr) -> Result<String, CaseFault> {
     Ok(expr.into_expr::<Sketch>(alloc)?.to_text(alloc)?)
+}
+
+// How many positions there are.
+fn walk(alloc: Global, expr: &mut Expr) -> Result<usize, CaseFault> {
+    let mut count: usize = 0;
+    for _ in expr.subexpressions(alloc)? {
+        count = count.saturating_add(1);
+    }
+    Ok(count)
+}
+
+// The two have one shape.
+fn cmp_shape(_: Global, input: &mut Pair) -> Result<(), CaseFault> {
+    match input.expr.cmp_shape(&input.copy) {
+        Ordering::Equal => Ok(()),
+        _ => Err(CaseFault::Answer),
+    }
+}
+
+fn sums_twice(alloc: Global, nodes: usize) -> Result<Pair, CaseFault> {
+    let expr = sums(alloc, nodes)?;
+    let copy = rebuilt(alloc, &expr)?;
+    Ok(Pair { expr, copy })
 }
 
 fn sums_bound(alloc: Global, nodes: usize) -> Result<Substitution, CaseFault> {

@@ -12,6 +12,7 @@ mod names;
 mod patterns;
 mod script;
 mod timing;
+mod values;
 
 use crate::args::Wanted;
 use crate::case::{BenchFault, Names, Visit};
@@ -48,5 +49,6 @@ fn all_cases<V: Visit>(visit: &mut V) -> Result<(), BenchFault> {
     names::cases(visit)?;
     patterns::cases(visit)?;
     expressions::cases(visit)?;
+    values::cases(visit)?;
     script::cases(visit)
 }

@@ -9,7 +9,7 @@ const ENOUGH: u64 = 300;
 
 const FEWEST_RUNS: usize = 3;
 
-const MOST_RUNS: usize = 1_000_000;
+const MOST_RUNS: usize = 300;
 
 /// Times the cases that are wanted, and writes a line for each size.
 #[derive(Drop)]
