@@ -1,16 +1,8 @@
-mod building;
 mod constructors;
 mod laws;
-mod places;
 mod queries;
 mod recorder;
-mod refusals;
 mod restricted;
-mod samples;
 mod shapes;
 mod shapes_as_keys;
-mod stored;
-mod substitution;
-mod typed;
-mod typed_building;
 mod walks;

@@ -4,9 +4,11 @@ use cedar_names::{
     ParseErrors, PrincipalOrResource, RawName, ReferenceType, Slot, SlotId, UnreservedId,
     is_normalized_ident,
 };
+use std::alloc::{AllocError, Global};
 use std::collections::{BTreeMap, BTreeSet, HashMap};
 use std::convert::{AsRef, AsStr, TryFrom};
-use std::fmt::Display;
+use std::fmt::{Debug, Display};
+use std::hash::Hash;
 use std::rc::RcStr;
 use std::test::Fail;
 
@@ -64,16 +66,40 @@ fn all_refused<T: FromNormalizedStr + Display + Drop>(
     Ok(true)
 }
 
+// What was made. A `?` beside a value of a large type is dear to check, one in a generic function
+// is not, so answers go whole through these functions.
+fn made<T: Drop, E: Debug + Drop>(answer: Result<T, E>) -> Result<T, Fail> {
+    Ok(answer?)
+}
+
+fn beside<T: Drop, U: Drop, E: Debug + Drop>(
+    first: T,
+    second: Result<U, E>,
+) -> Result<(T, U), Fail> {
+    Ok((first, second?))
+}
+
+fn is_equal<T: PartialEq + Drop, E: Debug + Drop>(
+    first: T,
+    second: Result<T, E>,
+) -> Result<bool, Fail> {
+    Ok(first == second?)
+}
+
+fn read<T: FromNormalizedStr + Drop>(rt: &HostRuntime, s: &str) -> Result<T, Fail> {
+    made(T::from_normalized_str(rt.alloc(), s))
+}
+
 fn id(rt: &HostRuntime, s: &str) -> Result<Id, Fail> {
-    Ok(Id::from_normalized_str(rt.alloc(), s)?)
+    read(rt, s)
 }
 
 fn internal(rt: &HostRuntime, s: &str) -> Result<InternalName, Fail> {
-    Ok(InternalName::from_normalized_str(rt.alloc(), s)?)
+    read(rt, s)
 }
 
 fn name(rt: &HostRuntime, s: &str) -> Result<Name, Fail> {
-    Ok(Name::from_normalized_str(rt.alloc(), s)?)
+    read(rt, s)
 }
 
 fn loc(rt: &HostRuntime, start: usize, stop: usize, s: &str) -> Result<Loc, Fail> {
@@ -205,12 +231,15 @@ fn refuses_more_than_one_identifier(rt: HostRuntime) -> Result<(), Fail> {
     Ok(())
 }
 
+// Whether it is the place of all of `foo::bar`.
+fn is_whole(place: Option<&Loc>) -> bool {
+    place.is_some_and(|loc| loc.start == 0 && loc.stop == 8 && loc.src.as_str() == "foo::bar")
+}
+
 #[test]
 fn keeps_the_place_of_a_text(rt: HostRuntime) -> Result<(), Fail> {
-    let whole = loc(&rt, 0, 8, "foo::bar")?;
-    assert!(rt; whole.start == 0 && whole.stop == 8 && whole.src.as_str() == "foo::bar");
-    assert!(rt; internal(&rt, "foo::bar")?.loc() == Some(&whole));
-    assert!(rt; name(&rt, "foo::bar")?.loc() == Some(&whole));
+    assert!(rt; is_whole(internal(&rt, "foo::bar")?.loc()));
+    assert!(rt; is_whole(name(&rt, "foo::bar")?.loc()));
     Ok(())
 }
 
@@ -243,32 +272,38 @@ fn keeps_the_place_given(rt: HostRuntime) -> Result<(), Fail> {
 
 #[test]
 fn orders_places(rt: HostRuntime) -> Result<(), Fail> {
+    for (start, stop, src) in [(2, 9, "z"), (3, 4, "z"), (3, 5, "a")] {
+        let before = loc(&rt, start, stop, src)?;
+        assert!(rt; before < loc(&rt, 3, 5, "b")?);
+    }
     let place = loc(&rt, 3, 5, "b")?;
-    assert!(rt; loc(&rt, 2, 9, "z")? < place);
-    assert!(rt; loc(&rt, 3, 4, "z")? < place);
-    assert!(rt; loc(&rt, 3, 5, "a")? < place);
-    assert!(rt; place.clone(rt.alloc())? == place);
+    let copy = place.clone(rt.alloc());
+    assert!(rt; is_equal(place, copy)?);
     Ok(())
 }
 
 fn qualified(rt: &HostRuntime, s: &str, namespace: &str) -> Result<InternalName, Fail> {
-    let namespace = internal(rt, namespace)?;
-    Ok(internal(rt, s)?.qualify_with(rt.alloc(), Some(&namespace))?)
+    let name = InternalName::from_normalized_str(rt.alloc(), s);
+    let (namespace, name) = beside(internal(rt, namespace)?, name)?;
+    made(name.qualify_with(rt.alloc(), Some(&namespace)))
 }
 
 fn qualified_by_name(rt: &HostRuntime, s: &str, namespace: &str) -> Result<InternalName, Fail> {
-    let namespace = name(rt, namespace)?;
-    Ok(internal(rt, s)?.qualify_with_name(rt.alloc(), Some(&namespace))?)
+    let plain = InternalName::from_normalized_str(rt.alloc(), s);
+    let (namespace, name) = beside(name(rt, namespace)?, plain)?;
+    made(name.qualify_with_name(rt.alloc(), Some(&namespace)))
 }
 
 fn plain_qualified(rt: &HostRuntime, s: &str, namespace: &str) -> Result<InternalName, Fail> {
-    let namespace = internal(rt, namespace)?;
-    Ok(name(rt, s)?.qualify_with(rt.alloc(), Some(&namespace))?)
+    let name = Name::from_normalized_str(rt.alloc(), s);
+    let (namespace, name) = beside(internal(rt, namespace)?, name)?;
+    made(name.qualify_with(rt.alloc(), Some(&namespace)))
 }
 
 fn plain_qualified_by_name(rt: &HostRuntime, s: &str, namespace: &str) -> Result<Name, Fail> {
-    let namespace = name(rt, namespace)?;
-    Ok(name(rt, s)?.qualify_with_name(rt.alloc(), Some(&namespace))?)
+    let plain = Name::from_normalized_str(rt.alloc(), s);
+    let (namespace, name) = beside(name(rt, namespace)?, plain)?;
+    made(name.qualify_with_name(rt.alloc(), Some(&namespace)))
 }
 
 #[test]
@@ -291,8 +326,11 @@ fn qualifies(rt: HostRuntime) -> Result<(), Fail> {
 #[test]
 fn qualifies_by_no_namespace(rt: HostRuntime) -> Result<(), Fail> {
     let bare = internal(&rt, "A")?;
-    assert!(rt; bare.qualify_with(rt.alloc(), None)? == bare);
-    assert!(rt; bare.qualify_with_name(rt.alloc(), None)? == bare);
+    let whole = bare.qualify_with(rt.alloc(), None);
+    assert!(rt; is_equal(bare, whole)?);
+    let bare = internal(&rt, "A")?;
+    let whole = bare.qualify_with_name(rt.alloc(), None);
+    assert!(rt; is_equal(bare, whole)?);
     Ok(())
 }
 
@@ -385,10 +423,11 @@ fn converts_identifiers(rt: HostRuntime) -> Result<(), Fail> {
 
 #[test]
 fn converts_words(rt: HostRuntime) -> Result<(), Fail> {
-    let any = AnyId::from_normalized_str(rt.alloc(), "if")?;
-    assert!(rt; any.clone(rt.alloc())? == any);
+    let any = read::<AnyId>(&rt, "if")?;
     assert_eq!(rt; any.as_str(), "if");
-    assert_eq!(rt; any.into_smolstr().as_str(), "if");
+    let copy = any.clone(rt.alloc());
+    assert!(rt; is_equal(any, copy)?);
+    assert_eq!(rt; read::<AnyId>(&rt, "if")?.into_smolstr().as_str(), "if");
     Ok(())
 }
 
@@ -465,11 +504,8 @@ fn unplaced(rt: &HostRuntime) -> Result<InternalName, Fail> {
 
 #[test]
 fn hashes_without_places(rt: HostRuntime) -> Result<(), Fail> {
-    let mut numbers = HashMap::new(rt.alloc());
-    numbers.insert(internal(&rt, "A::B")?, 1u8)?;
-    numbers.insert(unplaced(&rt)?, 2u8)?;
-    assert_eq!(rt; numbers.len(), 1);
-    assert!(rt; numbers.get(&internal(&rt, "A::B")?) == Some(&2));
+    let placed = InternalName::from_normalized_str(rt.alloc(), "A::B");
+    assert!(rt; finds(rt.alloc(), unplaced(&rt)?, placed)?);
     Ok(())
 }
 
@@ -509,38 +545,51 @@ fn compares_slots_without_places(rt: HostRuntime) -> Result<(), Fail> {
 }
 
 // The list of `a`, and of `b` if it is long.
-fn list(rt: &HostRuntime, is_long: bool) -> Result<NonEmpty<RcStr>, Fail> {
-    let mut tail = Vec::new(rt.alloc());
+fn list(alloc: Global, is_long: bool) -> Result<NonEmpty<RcStr>, AllocError> {
+    let mut tail = Vec::new(alloc);
     if is_long {
-        tail.push(RcStr::from_str(rt.alloc(), "b")?)?;
+        tail.push(RcStr::from_str(alloc, "b")?)?;
     }
-    Ok(NonEmpty::new(RcStr::from_str(rt.alloc(), "a")?, tail))
+    Ok(NonEmpty::new(RcStr::from_str(alloc, "a")?, tail))
 }
 
 #[test]
 fn compares_lists_of_one_or_more(rt: HostRuntime) -> Result<(), Fail> {
-    let (long, short) = (list(&rt, true)?, list(&rt, false)?);
-    assert!(rt; long.clone(rt.alloc())? == long);
+    let alloc = rt.alloc();
+    let (long, short) = beside(list(alloc, true)?, list(alloc, false))?;
     assert!(rt; short < long && short != long);
+    let copy = long.clone(alloc);
+    assert!(rt; is_equal(long, copy)?);
     Ok(())
 }
 
 #[test]
 fn gives_the_items_of_lists(rt: HostRuntime) -> Result<(), Fail> {
     let mut seen = String::new(rt.alloc());
-    for text in list(&rt, true)?.iter() {
+    for text in list(rt.alloc(), true)?.iter() {
         seen.push_str(text.as_str())?;
     }
     assert_eq!(rt; seen.as_str(), "ab");
     Ok(())
 }
 
+// Whether the key is found in a map of the other alone.
+fn finds<K: Hash + Eq + Drop, E: Debug + Drop>(
+    alloc: Global,
+    held: K,
+    key: Result<K, E>,
+) -> Result<bool, Fail> {
+    let (held, key) = beside(held, key)?;
+    let mut hashed = HashMap::new(alloc);
+    hashed.insert(held, 1u8)?;
+    Ok(hashed.get(&key) == Some(&1))
+}
+
 #[test]
 fn hashes_lists_of_one_or_more(rt: HostRuntime) -> Result<(), Fail> {
-    let mut hashed = HashMap::new(rt.alloc());
-    hashed.insert(list(&rt, true)?, 1u8)?;
-    assert!(rt; hashed.get(&list(&rt, true)?) == Some(&1));
-    assert!(rt; hashed.get(&list(&rt, false)?).is_none());
+    let alloc = rt.alloc();
+    assert!(rt; finds(alloc, list(alloc, true)?, list(alloc, true))?);
+    assert!(rt; !finds(alloc, list(alloc, true)?, list(alloc, false))?);
     Ok(())
 }
 
@@ -562,12 +611,12 @@ fn reference(
     ns: &str,
     kind: ReferenceType,
 ) -> Result<ConditionalName, Fail> {
-    let raw = RawName::from_normalized_str(rt.alloc(), raw)?;
+    let raw = made(RawName::from_normalized_str(rt.alloc(), raw))?;
     if ns.is_empty() {
-        return Ok(raw.conditionally_qualify_with(rt.alloc(), None, kind)?);
+        return made(raw.conditionally_qualify_with(rt.alloc(), None, kind));
     }
-    let ns = internal(rt, ns)?;
-    Ok(raw.conditionally_qualify_with(rt.alloc(), Some(&ns), kind)?)
+    let (raw, ns) = beside(raw, InternalName::from_normalized_str(rt.alloc(), ns))?;
+    made(raw.conditionally_qualify_with(rt.alloc(), Some(&ns), kind))
 }
 
 // The name that the reference stands for, printed, or the error's text.
@@ -628,8 +677,10 @@ fn refuses_with_the_reference(rt: HostRuntime) -> Result<(), Fail> {
 
 // Whether the reference to `Foo` equals the one of common types in `NS`.
 fn is_common_in_ns(rt: &HostRuntime, ns: &str, kind: ReferenceType) -> Result<bool, Fail> {
-    let here = reference(rt, "Foo", "NS", ReferenceType::Common)?;
-    Ok(here == reference(rt, "Foo", ns, kind)?)
+    let ns = internal(rt, ns)?;
+    let raw = made(RawName::from_normalized_str(rt.alloc(), "Foo"))?;
+    let there = raw.conditionally_qualify_with(rt.alloc(), Some(&ns), kind);
+    is_equal(reference(rt, "Foo", "NS", ReferenceType::Common)?, there)
 }
 
 #[test]
@@ -640,11 +691,15 @@ fn compares_references(rt: HostRuntime) -> Result<(), Fail> {
     Ok(())
 }
 
+// Whether the reference and its raw name have this place.
+fn is_at(here: &ConditionalName, whole: &Loc) -> bool {
+    here.loc() == Some(whole) && here.raw().loc() == Some(whole)
+}
+
 #[test]
 fn keeps_the_places_of_references(rt: HostRuntime) -> Result<(), Fail> {
-    let here = reference(&rt, "Foo", "NS", ReferenceType::Common)?;
     let whole = loc(&rt, 0, 3, "Foo")?;
-    assert!(rt; here.loc() == Some(&whole) && here.raw().loc() == Some(&whole));
+    assert!(rt; is_at(&reference(&rt, "Foo", "NS", ReferenceType::Common)?, &whole));
     Ok(())
 }
 
@@ -677,15 +732,15 @@ fn compares_raw_names(rt: HostRuntime) -> Result<(), Fail> {
 }
 
 fn raw_qualified(rt: &HostRuntime, namespace: &str) -> Result<InternalName, Fail> {
-    let namespace = internal(rt, namespace)?;
-    let raw = RawName::parse_unqualified_name(rt.alloc(), "foo")?;
-    Ok(raw.qualify_with(rt.alloc(), Some(&namespace))?)
+    let raw = RawName::parse_unqualified_name(rt.alloc(), "foo");
+    let (namespace, raw) = beside(internal(rt, namespace)?, raw)?;
+    made(raw.qualify_with(rt.alloc(), Some(&namespace)))
 }
 
 fn raw_qualified_by_name(rt: &HostRuntime, namespace: &str) -> Result<InternalName, Fail> {
-    let namespace = name(rt, namespace)?;
-    let raw = RawName::parse_unqualified_name(rt.alloc(), "foo")?;
-    Ok(raw.qualify_with_name(rt.alloc(), Some(&namespace))?)
+    let raw = RawName::parse_unqualified_name(rt.alloc(), "foo");
+    let (namespace, raw) = beside(name(rt, namespace)?, raw)?;
+    made(raw.qualify_with_name(rt.alloc(), Some(&namespace)))
 }
 
 #[test]
@@ -704,9 +759,9 @@ fn shows_raw_names(rt: HostRuntime) -> Result<(), Fail> {
 
 #[test]
 fn refuses_raw_names(rt: HostRuntime) -> Result<(), Fail> {
-    let refused = text_of(&rt, RawName::from_normalized_str(rt.alloc(), "a::if"))?;
-    assert_eq!(rt; refused.as_str(), "not a normalized internal name");
-    let refused = text_of(&rt, RawName::parse_unqualified_name(rt.alloc(), "a::b"))?;
-    assert_eq!(rt; refused.as_str(), "not a normalized Id");
+    let refused = RawName::from_normalized_str(rt.alloc(), "a::if");
+    assert!(rt; is_refused(&rt, refused, "not a normalized internal name")?);
+    let refused = RawName::parse_unqualified_name(rt.alloc(), "a::b");
+    assert!(rt; is_refused(&rt, refused, "not a normalized Id")?);
     Ok(())
 }

@@ -1,16 +1,11 @@
-mod bounded_text;
-mod coin;
 mod conversion;
-mod deep;
 mod extension_values;
 mod laws;
 mod lists;
 mod literals;
 mod order;
-mod partial_values;
 mod places;
 mod point;
-mod refusing;
 mod samples;
 mod sets;
 mod steps;

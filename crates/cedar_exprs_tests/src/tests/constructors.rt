@@ -1,10 +1,10 @@
 // Each constructor and each call of the struct `ExprBuilder` makes its node and has an answer where
 // there is memory.
-use crate::tests::samples::{anything, at, children_are_at, is_at, name, record, text, two};
 use cedar_builders::ExprBuilder as _;
 use cedar_exprs::{Expr, ExprBuilder, ExprKind};
 use cedar_names::{NonEmpty, SlotId};
 use cedar_terms::{BinaryOp, EntityType, Literal, UnaryOp, Unknown, Var};
+use expr_samples::{anything, at, children_are_at, is_at, name, record, text, two};
 use std::alloc::{AllocError, Global};
 use std::collections::BTreeMap;
 use std::rc::{Rc, RcStr};

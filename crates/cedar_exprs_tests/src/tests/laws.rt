@@ -1,9 +1,9 @@
-use crate::tests::samples::record;
 use cedar_builders::expr_builder::ExprBuilder as _;
 use cedar_exprs::laws::*;
 use cedar_exprs::{Expr, ExprBuilder};
 use cedar_names::Loc;
 use cedar_terms::{Literal, Var};
+use expr_samples::record;
 use std::alloc::{AllocError, Global};
 use std::collections::HashSet;
 use std::rc::RcStr;

@@ -1,8 +1,8 @@
 // What expressions answer about themselves.
-use crate::tests::samples::{record, two, unknown};
 use cedar_exprs::Expr;
 use cedar_names::SlotId;
 use cedar_terms::{EntityUID, Literal, Var};
+use expr_samples::{record, two, unknown};
 use std::test::Fail;
 
 fn long(n: i64) -> Expr<()> {

@@ -1,8 +1,8 @@
 // Which expressions are refused and at which place, and that the others come back as they are.
-use crate::tests::samples::{at, each_kind, name, pairs, two, unknown};
 use cedar_builders::ExprBuilder as _;
 use cedar_exprs::{Expr, ExprKind, RestrictedExpr, RestrictedExprError};
 use cedar_terms::{Literal, Var};
+use expr_samples::{at, each_kind, name, pairs, two, unknown};
 use std::test::Fail;
 
 fn literal(rt: &HostRuntime, start: usize) -> Result<Expr<()>, Fail> {

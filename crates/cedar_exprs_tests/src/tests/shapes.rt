@@ -3,13 +3,13 @@ use crate::tests::constructors::{
     BINARY_OPS, binary_built, binary_made, negated_built, negated_made, unary_built, unary_made, x,
 };
 use crate::tests::recorder::Recorder;
-use crate::tests::samples::{
-    a_and_b, anything, call, each_kind, each_kind_by, name, record, text, two, unknown,
-};
 use cedar_builders::ExprBuilder as _;
 use cedar_exprs::{Expr, ExprBuilder};
 use cedar_names::SlotId;
 use cedar_terms::{BinaryOp, EntityType, Literal, UnaryOp, Var};
+use expr_samples::{
+    a_and_b, anything, call, each_kind, each_kind_by, name, record, text, two, unknown,
+};
 use std::alloc::{AllocError, Global};
 use std::cmp::Ordering;
 use std::collections::BTreeMap;

@@ -1,8 +1,8 @@
 // Expressions that compare and hash by their shapes alone.
-use crate::tests::samples::{call, each_kind, record, text, two};
 use crate::tests::shapes::constructed;
 use cedar_exprs::{Expr, ExprKind, ExprShapeOnly};
 use cedar_terms::Literal;
+use expr_samples::{call, each_kind, record, text, two};
 use std::collections::HashSet;
 use std::hash::{DefaultHasher, Hash, Hasher};
 use std::test::Fail;

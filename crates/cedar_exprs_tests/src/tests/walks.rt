@@ -1,9 +1,9 @@
 // What walks give, and in which order.
-use crate::tests::samples::{at, call, name, place, text, two, unknown};
 use cedar_builders::ExprBuilder as _;
 use cedar_exprs::{Expr, ExprIterator, SlotRef};
 use cedar_names::SlotId;
 use cedar_terms::{EntityType, Literal, Unknown};
+use expr_samples::{at, call, name, place, text, two, unknown};
 use std::alloc::{AllocError, Global};
 use std::rc::Rc;
 use std::test::Fail;

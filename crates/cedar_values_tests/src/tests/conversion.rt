@@ -9,11 +9,12 @@ ghost use Rattle.cedar_values.specs.WellFormed.{well_formed};
 use crate::tests::point::Point;
 use crate::tests::samples::{Span, arguments, extension, given, has_places, lazy, value};
 use crate::tests::steps::Step::{At, Call, Long, RecordOf, SetOf, Unknown, Variable};
-use crate::tests::steps::{Step, expr, name, place};
+use crate::tests::steps::{Step, expr, place};
 use cedar_exprs::{Expr, RestrictedExpr};
 use cedar_names::Loc;
 use cedar_terms::Var;
 use cedar_values::{ExtensionValue, NotValue, Value, ValueKind};
+use expr_samples::name;
 use std::alloc::Global;
 use std::test::Fail;
 

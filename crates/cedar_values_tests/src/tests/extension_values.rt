@@ -1,9 +1,9 @@
 // Extension values, which compare by their value alone.
 use crate::tests::point::Point;
 use crate::tests::samples::{extension, given, lazy, precedes, same};
-use crate::tests::steps::name;
 use cedar_terms::{StaticallyTyped, Type};
 use cedar_values::{ExtensionValue, RepresentableExtensionValue, Set, Value};
+use expr_samples::name;
 use std::test::Fail;
 
 // Points that other calls made, of other colors.

@@ -2,11 +2,12 @@
 use crate::tests::point::Point;
 use crate::tests::samples::{same, value, values};
 use crate::tests::steps::Step::{Bool, Long, RecordOf, SetOf, Text};
-use crate::tests::steps::{Step, expr, text};
+use crate::tests::steps::{Step, expr};
 use cedar_builders::ExpressionConstructionError;
 use cedar_exprs::Expr;
 use cedar_terms::Literal;
 use cedar_values::{Set, Value, ValueKind};
+use expr_samples::text;
 use std::collections::BTreeMap;
 use std::convert::AsStr;
 use std::rc::{Rc, RcStr};

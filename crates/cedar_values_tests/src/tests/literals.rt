@@ -1,10 +1,11 @@
 // Literals as values, and types of values.
 use crate::tests::point::Point;
 use crate::tests::samples::{same, value};
+use crate::tests::steps::Step;
 use crate::tests::steps::Step::{Bool, Long, RecordOf, SetOf, Text};
-use crate::tests::steps::{Step, name, text};
 use cedar_terms::{EntityUID, Literal, StaticallyTyped, Type};
 use cedar_values::{Value, ValueKind};
+use expr_samples::{name, text};
 use std::rc::Rc;
 use std::test::Fail;
 

@@ -1,8 +1,9 @@
 // What the tests make their values of, and how they compare them.
 use crate::tests::point::Point;
-use crate::tests::steps::{Step, expr, exprs, name};
+use crate::tests::steps::{Step, expr, exprs};
 use cedar_exprs::{Expr, RestrictedExpr};
 use cedar_values::{RepresentableExtensionValue, Set, Value, ValueKind};
+use expr_samples::name;
 use std::rc::Rc;
 use std::test::Fail;
 

@@ -1,8 +1,8 @@
 // Expressions, made step by step.
 use cedar_exprs::Expr;
-use cedar_names::{Loc, Name};
-use cedar_terms::{Literal, Unknown, Var};
-use std::rc::RcStr;
+use cedar_names::Loc;
+use cedar_terms::{Literal, Var};
+use expr_samples::{name, text, unknown};
 use std::test::Fail;
 
 // A step takes its parts from the end of what was made so far, and puts its own there.
@@ -25,14 +25,6 @@ pub enum Step<'a> {
     At(usize, usize),
 }
 
-pub fn text(rt: &HostRuntime, s: &str) -> Result<RcStr, Fail> {
-    Ok(RcStr::from_str(rt.alloc(), s)?)
-}
-
-pub fn name(rt: &HostRuntime, s: &str) -> Result<Name, Fail> {
-    Ok(Name::parse_unqualified_name(rt.alloc(), s)?)
-}
-
 // These bytes of a text.
 pub fn place(rt: &HostRuntime, start: usize, stop: usize) -> Result<Loc, Fail> {
     Ok(Loc::new(start, stop, text(rt, "source")?))
@@ -47,10 +39,6 @@ fn last(made: &mut Vec<Expr<()>>) -> Result<Expr<()>, Fail> {
 
 fn lasts(made: &mut Vec<Expr<()>>, count: usize) -> Result<Vec<Expr<()>>, Fail> {
     Ok(made.split_off(made.len().saturating_sub(count))?)
-}
-
-fn unknown(rt: &HostRuntime, name: &str) -> Result<Expr<()>, Fail> {
-    Ok(Expr::unknown(Unknown::new_untyped(text(rt, name)?)))
 }
 
 fn and(rt: &HostRuntime, made: &mut Vec<Expr<()>>) -> Result<Expr<()>, Fail> {
@@ -86,7 +74,7 @@ fn made_by(rt: &HostRuntime, made: &mut Vec<Expr<()>>, step: Step) -> Result<Exp
         Step::Long(n) => Ok(Expr::val(Literal::Long(n))),
         Step::Text(s) => Ok(Expr::val(Literal::from_text(rt.alloc(), s)?)),
         Step::Variable(var) => Ok(Expr::var(var)),
-        Step::Unknown(name) => unknown(rt, name),
+        Step::Unknown(name) => Ok(Expr::unknown(unknown(rt, name)?)),
         Step::And => and(rt, made),
         Step::Call(function) => call(rt, made, function),
         Step::SetOf(count) => set(rt, made, count),

@@ -2,12 +2,13 @@
 use crate::tests::point::Point;
 use crate::tests::samples::{extension, given, is_placed, value};
 use crate::tests::steps::Step::{And, At, Bool, Call, Long, SetOf, Unknown};
-use crate::tests::steps::{Step, expr, name, text};
+use crate::tests::steps::{Step, expr};
 use cedar_exprs::{Expr, ExprBuilder, SubstituteValue, TypedBuildFault};
 use cedar_terms::{Type, Unknown as Term};
 use cedar_values::{
     ExtensionValue, Value, substitute_typed_values_into_expr, substitute_values_into_expr,
 };
+use expr_samples::{name, text};
 use std::alloc::Global;
 use std::collections::HashMap;
 use std::rc::RcStr;

@@ -10,7 +10,7 @@ ghost use Rattle.cedar_builders.specs.Trees.{tree_ops};
 ghost use Rattle.cedar_builders.specs.declared.expression_construction_errors.ExpressionConstructionError.TheVariants as error;
 ghost use Rattle.cedar_exprs.specs.BuiltNode.{builder_place};
 ghost use Rattle.cedar_exprs.specs.BareExpr.{bare_expr, bare_exprs};
-ghost use Rattle.cedar_exprs_tests.specs.Refusing.{refusing};
+ghost use Rattle.cedar_substitution_tests.specs.Refusing.{refusing};
 
 use cedar_builders::{
     BuildFault, ExprBuilder as Builder, ExpressionConstructionError, LawfulExprBuilder,

@@ -1,23 +1,26 @@
-// What the tests make their expressions of.
-use crate::tests::stored::Stored;
+//! What tests make their expressions of.
+#![tactic(auto)]
+
 use cedar_builders::ExprBuilder as _;
-use cedar_exprs::{Expr, ExprBuilder, ExprKind, RestrictedExpr};
+use cedar_exprs::{Expr, ExprBuilder, ExprKind};
 use cedar_names::{Loc, Name, NonEmpty, SlotId};
 use cedar_terms::{BinaryOp, EntityType, Literal, Pattern, PatternElem, UnaryOp, Unknown, Var};
 use std::alloc::{AllocError, Global};
 use std::collections::HashMap;
-use std::rc::RcStr;
+use std::rc::{Rc, RcStr};
 use std::test::Fail;
 
+/// The text as it is shared.
 pub fn text(rt: &HostRuntime, s: &str) -> Result<RcStr, Fail> {
     Ok(RcStr::from_str(rt.alloc(), s)?)
 }
 
+/// The name of one identifier.
 pub fn name(rt: &HostRuntime, s: &str) -> Result<Name, Fail> {
     Ok(Name::parse_unqualified_name(rt.alloc(), s)?)
 }
 
-// A place that starts here, with an end and a text that no other of these places has.
+/// A place that starts here, with an end and a text that no other of these places has.
 pub fn place(rt: &HostRuntime, start: usize) -> Result<Loc, Fail> {
     let source = format!(in rt.alloc(); "source {start}")?;
     Ok(Loc::new(
@@ -27,12 +30,12 @@ pub fn place(rt: &HostRuntime, start: usize) -> Result<Loc, Fail> {
     ))
 }
 
-// A builder whose nodes have the place that starts here.
+/// A builder whose nodes have the place that starts here.
 pub fn at(rt: &HostRuntime, start: usize) -> Result<ExprBuilder<()>, Fail> {
     Ok(ExprBuilder::with_data(()).with_maybe_source_loc(Some(place(rt, start)?)))
 }
 
-// The expression has the place that starts here, or none: start, stop and text are compared.
+/// The expression has the place that starts here, or none: start, stop and text are compared.
 pub fn is_at<T>(rt: &HostRuntime, e: &Expr<T>, start: Option<usize>) -> Result<bool, Fail> {
     match (e.source_loc(), start) {
         (None, None) => Ok(true),
@@ -41,11 +44,12 @@ pub fn is_at<T>(rt: &HostRuntime, e: &Expr<T>, start: Option<usize>) -> Result<b
     }
 }
 
+/// The unknown of this name, without a type.
 pub fn unknown(rt: &HostRuntime, name: &str) -> Result<Unknown, Fail> {
     Ok(Unknown::new_untyped(text(rt, name)?))
 }
 
-// Two items. A `vec!` with a `?` in several of its items takes the checker minutes.
+/// Two items. A `vec!` with a `?` in several of its items takes the checker minutes.
 pub fn two<T: Drop>(rt: &HostRuntime, first: T, second: T) -> Result<Vec<T>, Fail> {
     let mut items = Vec::new(rt.alloc());
     items.push(first)?;
@@ -53,17 +57,17 @@ pub fn two<T: Drop>(rt: &HostRuntime, first: T, second: T) -> Result<Vec<T>, Fai
     Ok(items)
 }
 
-// A call without a place.
+/// A call without a place.
 pub fn call(rt: &HostRuntime, function: &str, args: Vec<Expr<()>>) -> Result<Expr<()>, Fail> {
     Ok(Expr::call_extension_fn(rt.alloc(), name(rt, function)?, args)?)
 }
 
-// A record of two keys without a place, made from the later key to the earlier.
+/// A record of two keys without a place, made from the later key to the earlier.
 pub fn record(rt: &HostRuntime, b: Expr<()>, a: Expr<()>) -> Result<Expr<()>, Fail> {
     Ok(Expr::record(rt.alloc(), pairs(rt, b, a)?)?)
 }
 
-// Two pairs, from the later key to the earlier.
+/// Two pairs, from the later key to the earlier.
 pub fn pairs<T: Drop>(
     rt: &HostRuntime,
     b: Expr<T>,
@@ -72,7 +76,7 @@ pub fn pairs<T: Drop>(
     two(rt, (text(rt, "b")?, b), (text(rt, "a")?, a))
 }
 
-// A map that binds each name to the integer.
+/// A map that binds each name to the integer.
 pub fn bound(rt: &HostRuntime, values: &[(&str, i64)]) -> Result<HashMap<RcStr, Literal>, Fail> {
     let mut bound = HashMap::new(rt.alloc());
     for (name, value) in values {
@@ -81,38 +85,13 @@ pub fn bound(rt: &HostRuntime, values: &[(&str, i64)]) -> Result<HashMap<RcStr, 
     Ok(bound)
 }
 
-// Binds the name to an expression.
-pub fn bind(
-    rt: &HostRuntime,
-    values: &mut HashMap<RcStr, Stored>,
-    name: &str,
-    expr: Expr<()>,
-) -> Result<(), Fail> {
-    let value = Stored::new(RestrictedExpr::new(rt.alloc(), expr)?);
-    drop(values.insert(text(rt, name)?, value)?);
-    Ok(())
-}
-
-// The map that binds x to a call of the unknown z.
-pub fn x_is_a_call(rt: &HostRuntime) -> Result<HashMap<RcStr, Stored>, Fail> {
-    let mut values = HashMap::new(rt.alloc());
-    let z = Expr::unknown(unknown(rt, "z")?);
-    bind(
-        rt,
-        &mut values,
-        "x",
-        call(rt, "f", vec![in rt.alloc(); z]?)?,
-    )?;
-    Ok(values)
-}
-
-// An expression of each kind, by their numbers, with the place that starts here. Each child is a
-// copy of the given one.
+/// An expression of each kind, by their numbers, with the place that starts here. Each child is a
+/// copy of the given one.
 pub fn each_kind(rt: &HostRuntime, start: usize, child: &Expr<()>) -> Result<Vec<Expr<()>>, Fail> {
     each_kind_by(rt, &at(rt, start)?, child)
 }
 
-// The same by copies of any builder.
+/// The same by copies of any builder.
 pub fn each_kind_by<T: Default + Copy>(
     rt: &HostRuntime,
     builder: &ExprBuilder<T>,
@@ -209,13 +188,13 @@ fn push_attributes<T: Default + Copy>(
     Ok(())
 }
 
-// The attributes `a` and `b`.
+/// The attributes `a` and `b`.
 pub fn a_and_b(rt: &HostRuntime) -> Result<NonEmpty<RcStr>, Fail> {
     let further = vec![in rt.alloc(); text(rt, "b")?]?;
     Ok(NonEmpty::new(text(rt, "a")?, further))
 }
 
-// The pattern of one wildcard.
+/// The pattern of one wildcard.
 pub fn anything(rt: &HostRuntime) -> Result<Pattern, Fail> {
     let elems = vec![in rt.alloc(); PatternElem::Wildcard]?;
     Ok(Pattern::from_vec(rt.alloc(), elems)?)
@@ -270,57 +249,46 @@ fn push_type<T: Default + Copy>(
     Ok(())
 }
 
-// The children of the outermost node, in field order, those of a record by key.
-pub fn children(alloc: Global, e: &Expr<()>) -> Result<Vec<&Expr<()>>, AllocError> {
-    let mut found: Vec<&Expr<()>> = Vec::new(alloc);
+/// Each child of the outermost node has the place that starts here, or none.
+pub fn children_are_at(rt: &HostRuntime, e: &Expr<()>, start: Option<usize>) -> Result<bool, Fail> {
     match e.expr_kind() {
-        ExprKind::Lit(_) | ExprKind::Var(_) | ExprKind::Slot(_) | ExprKind::Unknown(_) => {}
+        ExprKind::Lit(_) | ExprKind::Var(_) | ExprKind::Slot(_) | ExprKind::Unknown(_) => Ok(true),
         ExprKind::If {
             test_expr,
             then_expr,
             else_expr,
-        } => {
-            found.push(test_expr)?;
-            found.push(then_expr)?;
-            found.push(else_expr)?;
-        }
+        } => all_are_at(rt, &[test_expr, then_expr, else_expr], start),
         ExprKind::And { left, right } | ExprKind::Or { left, right } => {
-            found.push(left)?;
-            found.push(right)?;
+            all_are_at(rt, &[left, right], start)
         }
-        ExprKind::BinaryApp { arg1, arg2, .. } => {
-            found.push(arg1)?;
-            found.push(arg2)?;
-        }
-        ExprKind::UnaryApp { arg, .. } => found.push(arg)?,
+        ExprKind::BinaryApp { arg1, arg2, .. } => all_are_at(rt, &[arg1, arg2], start),
+        ExprKind::UnaryApp { arg, .. } => is_at(rt, arg, start),
         ExprKind::GetAttr { expr, .. }
         | ExprKind::HasAttr { expr, .. }
         | ExprKind::ExtHasAttr { expr, .. }
         | ExprKind::Like { expr, .. }
-        | ExprKind::Is { expr, .. } => found.push(expr)?,
-        ExprKind::ExtensionFunctionApp { args, .. } => {
-            for arg in args.iter() {
-                found.push(arg)?;
-            }
-        }
-        ExprKind::Set(members) => {
-            for member in members.iter() {
-                found.push(member)?;
-            }
-        }
-        ExprKind::Record(values) => {
-            for value in values.values() {
-                found.push(value)?;
-            }
-        }
+        | ExprKind::Is { expr, .. } => is_at(rt, expr, start),
+        ExprKind::ExtensionFunctionApp { args, .. } => each_is_at(rt, args.iter(), start),
+        ExprKind::Set(members) => each_is_at(rt, members.iter(), start),
+        ExprKind::Record(values) => each_is_at(rt, values.values(), start),
     }
-    Ok(found)
 }
 
-// Each child of the outermost node has the place that starts here, or none.
-pub fn children_are_at(rt: &HostRuntime, e: &Expr<()>, start: Option<usize>) -> Result<bool, Fail> {
-    for child in children(rt.alloc(), e)? {
-        if !is_at(rt, child, start)? {
+fn all_are_at(
+    rt: &HostRuntime,
+    exprs: &[&Rc<Expr<()>>],
+    start: Option<usize>,
+) -> Result<bool, Fail> {
+    each_is_at(rt, exprs.iter().map(|e| &***e), start)
+}
+
+fn each_is_at<'a, I: Iterator<Item = &'a Expr<()>>>(
+    rt: &HostRuntime,
+    exprs: I,
+    start: Option<usize>,
+) -> Result<bool, Fail> {
+    for e in exprs {
+        if !is_at(rt, e, start)? {
             return Ok(false);
         }
     }

@@ -1,13 +1,11 @@
 // Places, by start, stop and text: what keeps its own, what brings one, and what has none.
 use crate::tests::building::rebuild;
-use crate::tests::samples::{
-    at, bind, bound, children, children_are_at, each_kind, is_at, place, text, unknown,
-};
-use crate::tests::stored::Stored;
+use crate::tests::stored::{Stored, bind};
 use cedar_builders::ExprBuilder as _;
 use cedar_exprs::{Expr, ExprBuilder};
 use cedar_names::Loc;
 use cedar_terms::{Literal, Var};
+use expr_samples::{at, bound, children_are_at, each_kind, is_at, place, text, unknown};
 use std::collections::HashMap;
 use std::rc::RcStr;
 use std::test::Fail;
@@ -58,13 +56,9 @@ fn building_again_keeps_places(rt: HostRuntime) -> Result<(), Fail> {
         for e in each_kind(&rt, 1, &child)? {
             let built = rebuild(alloc, &e)?;
             assert!(rt; built == e, "built of {e:?}");
-            assert!(rt; is_at(&rt, &built, Some(1))?, "place of {built:?}");
-            assert!(rt;
-                children_are_at(&rt, &built, Some(5))?,
-                "places in {built:?}"
-            );
-            for child in children(alloc, &built)? {
-                assert!(rt; children_are_at(&rt, child, None)?, "places in {built:?}");
+            let places = e.subexpressions(alloc)?.zip(built.subexpressions(alloc)?);
+            for (old, new) in places {
+                assert!(rt; old.source_loc() == new.source_loc(), "place of {new:?}");
             }
         }
     }
@@ -77,16 +71,11 @@ fn within(rt: &HostRuntime, start: usize, stop: usize) -> Result<ExprBuilder<()>
     Ok(ExprBuilder::with_data(()).with_maybe_source_loc(Some(loc)))
 }
 
-// Where the expression and its children stand in `1 && x`.
+// Where the expression stands in `1 && x`, and then its children, the last first.
 fn spans(rt: &HostRuntime, e: &Expr<()>) -> Result<Vec<Option<(usize, usize)>>, Fail> {
-    let mut nodes = vec![in rt.alloc(); e]?;
-    nodes.append(&mut children(rt.alloc(), e)?)?;
     let mut found = Vec::new(rt.alloc());
-    for node in nodes {
-        found.push(match node.source_loc() {
-            Some(loc) if loc.src == text(rt, "1 && x")? => Some((loc.start, loc.stop)),
-            _ => None,
-        })?;
+    for node in e.subexpressions(rt.alloc())? {
+        found.push(node.source_loc().map(|loc| (loc.start, loc.stop)))?;
     }
     Ok(found)
 }
@@ -103,13 +92,13 @@ fn places_of_a_conjunction(rt: HostRuntime) -> Result<(), Fail> {
         let made = e.substitute(alloc, &bound(&rt, &[(name, 2)])?)?;
         assert_eq!(rt;
             spans(&rt, &made)?.as_slice(),
-            [None, Some((0, 1)), None].as_slice()
+            [None, None, Some((0, 1))].as_slice()
         );
     }
     let built = rebuild(alloc, &e)?;
     assert_eq!(rt;
         spans(&rt, &built)?.as_slice(),
-        [Some((0, 6)), Some((0, 1)), Some((5, 6))].as_slice()
+        [Some((0, 6)), Some((5, 6)), Some((0, 1))].as_slice()
     );
     Ok(())
 }

@@ -1,9 +1,9 @@
 // Building of what typed substitution gives: a clash comes before any refusal.
 use crate::refuse_at::{RefuseAt, Refused};
 use crate::tests::building::plain_call;
-use crate::tests::samples::{bound, text};
 use cedar_exprs::{Expr, TypedBuildFault};
 use cedar_terms::{Literal, Type, Unknown};
+use expr_samples::{bound, text};
 use std::convert::AsStr;
 use std::test::Fail;
 

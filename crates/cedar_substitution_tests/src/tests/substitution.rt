@@ -1,9 +1,9 @@
 // What substitution gives: shapes, and what it leaves alone.
-use crate::tests::samples::{at, bound, text, unknown};
 use cedar_builders::ExprBuilder as _;
 use cedar_exprs::{Expr, ExprBuilder, ExprKind};
 use cedar_names::NonEmpty;
 use cedar_terms::{Literal, Var};
+use expr_samples::{at, bound, text, unknown};
 use std::alloc::{AllocError, Global};
 use std::collections::HashMap;
 use std::hash::{DefaultHasher, Hash, Hasher};

@@ -1,7 +1,8 @@
 // What is refused for its type, what is let through, and that the tree of a value is not searched.
-use crate::tests::samples::{bind, bound, call, record, text, two, unknown, x_is_a_call};
+use crate::tests::stored::{bind, x_is_a_call};
 use cedar_exprs::{Expr, SubstitutionError};
 use cedar_terms::{Literal, Type, Unknown};
+use expr_samples::{bound, call, record, text, two, unknown};
 use std::alloc::Global;
 use std::test::Fail;
 

@@ -7,6 +7,7 @@ use cedar_exprs::{RestrictedExpr, SubstituteValue};
 use cedar_names::Name;
 use cedar_terms::{EntityUID, Literal};
 use cedar_values::{ExtensionValue, RepresentableExtensionValue, Value, ValueKind};
+use expr_samples::{name, text};
 use std::alloc::{AllocError, Global};
 use std::rc::{Rc, RcStr};
 use std::test::Fail;
@@ -46,14 +47,6 @@ impl ExtensionValue for Coin {
     fn text(&self) -> &str {
         self.text.as_str()
     }
-}
-
-pub fn text(rt: &HostRuntime, s: &str) -> Result<RcStr, Fail> {
-    Ok(RcStr::from_str(rt.alloc(), s)?)
-}
-
-pub fn name(rt: &HostRuntime, s: &str) -> Result<Name, Fail> {
-    Ok(Name::parse_unqualified_name(rt.alloc(), s)?)
 }
 
 // The literal of an entity.

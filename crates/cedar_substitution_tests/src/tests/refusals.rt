@@ -1,9 +1,9 @@
 // Which of two refusals in one node answers.
 use crate::refuse_at::RefuseAt;
 use crate::tests::building::{plain_call, refused};
-use crate::tests::samples::{bound, call, text};
 use cedar_exprs::Expr;
 use cedar_terms::{Literal, Var};
+use expr_samples::{bound, call, text};
 use std::convert::AsStr;
 use std::test::Fail;
 

@@ -2,12 +2,12 @@
 // first.
 use crate::raw::Raw;
 use crate::refuse_at::{RefuseAt, Refused};
-use crate::tests::samples::{at, bind, bound, call, is_at, record, two, unknown, x_is_a_call};
-use crate::tests::stored::Stored;
+use crate::tests::stored::{Stored, bind, x_is_a_call};
 use cedar_builders::{BuildFault, ExprBuilder as Builder};
 use cedar_exprs::{Expr, ExprBuilder, ExprKind};
 use cedar_names::Name;
 use cedar_terms::{Literal, Var};
+use expr_samples::{at, bound, call, is_at, record, two, unknown};
 use std::alloc::{AllocError, Global};
 use std::collections::HashMap;
 use std::convert::AsStr;

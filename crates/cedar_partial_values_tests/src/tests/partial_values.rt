@@ -1,10 +1,11 @@
 // Partial values, and the entities inside values.
-use crate::tests::coin::{Coin, entity, given_coin, set, single, string, text};
+use crate::tests::coin::{Coin, entity, given_coin, set, single, string};
 use cedar_exprs::Expr;
 use cedar_names::Loc;
 use cedar_terms::{EntityUID, Literal, Type, Unknown};
 use cedar_values::{ContainsUnknown, PartialValue, PartialValueToValueError, Value, split};
 use either::{Left, Right};
+use expr_samples::text;
 use std::collections::HashSet;
 use std::test::Fail;
 

@@ -1,0 +1,2 @@
+//! Why an expression is not made.
+pub use cedar_builders::{DuplicateKeyError, ExpressionConstructionError};

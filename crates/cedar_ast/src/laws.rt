@@ -1,0 +1,21 @@
+//! What holds of all that the layer makes, as functions whose contracts say so.
+pub use cedar_builders::laws::{
+    built_after, clash_by_children, pairs_in_key_order, rebuilt_twice, restricted_rebuilt,
+    shapes_are_ordered, stack_needs, substituted_by_fold, substituted_twice, then_is_both,
+    then_is_not_always_both,
+};
+pub use cedar_exprs::laws::{
+    alike_expressions, bare_positions, equal_expressions, nodes_in_preorder, record_keys_rise,
+};
+pub use cedar_names::laws::{compared_lists, equal_names, name_texts_differ, ordered_names};
+pub use cedar_terms::laws::{
+    equal_operators, equal_terms, hashed_entities, ordered_entities, ordered_operators,
+    pattern_texts_differ,
+};
+pub use cedar_values::laws::{
+    equal_partial_values, order_of_kinds, order_of_sets, order_of_values, sets_are_finite_sets,
+    then_is_both_of_maps,
+};
+pub use value_trees::laws::{
+    expressions_read_back, reading_gives_one_value, then_is_both_of_values, values_are_ordered,
+};

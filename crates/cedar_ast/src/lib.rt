@@ -1,0 +1,32 @@
+//! The term layer of Cedar's policy language in one crate: every item of the libraries below, under
+//! the name that it has in the module `ast` of the crate `cedar-policy-core`.
+//!
+//! The words of contracts stay in the `specs` of the library that defines them.
+#![tactic(auto)]
+
+pub mod expr_builder;
+pub mod expression_construction_errors;
+pub mod laws;
+
+pub use cedar_builders::{
+    BuildFault, ExprBuilderInfallibleBuild, ExpressionConstructionError, LawfulExprBuilder,
+    SubstitutionError,
+};
+pub use cedar_exprs::{
+    Expr, ExprBuilder, ExprIterator, ExprKind, ExprShapeOnly, RestrictedExpr, RestrictedExprError,
+    SlotRef, Slots, SubstituteValue, TypedBuildFault, Unknowns,
+};
+pub use cedar_names::{
+    AllDefs, AnyId, ConditionalName, FromNormalizedStr, Id, InternalName, Loc, Name, NonEmpty,
+    NonEmptyIter, ParseErrors, PrincipalOrResource, RawName, ReferenceType, ReservedNameError,
+    Slot, SlotId, TypeNotDefinedError, UnreservedId, is_normalized_ident,
+};
+pub use cedar_terms::{
+    BinaryOp, EntityType, EntityUID, Escaped, InputInteger, Integer, Literal, Pattern, PatternElem,
+    SchemaType, StaticallyTyped, Turns, Type, UnaryOp, Unknown, Var,
+};
+pub use cedar_values::{
+    BoundedDisplay, BoundedToString, ContainsUnknown, ExtensionValue, NoExtension, NotValue,
+    PartialValue, PartialValueToValueError, RepresentableExtensionValue, Set, Value, ValueKind,
+    split,
+};

@@ -1,0 +1,5 @@
+mod bounded_text;
+mod coin;
+mod deep;
+mod partial_values;
+mod refusing;

@@ -1,0 +1,7 @@
+mod building;
+mod places;
+mod refusals;
+mod stored;
+mod substitution;
+mod typed;
+mod typed_building;
