@@ -1,0 +1,84 @@
+-- The branches of `if`s inside one another, whose common type is that of the whole.
+use Rattle.std.specs.Prelude.{◌≡◌, refl, ℕ, suc, ◌+◌, ◌≤◌, Bool, true, false, if◌then◌else◌, List, [], ◌∷◌, Option, Some, None}
+use Rattle.std.specs.Bool.{Decides}
+use Rattle.std.proofs.Common.{sym, ap, ◌∙◌, subst, arith}
+use Rattle.cedar_terms.specs.Types.{BareType}
+use Rattle.cedar_terms.specs.TypeOrder.{type_eq, type_eq_decides}
+use Rattle.cedar_builders.specs.BareExpr.{BareExpr, If}
+use Rattle.cedar_builders.specs.Count.{count, count_is}
+use Rattle.function_tables.specs.Tables.{ReturnTypes}
+use Rattle.function_tables.specs.TypeOfTree.{common, node_type, type_of_tree}
+
+-- the two branches of an `if`
+abbrev pub branches_of : BareExpr → Option (BareExpr × BareExpr)
+branches_of (If a b c) = Some (b, c)
+branches_of e = None
+
+-- what a type and those of some trees have in common
+abbrev pub type_of_all : ReturnTypes → Option BareType → List BareExpr → Option BareType
+type_of_all return_type_at t [] = t
+type_of_all return_type_at t (e ∷ es) = type_of_all return_type_at (common t (type_of_tree return_type_at e)) es
+
+-- ---- what is common to three does not depend on which two come first
+
+same_common : (t : BareType) → common (Some t) (Some t) ≡ Some t
+same_common t = ap (λ b. if b then Some t else None) ((type_eq_decides t t).1 refl)
+
+three_if_same : (t u : BareType) (b : Bool) → type_eq t u ≡ b → common (Some t) (Some u) ≡ common (Some t) (if b then Some t else None)
+three_if_same t u true is = ap (λ b. if b then Some t else None) is ∙ sym (same_common t)
+three_if_same t u false is = ap (λ b. if b then Some t else None) is
+
+none_if_other : (t s u : BareType) (b : Bool) → type_eq t s ≡ false → None ≡ common (Some t) (if b then Some s else None)
+none_if_other t s u true is = sym (ap (λ b. if b then Some t else None) is)
+none_if_other t s u false is = refl
+
+of_three : (t s u : BareType) (b : Bool) → type_eq t s ≡ b → common (if b then Some t else None) (Some u) ≡ common (Some t) (common (Some s) (Some u))
+of_three t s u true is =
+    subst (λ (v : BareType). common (Some t) (Some u) ≡ common (Some t) (common (Some v) (Some u))) ((type_eq_decides t s).0 is) (three_if_same t u (type_eq t u) refl)
+of_three t s u false is = none_if_other t s u (type_eq s u) is
+
+nothing_last : (t : Option BareType) → common t None ≡ None
+nothing_last None = refl
+nothing_last (Some t) = refl
+
+pub common_assoc : (t s u : Option BareType) → common (common t s) u ≡ common t (common s u)
+common_assoc None s u = refl
+common_assoc (Some t) None u = refl
+common_assoc (Some t) (Some s) None = nothing_last (common (Some t) (Some s))
+common_assoc (Some t) (Some s) (Some u) = of_three t s u (type_eq t s) refl
+
+module _ (return_type_at : ReturnTypes) where
+  both_first : (t s : Option BareType) (es : List BareExpr) → type_of_all return_type_at (common t s) es ≡ common t (type_of_all return_type_at s es)
+  both_first t s [] = refl
+  both_first t s (e ∷ es) =
+      ap (λ u. type_of_all return_type_at u es) (common_assoc t s (type_of_tree return_type_at e))
+      ∙ both_first t (common s (type_of_tree return_type_at e)) es
+
+  -- a type that comes before a tree's
+  pub joined : (t s : Option BareType) (e : BareExpr) (es new : List BareExpr) → type_of_all return_type_at s new ≡ type_of_all return_type_at (type_of_tree return_type_at e) es
+      → type_of_all return_type_at (common t s) new ≡ type_of_all return_type_at t (e ∷ es)
+  joined t s e es new same = both_first t s new ∙ ap (common t) same ∙ sym (both_first t (type_of_tree return_type_at e) es)
+
+  -- an `if` gives way to its branches, any other node is a leaf
+  of_branches : (e : BareExpr) (p : BareExpr × BareExpr) → branches_of e ≡ Some p → type_of_tree return_type_at e ≡ common (type_of_tree return_type_at p.0) (type_of_tree return_type_at p.1)
+  of_branches (If a b c) p is =
+      let same : (b, c) ≡ p = cc in
+      ap (λ (q : BareExpr × BareExpr). common (type_of_tree return_type_at q.0) (type_of_tree return_type_at q.1)) same
+  of_branches e p is = cc
+
+  pub descended : (e : BareExpr) (p : BareExpr × BareExpr) (es : List BareExpr) → branches_of e ≡ Some p → type_of_all return_type_at (type_of_tree return_type_at p.0) (p.1 ∷ es) ≡ type_of_all return_type_at (type_of_tree return_type_at e) es
+  descended e p es is = ap (λ t. type_of_all return_type_at t es) (sym (of_branches e p is))
+
+  pub of_leaf : (e : BareExpr) → branches_of e ≡ None → node_type return_type_at e ≡ type_of_tree return_type_at e
+  of_leaf (If a b c) is = cc
+  of_leaf e is = refl
+
+-- the branches have fewer nodes
+pub fewer_branches : (e : BareExpr) (p : BareExpr × BareExpr) → branches_of e ≡ Some p → suc (count p.0 + count p.1) ≤ count e
+fewer_branches (If a b c) p is =
+    let same : (b, c) ≡ p = cc in
+    subst (λ (q : BareExpr × BareExpr). suc (count q.0 + count q.1) ≤ count (If a b c)) same (omega arith)
+fewer_branches e p is = cc
+
+pub some_node : (e : BareExpr) → 1 ≤ count e
+some_node e = omega (arith, count_is e)

@@ -1,0 +1,5 @@
+pub mod Tables
+pub mod Faults
+pub mod ValidationErrors
+pub mod TypeOfTree
+pub mod Branches
