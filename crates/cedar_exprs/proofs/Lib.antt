@@ -16,3 +16,4 @@ pub mod Running
 pub mod Stacks
 pub mod ShapeWalks
 pub mod RestrictedCalls
+pub mod Branches

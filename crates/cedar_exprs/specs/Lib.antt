@@ -13,3 +13,4 @@ pub mod Refusals
 pub mod TypedAnswers
 pub mod Iterators
 pub mod ShapeOnly
+pub mod Waiting

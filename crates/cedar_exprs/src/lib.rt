@@ -21,11 +21,14 @@ mod substitution;
 mod substitution_function;
 mod typed;
 mod typed_build;
+mod types;
+mod validation;
 
 pub use builder::ExprBuilder;
 pub use cedar_builders::SubstitutionError;
 pub use expr::{Expr, ExprKind};
 pub use expr_iterator::{ExprIterator, SlotRef, Slots, Unknowns};
 pub use expr_shape_only::ExprShapeOnly;
+pub use function_tables::{CallStyle, ExprValidationError, FunctionTable};
 pub use restricted_expr::{RestrictedExpr, RestrictedExprError, SubstituteValue};
 pub use typed_build::TypedBuildFault;

@@ -1,13 +1,11 @@
 -- The branches of `if`s inside one another, whose common type is that of the whole.
-use Rattle.std.specs.Prelude.{◌≡◌, refl, ℕ, suc, ◌+◌, ◌≤◌, Bool, true, false, if◌then◌else◌, List, [], ◌∷◌, Option, Some, None}
-use Rattle.std.specs.Bool.{Decides}
-use Rattle.std.proofs.Common.{sym, ap, ◌∙◌, subst, arith}
+use Rattle.std.specs.Prelude.{◌≡◌, refl, Bool, true, false, if◌then◌else◌, List, [], ◌∷◌, Option, Some, None}
+use Rattle.std.proofs.Common.{sym, ap, ◌∙◌, subst}
 use Rattle.cedar_terms.specs.Types.{BareType}
 use Rattle.cedar_terms.specs.TypeOrder.{type_eq, type_eq_decides}
 use Rattle.cedar_builders.specs.BareExpr.{BareExpr, If}
-use Rattle.cedar_builders.specs.Count.{count, count_is}
 use Rattle.function_tables.specs.Tables.{ReturnTypes}
-use Rattle.function_tables.specs.TypeOfTree.{common, node_type, type_of_tree}
+use Rattle.function_tables.specs.TypeOfTree.{common, type_of_tree}
 
 -- the two branches of an `if`
 abbrev pub branches_of : BareExpr → Option (BareExpr × BareExpr)
@@ -58,27 +56,3 @@ module _ (return_type_at : ReturnTypes) where
   pub joined : (t s : Option BareType) (e : BareExpr) (es new : List BareExpr) → type_of_all return_type_at s new ≡ type_of_all return_type_at (type_of_tree return_type_at e) es
       → type_of_all return_type_at (common t s) new ≡ type_of_all return_type_at t (e ∷ es)
   joined t s e es new same = both_first t s new ∙ ap (common t) same ∙ sym (both_first t (type_of_tree return_type_at e) es)
-
-  -- an `if` gives way to its branches, any other node is a leaf
-  of_branches : (e : BareExpr) (p : BareExpr × BareExpr) → branches_of e ≡ Some p → type_of_tree return_type_at e ≡ common (type_of_tree return_type_at p.0) (type_of_tree return_type_at p.1)
-  of_branches (If a b c) p is =
-      let same : (b, c) ≡ p = cc in
-      ap (λ (q : BareExpr × BareExpr). common (type_of_tree return_type_at q.0) (type_of_tree return_type_at q.1)) same
-  of_branches e p is = cc
-
-  pub descended : (e : BareExpr) (p : BareExpr × BareExpr) (es : List BareExpr) → branches_of e ≡ Some p → type_of_all return_type_at (type_of_tree return_type_at p.0) (p.1 ∷ es) ≡ type_of_all return_type_at (type_of_tree return_type_at e) es
-  descended e p es is = ap (λ t. type_of_all return_type_at t es) (sym (of_branches e p is))
-
-  pub of_leaf : (e : BareExpr) → branches_of e ≡ None → node_type return_type_at e ≡ type_of_tree return_type_at e
-  of_leaf (If a b c) is = cc
-  of_leaf e is = refl
-
--- the branches have fewer nodes
-pub fewer_branches : (e : BareExpr) (p : BareExpr × BareExpr) → branches_of e ≡ Some p → suc (count p.0 + count p.1) ≤ count e
-fewer_branches (If a b c) p is =
-    let same : (b, c) ≡ p = cc in
-    subst (λ (q : BareExpr × BareExpr). suc (count q.0 + count q.1) ≤ count (If a b c)) same (omega arith)
-fewer_branches e p is = cc
-
-pub some_node : (e : BareExpr) → 1 ≤ count e
-some_node e = omega (arith, count_is e)

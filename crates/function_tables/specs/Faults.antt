@@ -8,7 +8,7 @@ use Rattle.cedar_builders.specs.BareExpr.{Text, BareExpr, ExtensionFunctionApp, 
 use Rattle.cedar_builders.specs.Walks.{members_of, positions, first_of}
 use Rattle.function_tables.specs.Tables.{Styles}
 use Rattle.function_tables.specs.declared.call_style.CallStyle.{CallStyle}
-use Rattle.function_tables.specs.declared.call_style.CallStyle.TheVariants.{FunctionStyle, MethodStyle}
+use Rattle.function_tables.specs.declared.call_style.CallStyle.TheVariants.{MethodStyle}
 
 -- the call of a function that is not known, that of one in method style without arguments, and an attribute of a path that is no identifier
 pub data Fault : Type 0 where
