@@ -6,7 +6,7 @@ use cedar_exprs::{Expr, ExprBuilder, ExprKind};
 use cedar_names::{Loc, Name, NonEmpty, SlotId};
 use cedar_terms::{BinaryOp, EntityType, Literal, Pattern, PatternElem, UnaryOp, Unknown, Var};
 use std::alloc::{AllocError, Global};
-use std::collections::HashMap;
+use std::collections::{BTreeMap, HashMap};
 use std::rc::{Rc, RcStr};
 use std::test::Fail;
 
@@ -268,9 +268,9 @@ pub fn children_are_at(rt: &HostRuntime, e: &Expr<()>, start: Option<usize>) -> 
         | ExprKind::ExtHasAttr { expr, .. }
         | ExprKind::Like { expr, .. }
         | ExprKind::Is { expr, .. } => is_at(rt, expr, start),
-        ExprKind::ExtensionFunctionApp { args, .. } => each_is_at(rt, args.iter(), start),
-        ExprKind::Set(members) => each_is_at(rt, members.iter(), start),
-        ExprKind::Record(values) => each_is_at(rt, values.values(), start),
+        ExprKind::ExtensionFunctionApp { args, .. } => members_are_at(rt, args, start),
+        ExprKind::Set(members) => members_are_at(rt, members, start),
+        ExprKind::Record(values) => values_are_at(rt, values, start),
     }
 }
 
@@ -279,16 +279,34 @@ fn all_are_at(
     exprs: &[&Rc<Expr<()>>],
     start: Option<usize>,
 ) -> Result<bool, Fail> {
-    each_is_at(rt, exprs.iter().map(|e| &***e), start)
-}
-
-fn each_is_at<'a, I: Iterator<Item = &'a Expr<()>>>(
-    rt: &HostRuntime,
-    exprs: I,
-    start: Option<usize>,
-) -> Result<bool, Fail> {
     for e in exprs {
         if !is_at(rt, e, start)? {
+            return Ok(false);
+        }
+    }
+    Ok(true)
+}
+
+fn members_are_at(
+    rt: &HostRuntime,
+    members: &[Expr<()>],
+    start: Option<usize>,
+) -> Result<bool, Fail> {
+    for member in members {
+        if !is_at(rt, member, start)? {
+            return Ok(false);
+        }
+    }
+    Ok(true)
+}
+
+fn values_are_at(
+    rt: &HostRuntime,
+    values: &BTreeMap<RcStr, Expr<()>>,
+    start: Option<usize>,
+) -> Result<bool, Fail> {
+    for value in values.values() {
+        if !is_at(rt, value, start)? {
             return Ok(false);
         }
     }
