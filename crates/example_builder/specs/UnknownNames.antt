@@ -2,9 +2,9 @@
 use Rattle.std.specs.Prelude.{List, [], ◌∷◌, ◌++◌, map, Err}
 use Rattle.std.specs.List.{flat_map}
 use Rattle.std.specs.Rc.{rc_str_bytes}
-use Rattle.cedar_names.specs.Names.{BareName}
-use Rattle.cedar_builders.specs.BareExpr.{Text}
-use Rattle.cedar_builders.specs.Ops.{Ops}
+use Rattle.cedar_ast.specs.Names.{BareName}
+use Rattle.cedar_ast.specs.BareExpr.{Text}
+use Rattle.cedar_ast.specs.Ops.{Ops}
 use Rattle.example_builder.specs.declared.builder.Names.{Names}
 
 -- the texts of the names, in order

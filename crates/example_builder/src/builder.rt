@@ -1,18 +1,20 @@
 //! A builder of the example's own: what it makes of an expression is the list of the names of the
 //! unknowns that stand in it.
 ghost use Rattle.std.specs.Prelude.{◌≡◌, ◌++◌, List, [], map, IfOk, IfErr, Err, None, ⊤, refl};
-ghost use Rattle.cedar_names.specs.Names.{BareName};
-ghost use Rattle.cedar_names.specs.PlainNames.{bare_name};
-ghost use Rattle.cedar_builders.specs.Answers.{Gives};
-ghost use Rattle.cedar_builders.specs.BareExpr.{Text};
-ghost use Rattle.cedar_builders.specs.Errors.{OnDuplicateKey};
-ghost use Rattle.cedar_builders.specs.Keys.{keys_of, meant_pairs, IsRising, HasRepeat};
-ghost use Rattle.cedar_builders.specs.declared.expression_construction_errors.ExpressionConstructionError.TheVariants as error;
+ghost use Rattle.cedar_ast.specs.Names.{BareName};
+ghost use Rattle.cedar_ast.specs.PlainNames.{bare_name};
+ghost use Rattle.cedar_ast.specs.Answers.{Gives};
+ghost use Rattle.cedar_ast.specs.BareExpr.{Text};
+ghost use Rattle.cedar_ast.specs.Errors.{OnDuplicateKey};
+ghost use Rattle.cedar_ast.specs.Keys.{keys_of, meant_pairs, IsRising, HasRepeat};
+ghost use Rattle.cedar_ast.specs.Construction as error;
 ghost use Rattle.example_builder.specs.UnknownNames.{texts_of, unknown_names_ops};
 
-use cedar_builders::{BuildFault, ExprBuilder, ExpressionConstructionError, LawfulExprBuilder};
-use cedar_names::{Loc, Name, NonEmpty, SlotId};
-use cedar_terms::{BinaryOp, EntityType, Literal, Pattern, UnaryOp, Unknown, Var};
+use cedar_ast::expr_builder::ExprBuilder;
+use cedar_ast::{
+    BinaryOp, BuildFault, EntityType, ExpressionConstructionError, LawfulExprBuilder, Literal, Loc,
+    Name, NonEmpty, Pattern, SlotId, UnaryOp, Unknown, Var,
+};
 use std::alloc::{AllocError, Global};
 use std::rc::RcStr;
 

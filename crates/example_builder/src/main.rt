@@ -3,20 +3,18 @@
 
 mod builder;
 
-ghost use Rattle.cedar_names.specs.PlainNames.{bare_name};
-ghost use Rattle.cedar_terms.specs.Literals.{bare_literal};
-ghost use Rattle.cedar_terms.specs.Types.{literal_type};
-ghost use Rattle.cedar_builders.specs.Answers.{Gives};
-ghost use Rattle.cedar_builders.specs.BareExpr.{Lit};
-ghost use Rattle.cedar_builders.specs.Environment.{fold};
-ghost use Rattle.cedar_exprs.specs.BareExpr.{bare_expr};
-ghost use Rattle.cedar_exprs.specs.RestrictedExprs.{env_of};
+ghost use Rattle.cedar_ast.specs.PlainNames.{bare_name};
+ghost use Rattle.cedar_ast.specs.Literals.{bare_literal};
+ghost use Rattle.cedar_ast.specs.Types.{literal_type};
+ghost use Rattle.cedar_ast.specs.Answers.{Gives};
+ghost use Rattle.cedar_ast.specs.BareExpr.{Lit};
+ghost use Rattle.cedar_ast.specs.Environment.{fold};
+ghost use Rattle.cedar_ast.specs.Exprs.{bare_expr};
+ghost use Rattle.cedar_ast.specs.RestrictedExprs.{env_of};
 ghost use Rattle.example_builder.specs.UnknownNames.{texts_of, unknown_names_ops};
 
 use crate::builder::{CallRefused, Names, UnknownNames};
-use cedar_builders::BuildFault;
-use cedar_exprs::Expr;
-use cedar_terms::{Literal, Unknown};
+use cedar_ast::{BuildFault, Expr, Literal, Unknown};
 use std::alloc::{AllocError, Global};
 use std::collections::HashMap;
 use std::io;

@@ -1,7 +1,7 @@
 use Rattle.std.proofs.Common.{◌≡◌, ◌++◌}
 use Rattle.std.specs.List.{flat_map}
 use Rattle.std.specs.Vec.Iter.{into_iter_items}
-use Rattle.cedar_builders.specs.Keys.{meant_pairs}
+use Rattle.cedar_ast.specs.Keys.{meant_pairs}
 use Rattle.example_builder.specs.UnknownNames.{texts_of}
 use Rattle.example_builder.proofs.builder.UnknownNamesExprBuilder.record.Given as goal
 

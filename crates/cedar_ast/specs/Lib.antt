@@ -1,0 +1,13 @@
+pub use Rattle.cedar_names.specs.Names
+pub use Rattle.cedar_names.specs.PlainNames
+pub use Rattle.cedar_terms.specs.Literals
+pub use Rattle.cedar_terms.specs.Types
+pub use Rattle.cedar_builders.specs.Answers
+pub use Rattle.cedar_builders.specs.BareExpr
+pub use Rattle.cedar_builders.specs.Environment
+pub use Rattle.cedar_builders.specs.Errors
+pub use Rattle.cedar_builders.specs.Keys
+pub use Rattle.cedar_builders.specs.Ops
+pub use Rattle.cedar_exprs.specs.RestrictedExprs
+pub mod Exprs
+pub mod Construction
