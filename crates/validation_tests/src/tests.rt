@@ -1,0 +1,3 @@
+mod samples;
+mod types;
+mod validation;

@@ -1,0 +1,48 @@
+// What the tests make their expressions of.
+use crate::addresses::Addresses;
+use cedar_exprs::Expr;
+use cedar_names::Name;
+use cedar_terms::{Literal, SchemaType};
+use std::rc::RcStr;
+use std::test::Fail;
+
+pub fn text(rt: &HostRuntime, s: &str) -> Result<RcStr, Fail> {
+    Ok(RcStr::from_str(rt.alloc(), s)?)
+}
+
+pub fn name(rt: &HostRuntime, s: &str) -> Result<Name, Fail> {
+    Ok(Name::parse_unqualified_name(rt.alloc(), s)?)
+}
+
+// `ip`, of which addresses come, and the method `isIpv4`, which answers whether one is short.
+pub fn addresses(rt: &HostRuntime) -> Result<Addresses, Fail> {
+    let address = SchemaType::Extension {
+        name: name(rt, "ipaddr")?,
+    };
+    Ok(Addresses {
+        reader: name(rt, "ip")?,
+        test: name(rt, "isIpv4")?,
+        address,
+        answer: SchemaType::Bool,
+    })
+}
+
+pub fn string(rt: &HostRuntime, s: &str) -> Result<Expr<()>, Fail> {
+    Ok(Expr::val(Literal::from_text(rt.alloc(), s)?))
+}
+
+pub fn call(rt: &HostRuntime, function: &str, args: Vec<Expr<()>>) -> Result<Expr<()>, Fail> {
+    Ok(Expr::call_extension_fn(rt.alloc(), name(rt, function)?, args)?)
+}
+
+// A call of one argument.
+pub fn call_on(rt: &HostRuntime, function: &str, arg: Expr<()>) -> Result<Expr<()>, Fail> {
+    let mut args = Vec::new(rt.alloc());
+    args.push(arg)?;
+    call(rt, function, args)
+}
+
+// The call of `ip` of a text.
+pub fn address(rt: &HostRuntime) -> Result<Expr<()>, Fail> {
+    call_on(rt, "ip", string(rt, "127.0.0.1")?)
+}
