@@ -12,9 +12,17 @@ pub use cedar_builders::{
     BuildFault, ExprBuilderInfallibleBuild, ExpressionConstructionError, LawfulExprBuilder,
     SubstitutionError,
 };
+pub use cedar_calls::{
+    BinaryExtensionFunctionObject, BinaryFunction, EvaluationError, Extension, ExtensionFunction,
+    ExtensionFunctionObject, ExtensionFunctions, ExtensionOutputValue, Extensions, NoFunction,
+    NullaryExtensionFunctionObject, NullaryFunction, TernaryExtensionFunctionObject,
+    TernaryFunction, UnaryExtensionFunctionObject, UnaryFunction, VariadicExtensionFunctionObject,
+    VariadicFunction,
+};
 pub use cedar_exprs::{
-    Expr, ExprBuilder, ExprIterator, ExprKind, ExprShapeOnly, RestrictedExpr, RestrictedExprError,
-    SlotRef, Slots, SubstituteValue, TypedBuildFault, Unknowns,
+    CallStyle, Expr, ExprBuilder, ExprIterator, ExprKind, ExprShapeOnly, ExprValidationError,
+    FunctionTable, RestrictedExpr, RestrictedExprError, SlotRef, Slots, SubstituteValue,
+    TypedBuildFault, Unknowns,
 };
 pub use cedar_names::{
     AllDefs, AnyId, ConditionalName, FromNormalizedStr, Id, InternalName, Loc, Name, NonEmpty,

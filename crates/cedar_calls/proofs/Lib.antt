@@ -1,0 +1,2 @@
+mod LastOfEach
+mod ByName

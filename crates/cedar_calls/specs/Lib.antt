@@ -1,0 +1,10 @@
+pub mod BareTypes
+pub mod OutputValues
+pub mod Types
+pub mod Objects
+pub mod Functions
+pub mod Calls
+pub mod NameMaps
+pub mod NamedFunctions
+pub mod Extensions
+pub mod Refusals

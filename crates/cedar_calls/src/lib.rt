@@ -1,0 +1,24 @@
+//! Functions of extensions: what they are, calls of them, extensions and tables of them.
+#![tactic(auto)]
+
+mod err;
+mod extension;
+mod extension_function;
+mod extensions;
+mod no_function;
+mod object;
+mod output_value;
+
+pub use err::EvaluationError;
+pub use extension::Extension;
+pub use extension_function::ExtensionFunction;
+pub use extensions::Extensions;
+pub use function_tables::{CallStyle, FunctionTable};
+pub use no_function::NoFunction;
+pub use object::{
+    BinaryExtensionFunctionObject, BinaryFunction, ExtensionFunctionObject, ExtensionFunctions,
+    NullaryExtensionFunctionObject, NullaryFunction, TernaryExtensionFunctionObject,
+    TernaryFunction, UnaryExtensionFunctionObject, UnaryFunction, VariadicExtensionFunctionObject,
+    VariadicFunction,
+};
+pub use output_value::ExtensionOutputValue;
