@@ -55,12 +55,12 @@ fn type_of_first<'a, T, F: FunctionTable>(
         total (bare_waiting waiting.new.items)
         < total (bare_waiting waiting.old.items) + count (bare_expr expr.now)) }
 {
-    let mut first = expr;
-    'down: while let Some((then_expr, else_expr)) = branches(first) {
+    let mut reached = expr;
+    'down: while let Some((then_expr, else_expr)) = branches(reached) {
         waiting.push(else_expr)?;
-        first = then_expr;
+        reached = then_expr;
     }
-    type_of_node(alloc, table, first)
+    type_of_node(alloc, table, reached)
 }
 
 // The two branches of an `if`.
