@@ -2,6 +2,10 @@
 //! that it asks for.
 #![tactic(auto)]
 
+#[cfg(test)]
+mod tests;
+
+pub use cedar_ast as ast;
 use cedar_script::run;
 use std::io;
 use std::process::ExitCode;
