@@ -14,16 +14,15 @@ pub fn name(rt: &HostRuntime, s: &str) -> Result<Name, Fail> {
     Ok(Name::parse_unqualified_name(rt.alloc(), s)?)
 }
 
-// `ip`, of which addresses come, and the method `isIpv4`, which answers whether one is short.
+// `ip`, of which addresses come, and the method `isIpv4`.
 pub fn addresses(rt: &HostRuntime) -> Result<Addresses, Fail> {
     let address = SchemaType::Extension {
         name: name(rt, "ipaddr")?,
     };
     Ok(Addresses {
         reader: name(rt, "ip")?,
-        test: name(rt, "isIpv4")?,
+        method: name(rt, "isIpv4")?,
         address,
-        answer: SchemaType::Bool,
     })
 }
 

@@ -4,7 +4,6 @@ use cedar_exprs::{Expr, ExprValidationError, FunctionTable};
 use cedar_names::NonEmpty;
 use cedar_terms::Var;
 use std::alloc::Global;
-use std::rc::RcStr;
 use std::test::Fail;
 
 fn validated<F: FunctionTable>(
@@ -15,11 +14,19 @@ fn validated<F: FunctionTable>(
     e.try_validate(alloc, table)
 }
 
+// What validation by the functions of addresses answers.
+fn outcome(rt: &HostRuntime, e: Expr<()>) -> Result<Result<Expr<()>, ExprValidationError>, Fail> {
+    let table = addresses(rt)?;
+    Ok(validated(rt.alloc(), &table, e))
+}
+
 // The expression comes back as it was.
 fn passes(rt: &HostRuntime, e: Expr<()>) -> Result<bool, Fail> {
-    let table = addresses(rt)?;
     let copy = e.clone(rt.alloc())?;
-    Ok(validated(rt.alloc(), &table, e)? == copy)
+    match outcome(rt, e)? {
+        Ok(same) => Ok(same == copy),
+        Err(_) => Ok(false),
+    }
 }
 
 // A copy of the error is equal to it and has this text.
@@ -30,8 +37,7 @@ fn has_text(alloc: Global, error: ExprValidationError, wanted: &str) -> Result<b
 
 // The expression is refused with this text.
 fn is_refused(rt: &HostRuntime, e: Expr<()>, wanted: &str) -> Result<bool, Fail> {
-    let table = addresses(rt)?;
-    match validated(rt.alloc(), &table, e) {
+    match outcome(rt, e)? {
         Ok(_) => Ok(false),
         Err(error) => has_text(rt.alloc(), error, wanted),
     }
@@ -105,41 +111,30 @@ fn refuses_the_last_child_first(rt: HostRuntime) -> Result<(), Fail> {
     Ok(())
 }
 
-// These texts, as a path of attributes.
-fn path(rt: &HostRuntime, first: &str, others: &[&str]) -> Result<NonEmpty<RcStr>, Fail> {
+// Whether the principal has a path of these attributes.
+fn has_path(rt: &HostRuntime, first: &str, others: &[&str]) -> Result<Expr<()>, Fail> {
     let mut further = Vec::new(rt.alloc());
     for attr in others {
         further.push(text(rt, attr)?)?;
     }
-    Ok(NonEmpty::new(text(rt, first)?, further))
+    let path = NonEmpty::new(text(rt, first)?, further);
+    Ok(Expr::extended_has_attr(rt.alloc(), Expr::var(Var::Principal), path)?)
 }
 
-// Whether the principal has this path of attributes is refused at this one.
-fn is_refused_at(rt: &HostRuntime, attrs: NonEmpty<RcStr>, wanted: &str) -> Result<bool, Fail> {
-    let table = addresses(rt)?;
-    let e = Expr::extended_has_attr(rt.alloc(), Expr::var(Var::Principal), attrs)?;
-    match validated(rt.alloc(), &table, e) {
-        Err(ExprValidationError::InvalidAttribute { attr }) => Ok(attr.as_str() == wanted),
-        _ => Ok(false),
-    }
-}
+const EMPTY: &str = "invalid expression: extended has attribute `` is not a valid identifier";
+
+const KEYWORD: &str = "invalid expression: extended has attribute `true` is not a valid identifier";
 
 #[test]
 fn refuses_attributes(rt: HostRuntime) -> Result<(), Fail> {
-    assert!(rt; is_refused_at(&rt, path(&rt, "a", &["", "true"])?, "")?);
-    assert!(rt; is_refused_at(&rt, path(&rt, "", &["a"])?, "")?);
-    assert!(rt; is_refused_at(&rt, path(&rt, "true", &["a"])?, "true")?);
+    assert!(rt; is_refused(&rt, has_path(&rt, "a", &["", "true"])?, EMPTY)?);
+    assert!(rt; is_refused(&rt, has_path(&rt, "", &["a"])?, EMPTY)?);
+    assert!(rt; is_refused(&rt, has_path(&rt, "true", &["a"])?, KEYWORD)?);
     Ok(())
 }
 
-// The refusal of an attribute, and the text that it has.
-const INVALID: &str = "invalid expression: extended has attribute `a b` is not a valid identifier";
-
 #[test]
-fn texts(rt: HostRuntime) -> Result<(), Fail> {
-    let attr = text(&rt, "a b")?;
-    let error = ExprValidationError::InvalidAttribute { attr };
-    assert!(rt; has_text(rt.alloc(), error, INVALID)?);
+fn want_of_memory_has_a_text(rt: HostRuntime) -> Result<(), Fail> {
     assert!(rt; has_text(rt.alloc(), ExprValidationError::Memory, "no memory")?);
     Ok(())
 }
