@@ -1,6 +1,6 @@
 -- What a hasher that records keeps of a write.
 use Rattle.std.specs.Prelude.{ℕ, ◌+◌, ◌%◌, ◌^◌, List, [], ◌∷◌, length, Option, Some, None}
-use Rattle.cedar_exprs_tests.specs.declared.tests.recorder.Recorder.{Recorder}
+use Rattle.cedar_exprs_tests.specs.declared.recorder.Recorder.{Recorder}
 
 -- the first byte of all writes
 abbrev pub first_byte : Option ℕ → List ℕ → Option ℕ

@@ -1,7 +1,6 @@
 mod constructors;
 mod laws;
 mod queries;
-mod recorder;
 mod restricted;
 mod shapes;
 mod shapes_as_keys;

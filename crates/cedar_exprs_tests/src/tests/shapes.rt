@@ -1,8 +1,8 @@
 // What shapes compare and feed.
+use crate::recorder::Recorder;
 use crate::tests::constructors::{
     BINARY_OPS, binary_built, binary_made, negated_built, negated_made, unary_built, unary_made, x,
 };
-use crate::tests::recorder::Recorder;
 use cedar_builders::ExprBuilder as _;
 use cedar_exprs::{Expr, ExprBuilder};
 use cedar_names::SlotId;

@@ -1,16 +1,20 @@
-// A hasher that keeps the first byte which it is fed, and the number of bytes.
+//! A hasher that keeps the first byte which it is fed, and the number of bytes.
 ghost use Rattle.std.specs.Prelude.{◌≡◌};
 ghost use Rattle.cedar_exprs_tests.specs.Recording.{recorded};
 
 use std::hash::Hasher;
 
+/// What it was fed.
 #[derive(Debug, PartialEq, Eq, Drop)]
 pub struct Recorder {
+    /// The first byte.
     pub first: Option<u8>,
+    /// The number of bytes.
     pub count: u64,
 }
 
 impl Recorder {
+    /// Nothing yet.
     pub fn new() -> Recorder {
         Recorder {
             first: None,
