@@ -1,0 +1,6 @@
+mod calls;
+mod count;
+mod extensions;
+mod functions;
+mod makers;
+mod texts;
