@@ -10,8 +10,8 @@ use std::collections::HashMap;
 use std::mem;
 use std::rc::RcStr;
 
-// Numbers of nodes of a full tree of two children each.
-const FULL: [usize; 4] = [1_023, 8_191, 131_071, 1_048_575];
+/// Numbers of nodes of a full tree of two children each.
+pub const FULL: [usize; 4] = [1_023, 8_191, 131_071, 1_048_575];
 
 const WIDE: [usize; 4] = [1_000, 10_000, 100_000, 1_000_000];
 
@@ -159,8 +159,8 @@ fn long_unknown(name: RcStr) -> Unknown {
     Unknown::new_with_type(name, Type::Long)
 }
 
-// Every fourth is the unknown x, any other the number of those before it.
-fn leaves<F>(alloc: Global, count: usize, unknown: F) -> Result<Vec<Expr>, CaseFault>
+/// Every fourth is the unknown x, any other the number of those before it.
+pub fn leaves<F>(alloc: Global, count: usize, unknown: F) -> Result<Vec<Expr>, CaseFault>
 where
     F: Fn(RcStr) -> Unknown + Drop,
     requires { F.IsAlwaysCallable unknown }
@@ -186,8 +186,8 @@ where
     only(alloc, leaves(alloc, nodes / 2 + 1, unknown)?, by_two)
 }
 
-// What is left of the expressions when they have been gathered until there is one.
-fn only<F>(alloc: Global, exprs: Vec<Expr>, gather: F) -> Result<Expr, CaseFault>
+/// What is left of the expressions when they have been gathered until there is one.
+pub fn only<F>(alloc: Global, exprs: Vec<Expr>, gather: F) -> Result<Expr, CaseFault>
 where
     F: Fn(Global, Vec<Expr>) -> Result<Vec<Expr>, CaseFault> + Drop,
     requires { F.IsAlwaysCallable gather }
@@ -201,8 +201,8 @@ where
     level.pop().ok_or(CaseFault::Answer)
 }
 
-// The sum of the first two, of the next two, and so on.
-fn by_two(alloc: Global, exprs: Vec<Expr>) -> Result<Vec<Expr>, CaseFault> {
+/// The sum of the first two, of the next two, and so on.
+pub fn by_two(alloc: Global, exprs: Vec<Expr>) -> Result<Vec<Expr>, CaseFault> {
     let mut sums = Vec::new(alloc);
     let mut waiting = None;
     for expr in exprs {

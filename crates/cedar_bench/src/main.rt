@@ -6,7 +6,9 @@
 #![tactic(auto)]
 
 mod args;
+mod calls;
 mod case;
+mod count;
 mod expressions;
 mod names;
 mod patterns;
@@ -50,5 +52,6 @@ fn all_cases<V: Visit>(visit: &mut V) -> Result<(), BenchFault> {
     patterns::cases(visit)?;
     expressions::cases(visit)?;
     values::cases(visit)?;
+    calls::cases(visit)?;
     script::cases(visit)
 }
