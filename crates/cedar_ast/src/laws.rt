@@ -9,8 +9,8 @@ pub use cedar_exprs::laws::{
 };
 pub use cedar_names::laws::{compared_lists, equal_names, name_texts_differ, ordered_names};
 pub use cedar_terms::laws::{
-    equal_operators, equal_terms, hashed_entities, ordered_entities, ordered_operators,
-    pattern_texts_differ,
+    equal_operators, equal_terms, hashed_entities, hashed_literals, ordered_entities,
+    ordered_operators, pattern_texts_differ,
 };
 pub use cedar_values::laws::{
     equal_partial_values, order_of_kinds, order_of_sets, order_of_values, sets_are_finite_sets,

@@ -99,6 +99,7 @@ use crate::ast::laws::equal_partial_values;
 use crate::ast::laws::equal_terms;
 use crate::ast::laws::expressions_read_back;
 use crate::ast::laws::hashed_entities;
+use crate::ast::laws::hashed_literals;
 use crate::ast::laws::name_texts_differ;
 use crate::ast::laws::nodes_in_preorder;
 use crate::ast::laws::order_of_kinds;

@@ -8,6 +8,7 @@ ghost use Rattle.cedar_terms.specs.PatternOrder.{elem_cmp};
 ghost use Rattle.cedar_names.specs.NameOrder.{name_cmp, name_fed};
 ghost use Rattle.cedar_terms.specs.Entities.{bare_entity_type, bare_entity_uid};
 ghost use Rattle.cedar_terms.specs.EntityOrder.{entity_uid_cmp, entity_uid_fed};
+ghost use Rattle.cedar_terms.specs.LiteralOrder.{literal_fed};
 ghost use Rattle.cedar_terms.specs.Literals.{bare_literal};
 ghost use Rattle.cedar_terms.specs.Types.{bare_type};
 ghost use Rattle.cedar_terms.specs.Unknowns.{bare_unknown};
@@ -55,6 +56,15 @@ pub fn hashed_entities()
         ⟦<EntityType as Hash>⟧.hash_input ty ≡ name_fed (bare_entity_type ty) }
     ensures entities { (uid : EntityUID) →
         ⟦<EntityUID as Hash>⟧.hash_input uid ≡ entity_uid_fed (bare_entity_uid uid) }
+{}
+
+/// Equal literals feed a hasher the same, as a set by hash needs: the number of the kind, and then
+/// the content without places.
+pub fn hashed_literals()
+    ensures fed { (x : Literal) →
+        ⟦<Literal as Hash>⟧.hash_input x ≡ literal_fed (bare_literal x) }
+    ensures alike { (x y : Literal) → IsTrue (⟦<Literal as PartialEq>⟧.eq x y) →
+        ⟦<Literal as Hash>⟧.hash_input x ≡ ⟦<Literal as Hash>⟧.hash_input y }
 {}
 
 /// Operators, variables and elements of patterns are equal exactly where they are the same.
