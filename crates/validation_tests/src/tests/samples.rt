@@ -1,18 +1,9 @@
 // What the tests make their expressions of.
 use crate::addresses::Addresses;
 use cedar_exprs::Expr;
-use cedar_names::Name;
 use cedar_terms::{Literal, SchemaType};
-use std::rc::RcStr;
+use expr_samples::{call, name};
 use std::test::Fail;
-
-pub fn text(rt: &HostRuntime, s: &str) -> Result<RcStr, Fail> {
-    Ok(RcStr::from_str(rt.alloc(), s)?)
-}
-
-pub fn name(rt: &HostRuntime, s: &str) -> Result<Name, Fail> {
-    Ok(Name::parse_unqualified_name(rt.alloc(), s)?)
-}
 
 // `ip`, of which addresses come, and the method `isIpv4`.
 pub fn addresses(rt: &HostRuntime) -> Result<Addresses, Fail> {
@@ -28,10 +19,6 @@ pub fn addresses(rt: &HostRuntime) -> Result<Addresses, Fail> {
 
 pub fn string(rt: &HostRuntime, s: &str) -> Result<Expr<()>, Fail> {
     Ok(Expr::val(Literal::from_text(rt.alloc(), s)?))
-}
-
-pub fn call(rt: &HostRuntime, function: &str, args: Vec<Expr<()>>) -> Result<Expr<()>, Fail> {
-    Ok(Expr::call_extension_fn(rt.alloc(), name(rt, function)?, args)?)
 }
 
 // A call of one argument.

@@ -1,8 +1,9 @@
 // The types of expressions that are known without evaluation.
-use crate::tests::samples::{address, addresses, call_on, name, text};
+use crate::tests::samples::{address, addresses, call_on};
 use cedar_exprs::{Expr, FunctionTable};
 use cedar_names::SlotId;
 use cedar_terms::{Literal, Type, Unknown, Var};
+use expr_samples::{name, text};
 use std::alloc::{AllocError, Global};
 use std::test::Fail;
 

@@ -1,8 +1,9 @@
 // What validation lets through, and what it refuses.
-use crate::tests::samples::{address, addresses, call, call_on, name, string, text};
+use crate::tests::samples::{address, addresses, call_on, string};
 use cedar_exprs::{Expr, ExprValidationError, FunctionTable};
 use cedar_names::NonEmpty;
 use cedar_terms::Var;
+use expr_samples::{call, name, text};
 use std::alloc::Global;
 use std::test::Fail;
 
