@@ -10,6 +10,7 @@ pub mod FirstFault
 pub mod Readings
 pub mod Restrictions
 pub mod Writings
+pub mod Rebuilt
 pub mod PlainMaps
 pub mod Splits
 pub mod BoundedRests

@@ -8,6 +8,7 @@ pub mod Records
 pub mod NotReadable
 pub mod Conversions
 pub mod Keyed
+pub mod Rows
 pub mod ValueMaps
 pub mod Holders
 pub mod PartialValues

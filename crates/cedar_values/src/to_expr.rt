@@ -1,26 +1,47 @@
 //! The expression of a value (`value.rs`, `extension.rs`).
-ghost use Rattle.std.specs.Prelude.{◌≡◌, IsTrue, IfOk, None, map};
-ghost use Rattle.std.specs.List.{list_all};
-ghost use Rattle.cedar_builders.specs.Restricted.{IsRestricted, is_restricted};
-ghost use Rattle.cedar_exprs.specs.BareExpr.{bare_expr, bare_fields, expr_place};
+ghost use Rattle.std.specs.Prelude.{◌≡◌, ◌<◌, ◌≤◌, ◌++◌, IsTrue, IfOk, IfSome, None};
+ghost use Rattle.std.specs.Option.{option_copied};
+ghost use Rattle.std.specs.Slice.Iter.{iter_rest};
+ghost use Rattle.cedar_terms.specs.Literals.{bare_literal};
+ghost use Rattle.cedar_builders.specs.BareExpr.{Lit};
+ghost use Rattle.cedar_builders.specs.Keys.{IsRising, keys_of};
+ghost use Rattle.cedar_builders.specs.Restricted.{IsRestricted};
+ghost use Rattle.cedar_exprs.specs.BareExpr.{bare_expr, expr_place};
 ghost use Rattle.cedar_exprs.specs.RestrictedExprs.{bare_restricted_expr};
 ghost use Rattle.value_trees.specs.Reading.{ReadsBack};
-ghost use Rattle.value_trees.specs.ValueExpr.{call_expr, pair_exprs, value_expr};
+ghost use Rattle.value_trees.specs.ValueExpr.{call_expr, value_expr};
 ghost use Rattle.cedar_values.specs.BareCalls.{bare_call};
 ghost use Rattle.cedar_values.specs.BareValues.{bare_representable, bare_value, bare_value_kind, value_place};
 ghost use Rattle.cedar_values.specs.Conversions.{bare_pairs};
-ghost use Rattle.cedar_values.specs.Sets.{members};
+ghost use Rattle.cedar_values.specs.Rows.{
+  AreRestricted,
+  ArePairsRestricted,
+  IsRow,
+  IsStep,
+  filled,
+  members_tree,
+  nodes,
+  nodes_of,
+  pair_nodes,
+  pairs_tree,
+  row_left,
+  row_place,
+  step_left,
+  step_place,
+  step_tree,
+};
 ghost use Rattle.cedar_values.specs.WellFormed.{kind_well_formed, well_formed};
 
 use crate::extension_value::{ExtensionValue, RepresentableExtensionValue};
 use crate::put_last::put_last;
-use crate::set::Set;
 use crate::value::{Value, ValueKind};
 use cedar_exprs::{Expr, RestrictedExpr};
 use cedar_names::{Loc, Name};
+use cedar_terms::Literal;
 use std::alloc::{AllocError, Global};
-use std::collections::BTreeMap;
+use std::collections::{BTreeMap, btree_map};
 use std::rc::{Rc, RcStr};
+use std::slice;
 use value_trees::laws::expressions_read_back;
 
 impl<X: ExtensionValue + Ord> Value<X> {
@@ -35,7 +56,7 @@ impl<X: ExtensionValue + Ord> Value<X> {
             → ReadsBack X.cmp X.eq (bare_expr e) (bare_value self.now)) }
     {
         expressions_read_back::<X>();
-        expr_of(alloc, self)
+        expr_at(alloc, self.value_kind(), self.source_loc())
     }
 }
 
@@ -50,7 +71,7 @@ impl<X: ExtensionValue + Ord> ValueKind<X> {
             → ReadsBack X.cmp X.eq (bare_expr e) (bare_value_kind self.now)) }
     {
         expressions_read_back::<X>();
-        expr_of_kind(alloc, self)
+        expr_at(alloc, self, None)
     }
 }
 
@@ -64,80 +85,216 @@ impl<X: ExtensionValue> RepresentableExtensionValue<X> {
     }
 }
 
-// The expression of a value, at its place.
-#[cycle(expr_of)]
-fn expr_of<X: ExtensionValue + Ord>(alloc: Global, value: &Value<X>) -> Result<Expr<()>, AllocError>
-    ensures tree { IfOk result (λ e.
-        bare_expr e ≡ value_expr X.canonical (bare_value value.now)) }
-    ensures restricted { IfOk result (λ e. IsRestricted (bare_expr e)) }
-    ensures place { IfOk result (λ e. expr_place e ≡ value_place value.now) }
-{
-    let expr = expr_of_kind(alloc, value.value_kind())?;
-    Ok(at_place(expr, Loc::clone_option(alloc, value.source_loc())?))
-}
-
-// The expression of a kind, at no place.
-#[cycle(expr_of)]
-fn expr_of_kind<X: ExtensionValue + Ord>(
+// The expression of a value of this kind at this place, if any.
+//
+// The sets and the records around the value that comes next wait on the heap, so that no depth of a
+// value ends the walk.
+fn expr_at<X: ExtensionValue + Ord>(
     alloc: Global,
     kind: &ValueKind<X>,
+    loc: Option<&Loc>,
 ) -> Result<Expr<()>, AllocError>
     ensures tree { IfOk result (λ e.
         bare_expr e ≡ value_expr X.canonical (bare_value_kind kind.now)) }
     ensures restricted { IfOk result (λ e. IsRestricted (bare_expr e)) }
-    ensures place { IfOk result (λ e. expr_place e ≡ None) }
+    ensures place { IfOk result (λ e. expr_place e ≡ option_copied loc.entry) }
+{
+    let mut waiting = Vec::new(alloc);
+    let mut step = enter(alloc, kind, loc)?;
+    'walk: loop {
+        match step {
+            Step::Into(row, value) => {
+                waiting.push(row)?;
+                step = enter(alloc, value.value_kind(), value.source_loc())?;
+            }
+            Step::Made(expr) => match waiting.pop() {
+                Some(row) => step = go_on(alloc, row, expr)?,
+                None => return Ok(expr),
+            },
+        }
+    }
+}
+
+// A set that is being written: the expressions of its first members, and the other members.
+#[derive(Drop)]
+struct SetRow<'a, X> {
+    exprs: Vec<Expr<()>>,
+    rest: slice::Iter<'a, Value<X>>,
+    loc: Option<&'a Loc>,
+}
+
+// A record that is being written.
+#[derive(Drop)]
+struct RecordRow<'a, X> {
+    exprs: BTreeMap<RcStr, Expr<()>>,
+    rest: btree_map::Iter<'a, RcStr, Value<X>>,
+    loc: Option<&'a Loc>,
+}
+
+// What waits for the expression of a value inside.
+#[derive(Drop)]
+enum Waiting<'a, X> {
+    // The next member of a set.
+    InSet(SetRow<'a, X>),
+    // The next value of a record, and its key.
+    InRecord(RecordRow<'a, X>, RcStr),
+}
+
+// A step of the walk.
+#[derive(Drop)]
+enum Step<'a, X> {
+    // The expression of a value.
+    Made(Expr<()>),
+    // A value has to be written first, for which this waits.
+    Into(Waiting<'a, X>, &'a Value<X>),
+}
+
+// Into a value of this kind at this place.
+fn enter<'a, X: ExtensionValue + Ord>(
+    alloc: Global,
+    kind: &'a ValueKind<X>,
+    loc: Option<&'a Loc>,
+) -> Result<Step<'a, X>, AllocError>
+    ensures tree { IfOk result (λ step.
+        step_tree X.canonical step ≡ value_expr X.canonical (bare_value_kind kind.now)) }
+    ensures place { IfOk result (λ step. step_place step ≡ option_copied loc.entry) }
+    ensures is_step { IfOk result IsStep }
+    ensures fewer { IfOk result (λ step. step_left step < nodes (bare_value_kind kind.now)) }
 {
     match kind {
-        ValueKind::Lit(literal) => Ok(Expr::val(literal.clone(alloc)?)),
-        ValueKind::Set(set) => Ok(Expr::set(alloc, member_exprs(alloc, set)?)?),
-        ValueKind::Record(pairs) => {
-            let exprs = exprs_by_key(alloc, pairs)?;
-            Ok(Expr::record_arc(Rc::new(alloc, exprs)?))
+        ValueKind::Lit(literal) => Ok(Step::Made(literal_at(alloc, literal, loc)?)),
+        ValueKind::Set(set) => {
+            let members = set.authoritative();
+            let exprs = Vec::with_capacity(alloc, members.len())?;
+            let rest = members.iter();
+            write_members(alloc, SetRow { exprs, rest, loc })
         }
-        ValueKind::ExtensionValue(value) => Ok(representation(alloc, value)?),
+        ValueKind::Record(pairs) => {
+            let exprs = BTreeMap::new(alloc);
+            let rest = pairs.iter();
+            write_pairs(alloc, RecordRow { exprs, rest, loc })
+        }
+        ValueKind::ExtensionValue(value) => Ok(Step::Made(extension_at(alloc, value, loc)?)),
     }
 }
 
-// The expressions of the members of a set.
-#[cycle(expr_of)]
-#[inline(never)]
-#[tactic(auto, unfolding(crate::specs::Sets::members))]
-fn member_exprs<X: ExtensionValue + Ord>(
+// Back to what waited for this expression.
+fn go_on<'a, X: ExtensionValue + Ord>(
     alloc: Global,
-    set: &Set<X>,
-) -> Result<Vec<Expr<()>>, AllocError>
-    ensures trees { IfOk result (λ es. map bare_expr es.items
-        ≡ map (λ v. value_expr X.canonical (bare_value v)) (members set.now)) }
-    ensures restricted { IfOk result (λ es.
-        IsTrue (list_all (λ e. is_restricted (bare_expr e)) es.items)) }
+    row: Waiting<'a, X>,
+    expr: Expr<()>,
+) -> Result<Step<'a, X>, AllocError>
+    requires is_row { IsRow row }
+    requires restricted { IsRestricted (bare_expr expr) }
+    ensures tree { IfOk result (λ step.
+        step_tree X.canonical step ≡ filled X.canonical row.entry (bare_expr expr)) }
+    ensures place { IfOk result (λ step. step_place step ≡ row_place row.entry) }
+    ensures is_step { IfOk result IsStep }
+    ensures fewer { IfOk result (λ step. step_left step ≤ row_left row.entry) }
 {
-    let members = set.authoritative();
-    let mut exprs = Vec::with_capacity(alloc, members.len())?;
-    for member in members {
-        exprs.push(expr_of(alloc, member)?)?;
+    match row {
+        Waiting::InSet(row) => {
+            let mut row = row;
+            row.exprs.push(expr)?;
+            write_members(alloc, row)
+        }
+        Waiting::InRecord(row, key) => {
+            let mut row = row;
+            put_last(&mut row.exprs, key, expr)?;
+            write_pairs(alloc, row)
+        }
     }
-    Ok(exprs)
 }
 
-// The expressions of the values of a record, by key.
-#[cycle(expr_of)]
-#[inline(never)]
-fn exprs_by_key<X: ExtensionValue + Ord>(
+// Writes the members that are left, up to one that has values inside.
+fn write_members<'a, X: ExtensionValue + Ord>(
     alloc: Global,
-    pairs: &BTreeMap<RcStr, Value<X>>,
-) -> Result<BTreeMap<RcStr, Expr<()>>, AllocError>
-    ensures trees { IfOk result (λ m.
-        bare_fields m.entries ≡ pair_exprs X.canonical (bare_pairs pairs.now.entries)) }
-    ensures restricted { IfOk result (λ m.
-        IsTrue (list_all (λ e. is_restricted (bare_expr e.1)) m.entries)) }
+    row: SetRow<'a, X>,
+) -> Result<Step<'a, X>, AllocError>
+    requires { AreRestricted row.exprs.items }
+    ensures tree { IfOk result (λ step.
+        step_tree X.canonical step ≡ members_tree X.canonical row.entry) }
+    ensures place { IfOk result (λ step. step_place step ≡ option_copied row.entry.loc) }
+    ensures is_step { IfOk result IsStep }
+    ensures fewer { IfOk result (λ step. step_left step ≤ nodes_of (iter_rest row.entry.rest)) }
 {
-    let mut exprs = BTreeMap::new(alloc);
-    for (key, value) in pairs.iter() {
+    let mut row = row;
+    'each: while let Some(member) = row.rest.next() {
+        match leaf(alloc, member)? {
+            Some(expr) => row.exprs.push(expr)?,
+            None => return Ok(Step::Into(Waiting::InSet(row), member)),
+        }
+    }
+    let set = Expr::set(alloc, row.exprs)?;
+    Ok(Step::Made(at_place(set, Loc::clone_option(alloc, row.loc)?)))
+}
+
+// Writes the values that are left, up to one that has values inside.
+fn write_pairs<'a, X: ExtensionValue + Ord>(
+    alloc: Global,
+    row: RecordRow<'a, X>,
+) -> Result<Step<'a, X>, AllocError>
+    requires restricted { ArePairsRestricted row.exprs.entries }
+    requires rising { IsRising (keys_of row.exprs.entries ++ keys_of row.rest) }
+    ensures tree { IfOk result (λ step.
+        step_tree X.canonical step ≡ pairs_tree X.canonical row.entry) }
+    ensures place { IfOk result (λ step. step_place step ≡ option_copied row.entry.loc) }
+    ensures is_step { IfOk result IsStep }
+    ensures fewer { IfOk result (λ step. step_left step ≤ pair_nodes (bare_pairs row.entry.rest)) }
+{
+    let mut row = row;
+    'each: while let Some((key, value)) = row.rest.next() {
         let key = key.clone()?;
-        let expr = expr_of(alloc, value)?;
-        put_last(&mut exprs, key, expr)?;
+        match leaf(alloc, value)? {
+            Some(expr) => put_last(&mut row.exprs, key, expr)?,
+            None => return Ok(Step::Into(Waiting::InRecord(row, key), value)),
+        }
     }
-    Ok(exprs)
+    let record = Expr::record_arc(Rc::new(alloc, row.exprs)?);
+    Ok(Step::Made(at_place(record, Loc::clone_option(alloc, row.loc)?)))
+}
+
+// The expression of a value without values inside; none of another value.
+fn leaf<X: ExtensionValue + Ord>(
+    alloc: Global,
+    value: &Value<X>,
+) -> Result<Option<Expr<()>>, AllocError>
+    ensures tree { IfOk result (λ made. IfSome made (λ e.
+        bare_expr e ≡ value_expr X.canonical (bare_value value.now))) }
+    ensures restricted { IfOk result (λ made. IfSome made (λ e. IsRestricted (bare_expr e))) }
+    ensures place { IfOk result (λ made. IfSome made (λ e. expr_place e ≡ value_place value.now)) }
+{
+    let loc = value.source_loc();
+    match value.value_kind() {
+        ValueKind::Lit(literal) => Ok(Some(literal_at(alloc, literal, loc)?)),
+        ValueKind::ExtensionValue(value) => Ok(Some(extension_at(alloc, value, loc)?)),
+        ValueKind::Set(_) => Ok(None),
+        ValueKind::Record(_) => Ok(None),
+    }
+}
+
+// The expression of a literal, at a place.
+fn literal_at(alloc: Global, literal: &Literal, loc: Option<&Loc>) -> Result<Expr<()>, AllocError>
+    ensures tree { IfOk result (λ e. bare_expr e ≡ Lit (bare_literal literal.now)) }
+    ensures place { IfOk result (λ e. expr_place e ≡ option_copied loc.entry) }
+{
+    let expr = Expr::val(literal.clone(alloc)?);
+    Ok(at_place(expr, Loc::clone_option(alloc, loc)?))
+}
+
+// The expression of an extension value, at a place.
+fn extension_at<X: ExtensionValue>(
+    alloc: Global,
+    value: &RepresentableExtensionValue<X>,
+    loc: Option<&Loc>,
+) -> Result<Expr<()>, AllocError>
+    ensures tree { IfOk result (λ e.
+        bare_expr e ≡ value_expr X.canonical (bare_representable value.now)) }
+    ensures restricted { IfOk result (λ e. IsRestricted (bare_expr e)) }
+    ensures place { IfOk result (λ e. expr_place e ≡ option_copied loc.entry) }
+{
+    let expr = representation(alloc, value)?;
+    Ok(at_place(expr, Loc::clone_option(alloc, loc)?))
 }
 
 // The expression at another place.

@@ -9,5 +9,5 @@ pub returns-clause-read_back : goal.returns-clause-read_back
 unfolding kind_well_formed
 returns-clause-read_back g c =
     let t = bare_value_kind c.args.self.now in
-    if_ok c.expr_of_kind.result c.expr_of_kind.ensures.tree
+    if_ok c.expr_at.result c.expr_at.ensures.tree
     (λ e is kept. subst (λ b. ReadsBack g.X.Ord.cmp g.X.PartialEq.eq b t) (sym is) (c.expressions_read_back.ensures g.X.ExtensionValue.canonical t kept))
