@@ -14,12 +14,14 @@ use Rattle.value_trees.specs.WellFormed.{is_well_formed, pairs_are_well_formed}
 use Rattle.cedar_values.specs.BareValues.{bare_value, bare_value_kind, bare_set, kind_step, set_step, value_step, kind_of, value_place}
 use Rattle.cedar_values.specs.Places.{value_at, literal_value, unplaced}
 use Rattle.cedar_values.specs.Sets.{members}
-use Rattle.cedar_values.specs.WellFormed.{well_formed, kind_well_formed, set_well_formed}
+use Rattle.cedar_values.specs.WellFormed.{is_hashed, well_formed, kind_well_formed, set_well_formed}
+use Rattle.cedar_values.specs.declared.extension_value.RepresentableExtensionValue.{RepresentableExtensionValue}
 use Rattle.cedar_values.specs.declared.set.Set as set
 use Rattle.cedar_values.specs.declared.value.Value.{Value, fold_out-Value, out-roll-Value, roll-out-Value, roll-Value}
 use Rattle.cedar_values.specs.declared.value.ValueKind.{ValueKind, fold_out-ValueKind, out-ValueKind, map-ValueKind}
 use Rattle.cedar_values.specs.declared.value.ValueKind.TheOpen.{ValueKind-F}
-use Rattle.cedar_values.specs.declared.value.ValueKind.TheVariants.{Lit, Set, Record, outs-Lit, outs-Set, outs-Record}
+use Rattle.cedar_values.specs.declared.value.ValueKind.TheVariants.{Lit, Set, Record, ExtensionValue, outs-Lit, outs-Set, outs-Record, outs-ExtensionValue}
+use Rattle.cedar_values.proofs.Hashed.{all_both, hash_level, kind_hash, value_hash}
 use Rattle.cedar_values.proofs.WellFormedSets.{set_values}
 
 module _ {X : Type 0} where
@@ -62,27 +64,28 @@ kind_level R (ValueKind-F.ExtensionValue e) = true
 module _ {X : Type 0} (R : X → X → Ordering) where
   pub value_kept : (v : Value X) → well_formed R v ≡ kind_well_formed R (kind_of v)
   unfolding well_formed kind_well_formed
-  value_kept v = ap (is_well_formed R) (value_tree v)
+  value_kept v = λ i. is_well_formed R (value_tree v i) && value_hash v i
 
   -- a value is well formed where its kind is
   pub kept_by_kind : (v : Value X) (k : ValueKind X) → kind_of v ≡ k → kind_well_formed R k ≡ true → well_formed R v ≡ true
   kept_by_kind v k is h = value_kept v ∙ ap (kind_well_formed R) is ∙ h
 
-  entries_kept : (es : List (RcStr Global × Value X)) → pairs_are_well_formed R (pairs_of (keyed (map (λ (e : RcStr Global × Value X). (e.0, bare_value e.1)) es))) ≡ list_all (λ e. well_formed R e.1) es
-  unfolding well_formed
+  entries_kept : (es : List (RcStr Global × Value X)) → pairs_are_well_formed R (pairs_of (keyed (map (λ (e : RcStr Global × Value X). (e.0, bare_value e.1)) es))) ≡ list_all (λ e. is_well_formed R (bare_value e.1)) es
   entries_kept [] = refl
   entries_kept (e ∷ es) = ap (λ b. is_well_formed R (bare_value e.1) && b) (entries_kept es)
 
-  level_kept : (x : ValueKind-F X (ValueKind X) (set.Set X) (Value X)) → is_well_formed R (level x) ≡ kind_level R x
-  unfolding set_well_formed
+  level_kept : (x : ValueKind-F X (ValueKind X) (set.Set X) (Value X)) → (is_well_formed R (level x) && hash_level x) ≡ kind_level R x
+  unfolding well_formed set_well_formed
   level_kept (ValueKind-F.Lit l) = refl
   level_kept (ValueKind-F.Set s) = refl
-  level_kept (ValueKind-F.Record m) = entries_kept m.value.entries
+  level_kept (ValueKind-F.Record m) =
+      ap (λ b. b && list_all (λ e. is_hashed e.1) m.value.entries) (entries_kept m.value.entries)
+      ∙ all_both (λ e. is_well_formed R (bare_value e.1)) (λ e. is_hashed e.1) m.value.entries
   level_kept (ValueKind-F.ExtensionValue e) = refl
 
   pub kind_kept : (k : ValueKind X) → kind_well_formed R k ≡ kind_level R (out-ValueKind X k)
   unfolding kind_well_formed
-  kind_kept k = ap (is_well_formed R) (kind_tree k) ∙ level_kept (out-ValueKind X k)
+  kind_kept k = (λ i. is_well_formed R (kind_tree k i) && kind_hash k i) ∙ level_kept (out-ValueKind X k)
 
   pub set_kept : (s : set.Set X) → kind_well_formed R (Set s) ≡ set_well_formed R s
   set_kept s = kind_kept (Set s) ∙ ap (kind_level R) (outs-Set s)
@@ -90,13 +93,20 @@ module _ {X : Type 0} (R : X → X → Ordering) where
   pub record_kept : (m : Rc (BTreeMap (RcStr Global) (Value X)) Global) → kind_well_formed R (Record m) ≡ list_all (λ e. well_formed R e.1) m.value.entries
   record_kept m = kind_kept (Record m) ∙ ap (kind_level R) (outs-Record m)
 
+  pub literal_kept : (l : Literal) → kind_well_formed R (Lit l) ≡ true
+  literal_kept l = kind_kept (Lit l) ∙ ap (kind_level R) (outs-Lit l)
+
+  pub extension_kept : (e : Rc (RepresentableExtensionValue X) Global) → kind_well_formed R (ExtensionValue e) ≡ true
+  extension_kept e = kind_kept (ExtensionValue e) ∙ ap (kind_level R) (outs-ExtensionValue e)
+
   -- literals are well formed
   pub literals_kept : (ls : List Literal) → list_all (well_formed R) (map (literal_value {X = X}) ls) ≡ true
-  unfolding well_formed
   literals_kept [] = refl
-  literals_kept (l ∷ ls) = λ i. is_well_formed R (literal_tree l i) && literals_kept ls i
+  literals_kept (l ∷ ls) = λ i. kept_by_kind (literal_value l) (Lit l) (kind_at (Lit l) None) (literal_kept l) i && literals_kept ls i
+
+  one_unplaced : (v : Value X) → well_formed R (unplaced v) ≡ well_formed R v
+  one_unplaced v = value_kept (unplaced v) ∙ ap (kind_well_formed R) (kind_at (kind_of v) None) ∙ sym (value_kept v)
 
   pub unplaced_kept : (vs : List (Value X)) → list_all (well_formed R) (map unplaced vs) ≡ list_all (well_formed R) vs
-  unfolding well_formed
   unplaced_kept [] = refl
-  unplaced_kept (v ∷ vs) = λ i. is_well_formed R (unplaced_tree v i) && unplaced_kept vs i
+  unplaced_kept (v ∷ vs) = λ i. one_unplaced v i && unplaced_kept vs i

@@ -1,19 +1,28 @@
 -- What sets are made of.
-use Rattle.std.proofs.Common.{◌≡◌, true, false, ◌&&◌, ◌||◌, List, [], ◌∷◌, map, cond, refl, sym, ap, subst, ◌∙◌, IsTrue, Result, IfOk}
+use Rattle.std.proofs.Common.{◌≡◌, true, false, ◌&&◌, ◌||◌, List, [], ◌∷◌, map, cond, Option, Some, refl, sym, ap, subst, ◌∙◌, IsTrue, Result, Ok, Err, IfOk}
 use Rattle.std.proofs.lemmas.Result.{IfOk-weaker}
+use Rattle.std.specs.Cmp.{IsTotalOrder}
 use Rattle.std.specs.List.{list_all}
 use Rattle.std.specs.Ordering.{is_eq}
 use Rattle.std.specs.declared.cmp.Ordering.{Ordering}
+use Rattle.cedar_terms.specs.Literals.{BareLiteral}
 use Rattle.rising.specs.Classes.{has_class, rises, HaveSameClasses, IsClassesOf}
 use Rattle.value_trees.specs.ValueOrder.{value_cmp}
 use Rattle.cedar_values.specs.BareValues.{bare_value}
+use Rattle.cedar_values.specs.HashForms.{is_hash_form}
 use Rattle.cedar_values.specs.Places.{gathered, is_lit_value, unplaced}
-use Rattle.cedar_values.specs.Sets.{by_tree, members}
+use Rattle.cedar_values.specs.Sets.{by_tree, hashed_literals, members}
 use Rattle.cedar_values.specs.WellFormed.{set_well_formed, well_formed}
 use Rattle.cedar_values.specs.declared.set.Set.{Set}
 use Rattle.cedar_values.specs.declared.value.Value.{Value}
+use Rattle.cedar_values.proofs.HashForms.{kept_form}
 use Rattle.cedar_values.proofs.Levels.{unplaced_tree, unplaced_kept}
-use Rattle.cedar_values.proofs.WellFormedSets.{set_is}
+use Rattle.cedar_values.proofs.WellFormedSets.{kept_of_classes, set_is}
+
+-- what two facts of an answer give
+pub if_both : {A E : Type 0} (P Q S : A → Type 0) (r : Result A E) → IfOk r P → IfOk r Q → ((a : A) → P a → Q a → S a) → IfOk r S
+if_both P Q S (Ok a) p q f = f a p q
+if_both P Q S (Err e) p q f = tt
 
 module _ {X : Type 0} (R : X → X → Ordering) where
   same_unplaced : (vs : List (Value X)) → HaveSameClasses (by_tree R) (map unplaced vs) vs
@@ -35,9 +44,16 @@ module _ {X : Type 0} (R : X → X → Ordering) where
         | false ↦ refl
       ]
 
-  -- a set without members
-  pub empty_kept : (s : Set X) → members s ≡ [] → set_well_formed R s ≡ true
-  empty_kept s h = set_is R s ∙ ap (λ vs. rises (by_tree R) vs && list_all (well_formed R) vs) h
+  -- a set without members, and with no literal by hash
+  pub empty_kept : (s : Set X) → members s ≡ [] → hashed_literals s ≡ Some [] → set_well_formed R s ≡ true
+  empty_kept s h none = set_is R s ∙ λ i. rises (by_tree R) (h i) && (is_hash_form (map bare_value (h i)) (none i) && list_all (well_formed R) (h i))
+
+  -- a set of the classes of values, with the hash form of these
+  pub made_well : IsTotalOrder (value_cmp R) → (s : Set X) (ms vs : List (Value X)) (f : Option (List BareLiteral)) → members s ≡ ms → hashed_literals s ≡ f → IsClassesOf (by_tree R) ms vs
+      → is_hash_form (map bare_value vs) f ≡ true → list_all (well_formed R) vs ≡ true → set_well_formed R s ≡ true
+  made_well o s ms vs f is hashed classes form all =
+      kept_of_classes R s vs (subst (λ xs. IsClassesOf (by_tree R) xs vs) (sym is) classes)
+      ((λ i. is_hash_form (map bare_value (is i)) (hashed i)) ∙ kept_form R o ms vs classes f form) all
 
   -- a set that is made of the gathered values
   module _ {E : Type 0} (r : Result (Set X) E) (vs ws : List (Value X)) (is : gathered vs ≡ ws) where

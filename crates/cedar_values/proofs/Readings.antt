@@ -1,12 +1,12 @@
 -- The values of lists and maps of expressions, one by one.
-use Rattle.std.proofs.Common.{◌≡◌, ℕ, ◌+◌, ◌<◌, ◌≤◌, List, [], ◌∷◌, ◌++◌, map, refl, sym, ap, subst, ◌∙◌, length, get_or, take, Global, BTreeMap, Vec, Result, Ok, Err, IfOk, Bool, true, false, if◌then◌else◌}
+use Rattle.std.proofs.Common.{◌≡◌, ℕ, ◌&&◌, ◌+◌, ◌<◌, ◌≤◌, List, [], ◌∷◌, ◌++◌, map, refl, sym, ap, subst, ◌∙◌, length, get_or, take, Global, BTreeMap, Vec, Bool, true, false, if◌then◌else◌}
 use Rattle.std.specs.List.{AllZip, list_all}
-use Rattle.std.specs.Result.{MatchResult}
 use Rattle.std.specs.Rc.{rc_str_bytes}
 use Rattle.std.specs.Cmp.{IsTotalOrder}
 use Rattle.std.specs.declared.rc.Rc.{Rc}
 use Rattle.std.specs.declared.rc.RcStr.{RcStr}
 use Rattle.std.specs.declared.cmp.Ordering.{Ordering}
+use Rattle.std.proofs.lemmas.List.Folds.{list_all-append}
 use Rattle.std.proofs.lemmas.List.{take_more, take_all}
 use Rattle.rising.specs.Classes.{IsClassesOf}
 use Rattle.rising.specs.Images.{classes_of_images}
@@ -27,16 +27,15 @@ use Rattle.cedar_values.specs.declared.set.Set.{Set}
 use Rattle.cedar_values.proofs.ExprLevels.{bare_at_set, bare_at_record}
 use Rattle.cedar_values.proofs.Levels.{set_tree, record_tree, unplaced_tree}
 
--- what follows for an answer that is no error
-pub if_match : {A E : Type 0} (P Q : A → Type 0) (F : E → Type 0) (r : Result A E) → MatchResult r P F → ((a : A) → P a → Q a) → IfOk r Q
-if_match P Q F (Ok a) h f = f a h
-if_match P Q F (Err e) h f = tt
-
 pub zip_push : {A B : Type 0} (P : A → B → Type 0) (xs : List A) (ys : List B) (x : A) (y : B) → AllZip P xs ys → P x y → AllZip P (xs ++ x ∷ []) (ys ++ y ∷ [])
 zip_push P [] [] x y h p = (p, tt)
 zip_push P [] (b ∷ ys) x y h p = absurd h
 zip_push P (a ∷ xs) [] x y h p = absurd h
 zip_push P (a ∷ xs) (b ∷ ys) x y h p = (h.0, zip_push P xs ys x y h.1 p)
+
+-- one more item that passes
+pub one_more_kept : {A : Type 0} (p : A → Bool) (xs : List A) (x : A) → list_all p xs ≡ true → p x ≡ true → list_all p (xs ++ x ∷ []) ≡ true
+one_more_kept p xs x all one = list_all-append p xs (x ∷ []) ∙ λ i. all i && (one i && true)
 
 module _ {X : Type 0} (R : X → X → Ordering) where
   abbrev pub IsRead : Expr Unit → Value X → Type 0

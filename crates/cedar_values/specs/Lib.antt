@@ -1,8 +1,9 @@
 pub mod BareCalls
 pub mod BareValues
+pub mod Places
+pub mod HashForms
 pub mod Sets
 pub mod WellFormed
-pub mod Places
 pub mod Kinds
 pub mod Records
 pub mod NotReadable

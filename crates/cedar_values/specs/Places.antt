@@ -1,7 +1,8 @@
 -- Values at their places.
-use Rattle.std.specs.Prelude.{List, map, Bool, true, false, Option, None, if◌then◌else◌}
+use Rattle.std.specs.Prelude.{List, map, Bool, true, false, Option, Some, None, if◌then◌else◌}
 use Rattle.std.specs.List.{list_all}
 use Rattle.cedar_names.specs.Place.{Place}
+use Rattle.cedar_terms.specs.Literals.{BareLiteral}
 use Rattle.cedar_terms.specs.declared.literal.Literal.{Literal}
 use Rattle.value_trees.specs.BareValue.{BareValue, LitValue, SetValue, RecordValue, ExtensionValue}
 use Rattle.cedar_values.specs.BareValues.{bare_value, kind_of}
@@ -27,6 +28,13 @@ is_lit_value (LitValue l) = true
 is_lit_value (SetValue ts) = false
 is_lit_value (RecordValue ps) = false
 is_lit_value (ExtensionValue x g) = false
+
+-- the literal that a value is, if it is one
+abbrev pub literal_of : {X : Type 0} → BareValue X → Option BareLiteral
+literal_of (LitValue l) = Some l
+literal_of (SetValue ts) = None
+literal_of (RecordValue ps) = None
+literal_of (ExtensionValue x g) = None
 
 -- literals alone lose their places; any other values stay as they are
 abbrev pub gathered : {X : Type 0} → List (Value X) → List (Value X)

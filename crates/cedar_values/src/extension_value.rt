@@ -48,7 +48,8 @@ pub trait ExtensionValue: Drop {
         ensures { result.now ≡ text_of self.now };
 }
 
-/// An extension value beside the call that was given for it, if any. It compares by its value alone.
+/// An extension value beside the call that was given for it, if any. It compares by its value
+/// alone.
 #[derive(Debug, Drop)]
 #[derive_where(PartialEq, Eq, PartialOrd, Ord; X)]
 pub struct RepresentableExtensionValue<X> {
@@ -60,7 +61,8 @@ pub struct RepresentableExtensionValue<X> {
 impl<X> RepresentableExtensionValue<X> {
     /// An extension value with the call that was given for it.
     pub fn new(value: X, func: Name, args: Vec<RestrictedExpr>) -> RepresentableExtensionValue<X>
-        ensures { bare_representable result ≡ bare.ExtensionValue value (Some (bare_call (func, args))) }
+        ensures { bare_representable result
+            ≡ bare.ExtensionValue value (Some (bare_call (func, args))) }
     {
         RepresentableExtensionValue {
             value,

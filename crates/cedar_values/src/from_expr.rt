@@ -1,5 +1,6 @@
 //! The value of an expression (`value.rs`).
 ghost use Rattle.std.specs.Prelude.{◌≡◌, IsTrue, IfOk, MatchResult, map};
+ghost use Rattle.std.specs.List.{list_all};
 ghost use Rattle.cedar_exprs.specs.BareExpr.{bare_expr, bare_exprs, bare_fields, expr_place};
 ghost use Rattle.value_trees.specs.Reading.{IsValueOf, AreValuesOf, ArePairsOf, is_readable};
 ghost use Rattle.cedar_values.specs.BareValues.{bare_value, bare_value_kind, value_place};
@@ -59,6 +60,7 @@ fn value_of<X: ExtensionValue + Ord>(alloc: Global, expr: &Expr<()>) -> Result<V
     ensures outcome { MatchResult result
         (λ v. IsValueOf X.cmp (bare_expr expr.now) (bare_value v))
         (IsNotValueAt (first_not_readable expr.now)) }
+    ensures well_formed { IfOk result (λ v. IsTrue (well_formed X.cmp v)) }
     ensures place { IfOk result (λ v. value_place v ≡ expr_place expr.now) }
 {
     let loc = Loc::clone_option(alloc, expr.source_loc())?;
@@ -72,9 +74,10 @@ fn kind_of_expr<X: ExtensionValue + Ord>(
     alloc: Global,
     expr: &Expr<()>,
 ) -> Result<ValueKind<X>, NotValue>
-    ensures { MatchResult result
+    ensures outcome { MatchResult result
         (λ k. IsValueOf X.cmp (bare_expr expr.now) (bare_value_kind k))
         (IsNotValueAt (first_not_readable expr.now)) }
+    ensures well_formed { IfOk result (λ k. IsTrue (kind_well_formed X.cmp k)) }
 {
     nodes_in_preorder::<()>();
     values_are_ordered::<X>();
@@ -101,9 +104,11 @@ fn values_of<X: ExtensionValue + Ord>(
     alloc: Global,
     members: &Vec<Expr<()>>,
 ) -> Result<Vec<Value<X>>, NotValue>
-    ensures { MatchResult result
+    ensures outcome { MatchResult result
         (λ vs. AreValuesOf X.cmp (bare_exprs members.now.items) (map bare_value vs.items))
         (IsNotValueAt (first_not_readable_of members.now.items)) }
+    ensures well_formed { IfOk result
+        (λ vs. IsTrue (list_all (well_formed X.cmp) vs.items)) }
 {
     nodes_in_preorder::<()>();
     reading_gives_one_value::<X>();
@@ -121,9 +126,11 @@ fn values_by_key<X: ExtensionValue + Ord>(
     alloc: Global,
     pairs: &BTreeMap<RcStr, Expr<()>>,
 ) -> Result<BTreeMap<RcStr, Value<X>>, NotValue>
-    ensures { MatchResult result
+    ensures outcome { MatchResult result
         (λ m. ArePairsOf X.cmp (bare_fields pairs.now.entries) (bare_pairs m.entries))
         (IsNotValueAt (first_not_readable_of (map (λ e. e.1) pairs.now.entries))) }
+    ensures well_formed { IfOk result
+        (λ m. IsTrue (list_all (λ e. well_formed X.cmp e.1) m.entries)) }
 {
     nodes_in_preorder::<()>();
     reading_gives_one_value::<X>();

@@ -44,8 +44,10 @@ pub fn order_of_kinds<X: Ord>()
 
 /// Sets are ordered as the lists of their members are, and equal where these are the same.
 pub fn order_of_sets<X: Ord>()
-    ensures order { (a b : Set _) → ⟦<Set<X> as Ord>⟧.cmp a b ≡ values_cmp X.cmp (bare_set a) (bare_set b) }
-    ensures same { (a b : Set _) → ⟦<Set<X> as PartialEq>⟧.eq a b ≡ values_eq X.eq (bare_set a) (bare_set b) }
+    ensures order { (a b : Set _) →
+        ⟦<Set<X> as Ord>⟧.cmp a b ≡ values_cmp X.cmp (bare_set a) (bare_set b) }
+    ensures same { (a b : Set _) →
+        ⟦<Set<X> as PartialEq>⟧.eq a b ≡ values_eq X.eq (bare_set a) (bare_set b) }
 {}
 
 /// Two well formed sets are equal just where each value that is in the one is in the other.

@@ -4,6 +4,7 @@
 mod bounded_display;
 mod extension_value;
 mod from_expr;
+mod hash_form;
 pub mod laws;
 mod literal_uids;
 mod literals;

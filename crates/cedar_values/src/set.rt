@@ -1,5 +1,17 @@
 //! Sets of values (`value.rs`).
-ghost use Rattle.std.specs.Prelude.{◌≡◌, ◌↔◌, [], List, IsTrue, IfOk, length, map};
+ghost use Rattle.std.specs.Prelude.{
+  ◌≡◌,
+  ◌↔◌,
+  [],
+  List,
+  IsTrue,
+  IfOk,
+  IfSome,
+  is_some,
+  length,
+  map,
+  option_map,
+};
 ghost use Rattle.std.specs.List.{list_all};
 ghost use Rattle.std.specs.Slice.Iter.{iter_rest};
 ghost use Rattle.rising.specs.Classes.{
@@ -9,40 +21,61 @@ ghost use Rattle.rising.specs.Classes.{
   IsPartOf,
   has_class,
 };
-ghost use Rattle.cedar_values.specs.Places.{gathered, literal_value};
-ghost use Rattle.cedar_values.specs.Sets.{by_tree, members};
+ghost use Rattle.cedar_values.specs.BareValues.{bare_value};
+ghost use Rattle.cedar_values.specs.HashForms.{literals_of};
+ghost use Rattle.cedar_values.specs.Places.{gathered, is_lit_value, literal_value};
+ghost use Rattle.cedar_values.specs.Sets.{HoldsJust, by_tree, hashed_literals, members};
 ghost use Rattle.cedar_values.specs.WellFormed.{set_well_formed, well_formed};
 
 use crate::extension_value::NoExtension;
+use crate::hash_form::{by_hash, hash_form, is_among, is_hash_form, share};
 use crate::laws::order_of_values;
 use crate::value::{Value, are_literals, literal_values, without_places};
 use cedar_terms::Literal;
 use std::alloc::{AllocError, Global};
+use std::collections::HashSet;
 use std::rc::Rc;
 use std::slice;
+use value_trees::laws::values_are_ordered;
 
-/// A set of values, as the strictly rising list of its members.
+/// A set of values, as the strictly rising list of its members. Where all of them are literals, as
+/// those of the empty set are, they are kept by hash too.
 #[cycle(value)]
-#[derive(Debug, PartialEq, Eq, PartialOrd, Ord, Drop)]
+#[derive(Drop)]
+#[derive_where(Debug, PartialEq, Eq, PartialOrd, Ord; X)]
 pub struct Set<X = NoExtension> {
     members: Rc<Vec<Value<X>>>,
+    #[derive_where(skip)]
+    fast: Option<Rc<HashSet<Literal>>>,
 }
 
 impl<X: Drop> Set<X> {
-    // The set with these members, in this order.
-    fn of_members(alloc: Global, values: Vec<Value<X>>) -> Result<Set<X>, AllocError>
-        ensures { IfOk result (λ s. members s ≡ values.items) }
+    // The set with these members, in this order, and with these literals by hash.
+    fn of_members(
+        alloc: Global,
+        values: Vec<Value<X>>,
+        literals: Option<Rc<HashSet<Literal>>>,
+    ) -> Result<Set<X>, AllocError>
+        ensures members { IfOk result (λ s. members s ≡ values.items) }
+        ensures hashed { IfOk result (λ s. hashed_literals s
+            ≡ option_map (λ h. literals_of h.value) literals) }
     {
         let members = Rc::new(alloc, values)?;
-        Ok(Set { members })
+        Ok(Set {
+            members,
+            fast: literals,
+        })
     }
 
-    /// A copy, which shares the members.
+    /// A copy, which shares the members in both their forms.
     pub fn clone(&self, _alloc: Global) -> Result<Set<X>, AllocError>
-        ensures { IfOk result (λ s. members s ≡ members self.now) }
+        ensures members { IfOk result (λ s. members s ≡ members self.now) }
+        ensures well_formed { IfOk result (λ s. (R : _) →
+            set_well_formed R s ≡ set_well_formed R self.now) }
     {
+        let fast = share(&self.fast)?;
         let members = self.members.clone()?;
-        Ok(Set { members })
+        Ok(Set { members, fast })
     }
 }
 
@@ -52,6 +85,16 @@ impl<X> Set<X> {
         ensures { result.now ≡ members self.now }
     {
         self.members.as_slice()
+    }
+
+    // The members by hash, if they are kept so.
+    fn hash_form(&self) -> Option<&HashSet<Literal>>
+        ensures { option_map (λ h. literals_of h.now) result ≡ hashed_literals self.now }
+    {
+        match &self.fast {
+            Some(literals) => Some(literals),
+            None => None,
+        }
     }
 
     /// An iterator over the members, in their order.
@@ -75,7 +118,8 @@ impl<X: Ord + Drop> Set<X> {
         ensures members { IfOk result (λ s. members s ≡ []) }
         ensures well_formed { IfOk result (λ s. IsTrue (set_well_formed X.cmp s)) }
     {
-        Set::of_members(alloc, Vec::new(alloc))
+        let literals = Rc::new(alloc, HashSet::new(alloc))?;
+        Set::of_members(alloc, Vec::new(alloc), Some(literals))
     }
 
     /// The set of some values: one of each that are the same, as it was handed in.
@@ -85,22 +129,29 @@ impl<X: Ord + Drop> Set<X> {
             → IsTrue (set_well_formed X.cmp s)) }
     {
         order_of_values::<X>();
-        Set::of_members(alloc, rising::into_rising(values))
+        values_are_ordered::<X>();
+        let literals = hash_form(alloc, &values)?;
+        Set::of_members(alloc, rising::into_rising(values), literals)
     }
 
     /// The set of some literals. Its members are at no place.
     pub fn from_lits(alloc: Global, lits: Vec<Literal>) -> Result<Set<X>, AllocError>
-        ensures classes { IfOk result (λ s. IsClassesOf (by_tree X.cmp) (members s) (map literal_value lits.items)) }
+        ensures classes { IfOk result (λ s.
+            IsClassesOf (by_tree X.cmp) (members s) (map literal_value lits.items)) }
         ensures well_formed { IfOk result (λ s. IsTrue (set_well_formed X.cmp s)) }
     {
-        let values = literal_values(alloc, lits)?;
-        Set::new(alloc, values)
+        order_of_values::<X>();
+        values_are_ordered::<X>();
+        let literals = Rc::new(alloc, by_hash(alloc, &lits)?)?;
+        let members = literal_values(alloc, rising::into_rising(lits))?;
+        Set::of_members(alloc, members, Some(literals))
     }
 
     /// The set of some values, as `new` makes it (`FromIterator` of Cedar's file); but where all of
     /// them are literals, its members are at no place.
     pub fn from_values(alloc: Global, values: Vec<Value<X>>) -> Result<Set<X>, AllocError>
-        ensures classes { IfOk result (λ s. IsClassesOf (by_tree X.cmp) (members s) (gathered values.items)) }
+        ensures classes { IfOk result (λ s.
+            IsClassesOf (by_tree X.cmp) (members s) (gathered values.items)) }
         ensures same { IfOk result (λ s. HaveSameClasses (by_tree X.cmp) (members s) values.items) }
         ensures well_formed { IfOk result (λ s. IsTrue (list_all (well_formed X.cmp) values.items)
             → IsTrue (set_well_formed X.cmp s)) }
@@ -123,13 +174,17 @@ impl<X: Ord + Drop> Set<X> {
         self.authoritative().len()
     }
 
-    /// Whether a value that is the same is a member.
+    /// Whether a value that is the same is a member: in a set of literals one look-up by hash, else
+    /// a search by halving.
     pub fn contains(&self, value: &Value<X>) -> bool
         ensures { IsTrue (set_well_formed X.cmp self.now)
             → result ≡ has_class (by_tree X.cmp) (members self.now) value.now }
     {
         order_of_values::<X>();
-        rising::contains(self.authoritative(), value)
+        match self.hash_form() {
+            Some(literals) => is_among(value, literals),
+            None => rising::contains(self.authoritative(), value),
+        }
     }
 
     /// Whether each member is one of the other's.
@@ -138,7 +193,13 @@ impl<X: Ord + Drop> Set<X> {
             → IsTrue result ↔ IsPartOf (by_tree X.cmp) (members self.now) (members other.now) }
     {
         order_of_values::<X>();
-        rising::is_subset(self.authoritative(), other.authoritative())
+        match (self.hash_form(), other.hash_form()) {
+            (Some(literals), Some(others)) if is_short_beside(literals, others) => {
+                literals.is_subset(others)
+            }
+            (None, Some(_)) => false,
+            _ => rising::is_subset(self.authoritative(), other.authoritative()),
+        }
     }
 
     /// Whether no member is one of the other's.
@@ -148,10 +209,36 @@ impl<X: Ord + Drop> Set<X> {
             ↔ HaveNoneInCommon (by_tree X.cmp) (members self.now) (members other.now) }
     {
         order_of_values::<X>();
-        rising::is_disjoint(self.authoritative(), other.authoritative())
+        match (self.hash_form(), other.hash_form()) {
+            (Some(literals), Some(others)) if is_short_beside(literals, others) => {
+                literals.is_disjoint(others)
+            }
+            (Some(literals), Some(others)) if is_short_beside(others, literals) => {
+                others.is_disjoint(literals)
+            }
+            _ => rising::is_disjoint(self.authoritative(), other.authoritative()),
+        }
     }
 
-    /// Whether the list of this set, and of each set inside, rises strictly.
+    /// The members by hash: given exactly where all of them are literals, and so of the empty set.
+    ///
+    /// The hasher is std's default, `FoldHasher`, whose seed is fixed: sets made in the same way list
+    /// their literals in the same order, and whoever chooses the literals can make them collide.
+    pub fn fast(&self) -> Option<&HashSet<Literal>>
+        ensures given { IsTrue (set_well_formed X.cmp self.now)
+            → is_some result ≡ list_all (λ v. is_lit_value (bare_value v)) (members self.now) }
+        ensures just { IsTrue (set_well_formed X.cmp self.now)
+            → IfSome result (λ h. HoldsJust X.cmp (members self.now) h.now) }
+    {
+        order_of_values::<X>();
+        self.hash_form()
+    }
+
+    /// Whether this set, and each set inside, is well formed: its list rises strictly, and its
+    /// members are kept by hash exactly where all of them are literals.
+    ///
+    /// Members and literals by hash are counted, and each member is looked up by hash, so the time
+    /// is proportional to what is inside.
     #[cycle(well_formed)]
     pub fn is_well_formed(&self) -> bool
         ensures { result ≡ set_well_formed X.cmp self.now }
@@ -162,6 +249,13 @@ impl<X: Ord + Drop> Set<X> {
                 return false;
             }
         }
-        rising::is_rising(self.members.as_slice())
+        let members = self.members.as_slice();
+        rising::is_rising(members) && is_hash_form(members, self.hash_form())
     }
+}
+
+// Whether some literals are looked up one by one in others: these are twice as many, or more. Else
+// two sets of literals are compared by one walk over their rising lists.
+fn is_short_beside(literals: &HashSet<Literal>, others: &HashSet<Literal>) -> bool {
+    literals.len() <= others.len() / 2
 }

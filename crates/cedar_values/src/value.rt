@@ -1,7 +1,8 @@
 //! Values with their places (`value.rs`).
-ghost use Rattle.std.specs.Prelude.{◌≡◌, ◌↔◌, None, IsTrue, IfOk, map};
+ghost use Rattle.std.specs.Prelude.{◌≡◌, ◌↔◌, None, IsTrue, IfOk, map, option_map};
 ghost use Rattle.std.specs.List.{list_all};
 ghost use Rattle.std.specs.Option.{option_copied};
+ghost use Rattle.cedar_terms.specs.Literals.{bare_literal};
 ghost use Rattle.rising.specs.Classes.{IsClassesOf};
 ghost use Rattle.value_trees.specs.BareValue as bare;
 ghost use Rattle.value_trees.specs.ValueOrder.{value_eq};
@@ -13,7 +14,7 @@ ghost use Rattle.cedar_values.specs.BareValues.{
   value_place,
 };
 ghost use Rattle.cedar_values.specs.Kinds.{IsCopy, IsRecordWith, IsSetWith};
-ghost use Rattle.cedar_values.specs.Places.{is_lit_value, literal_value, unplaced};
+ghost use Rattle.cedar_values.specs.Places.{is_lit_value, literal_of, literal_value, unplaced};
 ghost use Rattle.cedar_values.specs.Records.{IsLastOfEach};
 ghost use Rattle.cedar_values.specs.Sets.{by_tree, members};
 ghost use Rattle.cedar_values.specs.WellFormed.{kind_well_formed, well_formed};
@@ -77,6 +78,18 @@ impl<X> Value<X> {
         self.loc.as_ref()
     }
 
+    // The literal, if it is one.
+    pub(crate) fn try_as_lit(&self) -> Option<&Literal>
+        ensures { option_map (λ l. bare_literal l.now) result ≡ literal_of (bare_value self.now) }
+    {
+        match self.value_kind() {
+            ValueKind::Lit(literal) => Some(literal),
+            ValueKind::Set(_) => None,
+            ValueKind::Record(_) => None,
+            ValueKind::ExtensionValue(_) => None,
+        }
+    }
+
     /// The record of these keys and values.
     pub fn record_arc(pairs: Rc<BTreeMap<RcStr, Value<X>>>, loc: Option<Loc>) -> Value<X>
         ensures kind { kind_of result ≡ ValueKind.Record pairs }
@@ -120,6 +133,8 @@ impl<X: Drop> Value<X> {
         ensures tree { IfOk result (λ v. bare_value v ≡ bare_value self.now) }
         ensures place { IfOk result (λ v. value_place v ≡ value_place self.now) }
         ensures inside { IfOk result (λ v. IsCopy (kind_of self.now) (kind_of v)) }
+        ensures well_formed { IfOk result (λ v. (R : _) →
+            well_formed R v ≡ well_formed R self.now) }
     {
         let kind = self.value_kind().clone(alloc)?;
         let loc = Loc::clone_option(alloc, self.source_loc())?;
@@ -163,6 +178,7 @@ impl<X: Ord + Drop> Value<X> {
     /// The set without members.
     pub fn empty_set(alloc: Global, loc: Option<Loc>) -> Result<Value<X>, AllocError>
         ensures tree { IfOk result (λ v. bare_value v ≡ bare.SetValue bare.no_values) }
+        ensures well_formed { IfOk result (λ v. IsTrue (well_formed X.cmp v)) }
         ensures place { IfOk result (λ v. value_place v ≡ loc) }
     {
         let kind = ValueKind::empty_set(alloc)?;
@@ -172,6 +188,7 @@ impl<X: Ord + Drop> Value<X> {
     /// The record without keys.
     pub fn empty_record(alloc: Global, loc: Option<Loc>) -> Result<Value<X>, AllocError>
         ensures tree { IfOk result (λ v. bare_value v ≡ bare.RecordValue bare.no_pairs) }
+        ensures well_formed { IfOk result (λ v. IsTrue (well_formed X.cmp v)) }
         ensures place { IfOk result (λ v. value_place v ≡ loc) }
     {
         let kind = ValueKind::empty_record(alloc)?;
@@ -228,7 +245,8 @@ impl<X: Ord + Drop> Value<X> {
         loc: Option<Loc>,
     ) -> Result<Value<X>, AllocError>
         ensures pairs { IfOk result (λ v. IsRecordWith (IsLastOfEach pairs.items) (kind_of v)) }
-        ensures well_formed { IfOk result (λ v. IsTrue (list_all (λ p. well_formed X.cmp p.1) pairs.items)
+        ensures well_formed { IfOk result (λ v.
+            IsTrue (list_all (λ p. well_formed X.cmp p.1) pairs.items)
             → IsTrue (well_formed X.cmp v)) }
         ensures place { IfOk result (λ v. value_place v ≡ loc) }
     {
@@ -239,14 +257,15 @@ impl<X: Ord + Drop> Value<X> {
     /// Whether the two are the same value, at the same place or both at none. The places inside do
     /// not count.
     pub fn eq_and_same_source_loc(&self, other: &Value<X>) -> bool
-        ensures { IsTrue result ↔ (IsTrue (value_eq X.eq (bare_value self.now) (bare_value other.now))
+        ensures { IsTrue result
+            ↔ (IsTrue (value_eq X.eq (bare_value self.now) (bare_value other.now))
             × (value_place self.now ≡ value_place other.now)) }
     {
         order_of_values::<X>();
         self == other && self.loc == other.loc
     }
 
-    /// Whether the list of each set inside rises strictly.
+    /// Whether each set inside is well formed, as `Set::is_well_formed` says.
     #[cycle(well_formed)]
     pub fn is_well_formed(&self) -> bool
         ensures { result ≡ well_formed X.cmp self.now }
@@ -269,6 +288,8 @@ impl<X: Drop> ValueKind<X> {
     pub fn clone(&self, alloc: Global) -> Result<ValueKind<X>, AllocError>
         ensures tree { IfOk result (λ k. bare_value_kind k ≡ bare_value_kind self.now) }
         ensures inside { IfOk result (λ k. IsCopy self.now k) }
+        ensures well_formed { IfOk result (λ k. (R : _) →
+            kind_well_formed R k ≡ kind_well_formed R self.now) }
     {
         match self {
             ValueKind::Lit(literal) => Ok(ValueKind::Lit(literal.clone(alloc)?)),
@@ -282,7 +303,8 @@ impl<X: Drop> ValueKind<X> {
 impl<X: Ord + Drop> ValueKind<X> {
     /// The set without members.
     pub fn empty_set(alloc: Global) -> Result<ValueKind<X>, AllocError>
-        ensures { IfOk result (λ k. bare_value_kind k ≡ bare.SetValue bare.no_values) }
+        ensures tree { IfOk result (λ k. bare_value_kind k ≡ bare.SetValue bare.no_values) }
+        ensures well_formed { IfOk result (λ k. IsTrue (kind_well_formed X.cmp k)) }
     {
         let set = Set::empty(alloc)?;
         Ok(ValueKind::Set(set))
@@ -290,7 +312,8 @@ impl<X: Ord + Drop> ValueKind<X> {
 
     /// The record without keys.
     pub fn empty_record(alloc: Global) -> Result<ValueKind<X>, AllocError>
-        ensures { IfOk result (λ k. bare_value_kind k ≡ bare.RecordValue bare.no_pairs) }
+        ensures tree { IfOk result (λ k. bare_value_kind k ≡ bare.RecordValue bare.no_pairs) }
+        ensures well_formed { IfOk result (λ k. IsTrue (kind_well_formed X.cmp k)) }
     {
         let map = Rc::new(alloc, BTreeMap::new(alloc))?;
         Ok(ValueKind::Record(map))
@@ -298,7 +321,8 @@ impl<X: Ord + Drop> ValueKind<X> {
 
     /// The set of some values, as `Set::new` makes it.
     pub fn set(alloc: Global, values: Vec<Value<X>>) -> Result<ValueKind<X>, AllocError>
-        ensures classes { IfOk result (IsSetWith (λ s. IsClassesOf (by_tree X.cmp) (members s) values.items)) }
+        ensures classes { IfOk result (IsSetWith
+            (λ s. IsClassesOf (by_tree X.cmp) (members s) values.items)) }
         ensures well_formed { IfOk result (λ k. IsTrue (list_all (well_formed X.cmp) values.items)
             → IsTrue (kind_well_formed X.cmp k)) }
     {
@@ -318,7 +342,8 @@ impl<X: Ord + Drop> ValueKind<X> {
 
     /// The set of some values; its members stay at their places.
     pub fn from_vec(alloc: Global, values: Vec<Value<X>>) -> Result<ValueKind<X>, AllocError>
-        ensures classes { IfOk result (IsSetWith (λ s. IsClassesOf (by_tree X.cmp) (members s) values.items)) }
+        ensures classes { IfOk result (IsSetWith
+            (λ s. IsClassesOf (by_tree X.cmp) (members s) values.items)) }
         ensures well_formed { IfOk result (λ k. IsTrue (list_all (well_formed X.cmp) values.items)
             → IsTrue (kind_well_formed X.cmp k)) }
     {
@@ -328,7 +353,8 @@ impl<X: Ord + Drop> ValueKind<X> {
     /// The record of some pairs: of equal keys the last counts.
     pub fn record(alloc: Global, pairs: Vec<(RcStr, Value<X>)>) -> Result<ValueKind<X>, AllocError>
         ensures pairs { IfOk result (IsRecordWith (IsLastOfEach pairs.items)) }
-        ensures well_formed { IfOk result (λ k. IsTrue (list_all (λ p. well_formed X.cmp p.1) pairs.items)
+        ensures well_formed { IfOk result (λ k.
+            IsTrue (list_all (λ p. well_formed X.cmp p.1) pairs.items)
             → IsTrue (kind_well_formed X.cmp k)) }
     {
         let entries = last_of_each(alloc, pairs)?;
@@ -336,7 +362,7 @@ impl<X: Ord + Drop> ValueKind<X> {
         Ok(ValueKind::Record(map))
     }
 
-    /// Whether the list of each set inside rises strictly.
+    /// Whether each set inside is well formed, as `Set::is_well_formed` says.
     #[cycle(well_formed)]
     pub fn is_well_formed(&self) -> bool
         ensures { result ≡ kind_well_formed X.cmp self.now }

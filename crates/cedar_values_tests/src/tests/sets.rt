@@ -3,6 +3,7 @@ use crate::tests::point::Point;
 use crate::tests::samples::{same, set, value, values};
 use crate::tests::steps::Step;
 use crate::tests::steps::Step::{At, Bool, Long, SetOf, Text};
+use cedar_terms::Literal;
 use cedar_values::{Set, Value, ValueKind};
 use std::test::Fail;
 
@@ -34,6 +35,37 @@ fn sets_side_by_side(rt: HostRuntime) -> Result<(), Fail> {
     Ok(())
 }
 
+// Sets of no, one and several literals, and of several literals beside a set.
+#[test]
+fn all_forms_side_by_side(rt: HostRuntime) -> Result<(), Fail> {
+    let several = [Long(1), Long(2), Text("a")];
+    let mixed = [Long(1), Long(2), Text("a"), SetOf(0)];
+    let sides: [&[Step]; 4] = [&[], &[Long(1)], &several, &mixed];
+    for (i, a) in sides.iter().enumerate() {
+        for (j, b) in sides.iter().enumerate() {
+            let is_apart = i == 0 || j == 0;
+            assert!(rt; compared(&rt, a, b)? == [i <= j, is_apart, i == j]);
+        }
+    }
+    Ok(())
+}
+
+// Others of which none is in them, and one of these sides has a hash form.
+#[test]
+fn all_forms_beside_others(rt: HostRuntime) -> Result<(), Fail> {
+    let several = [Long(1), Long(2), Text("a")];
+    let mixed = [Long(1), Long(2), Text("a"), SetOf(0)];
+    let sides: [&[Step]; 4] = [&[], &[Long(1)], &several, &mixed];
+    let sets = [Long(2), SetOf(1)];
+    let literals = [Long(4), Bool(true)];
+    for a in &sides {
+        assert!(rt; compared(&rt, &sets, a)? == [false, true, false]);
+        assert!(rt; compared(&rt, &literals, a)? == [false, true, false]);
+        assert!(rt; compared(&rt, a, &sets)?[1] && compared(&rt, a, &literals)?[1]);
+    }
+    Ok(())
+}
+
 fn has(rt: &HostRuntime, members: &[Step], member: &[Step]) -> Result<bool, Fail> {
     let set = set(rt, members)?;
     Ok(set.contains(&value(rt, member)?))
@@ -45,6 +77,61 @@ fn members_are_found(rt: HostRuntime) -> Result<(), Fail> {
     assert!(rt; has(&rt, &mixed, &[Long(1)])?);
     assert!(rt; has(&rt, &mixed, &[Long(2), SetOf(1)])?);
     assert!(rt; !has(&rt, &mixed, &[Long(2)])?);
+    Ok(())
+}
+
+// A number, a text and a set, in sets of no, one and several literals, and of these beside a set.
+#[test]
+fn members_are_found_in_all_forms(rt: HostRuntime) -> Result<(), Fail> {
+    let several = [Long(1), Long(2), Text("a")];
+    let mixed = [Long(1), Long(2), Text("a"), SetOf(0)];
+    let cases: [(&[Step], [bool; 3]); 4] = [
+        (&[], [false, false, false]),
+        (&[Long(1)], [true, false, false]),
+        (&several, [true, true, false]),
+        (&mixed, [true, true, true]),
+    ];
+    for (members, wanted) in &cases {
+        assert!(rt; has(&rt, members, &[Long(1)])? == wanted[0]);
+        assert!(rt; has(&rt, members, &[Text("a")])? == wanted[1]);
+        assert!(rt; has(&rt, members, &[SetOf(0)])? == wanted[2]);
+        assert!(rt; !has(&rt, members, &[Text("x")])?);
+    }
+    Ok(())
+}
+
+// How many literals a set keeps by hash, if it does.
+fn hashed(set: &Set<Point>) -> Option<usize> {
+    set.fast().map(|literals| literals.len())
+}
+
+#[test]
+fn literals_alone_are_kept_by_hash(rt: HostRuntime) -> Result<(), Fail> {
+    let cases: [(&[Step], Option<usize>); 5] = [
+        (&[], Some(0)),
+        (&[Long(1)], Some(1)),
+        (&[Long(1), At(4, 5), Text("a")], Some(2)),
+        (&[Long(1), Long(2), SetOf(1)], None),
+        (&[SetOf(0)], None),
+    ];
+    for (members, wanted) in &cases {
+        assert!(rt; hashed(&set(&rt, members)?) == *wanted);
+    }
+    Ok(())
+}
+
+// By each call that makes a set, and by a copy.
+#[test]
+fn each_maker_keeps_literals_by_hash(rt: HostRuntime) -> Result<(), Fail> {
+    let alloc = rt.alloc();
+    assert!(rt; hashed(&Set::empty(alloc)?) == Some(0));
+    let lits = vec![in alloc; Literal::from(2), Literal::from(1), Literal::from(2)]?;
+    let made: Set<Point> = Set::from_lits(alloc, lits)?;
+    assert!(rt; hashed(&made) == Some(2) && hashed(&made.clone(alloc)?) == Some(2));
+    let gathered = Set::from_values(alloc, values(&rt, &[Long(1), Long(3)])?)?;
+    assert!(rt; hashed(&gathered) == Some(2));
+    let mixed = Set::from_values(alloc, values(&rt, &[Long(1), SetOf(0)])?)?;
+    assert!(rt; hashed(&mixed).is_none() && made.is_well_formed() && mixed.is_well_formed());
     Ok(())
 }
 

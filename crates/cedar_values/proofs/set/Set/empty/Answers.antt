@@ -1,12 +1,14 @@
-use Rattle.std.proofs.Common.{◌≡◌, [], IsTrue, ◌∙◌}
-use Rattle.std.proofs.lemmas.Result.{IfOk-weaker}
-use Rattle.cedar_values.specs.Sets.{members}
+use Rattle.std.proofs.Common.{◌≡◌, Some, [], IsTrue, ap, map, ◌∙◌}
+use Rattle.std.specs.HashSet.{keys}
+use Rattle.cedar_terms.specs.Literals.{bare_literal}
+use Rattle.cedar_values.specs.HashForms.{literals_of}
+use Rattle.cedar_values.specs.Sets.{hashed_literals, members}
 use Rattle.cedar_values.specs.WellFormed.{set_well_formed}
-use Rattle.cedar_values.proofs.Making.{empty_kept}
+use Rattle.cedar_values.proofs.Making.{empty_kept, if_both}
 use Rattle.cedar_values.proofs.set.Set.empty.Goals as goal
 
-pub returns : goal.returns
-returns g c = record {
-  members = IfOk-weaker c.of_members.result (λ s. members s ≡ c.new.result.items) (λ s. members s ≡ []) (λ s h. h ∙ c.new.ensures.items) c.of_members.ensures;
-  well_formed = IfOk-weaker c.of_members.result (λ s. members s ≡ c.new.result.items) (λ s. IsTrue (set_well_formed g.X.Ord.cmp s)) (λ s h. empty_kept g.X.Ord.cmp s (h ∙ c.new.ensures.items)) c.of_members.ensures;
-}
+pub returns-clause-well_formed : goal.returns-clause-well_formed
+returns-clause-well_formed g c =
+    let R = g.X.Ord.cmp in
+    if_both (λ s. members s ≡ c.new-3.result.items) (λ s. hashed_literals s ≡ Some (literals_of c.in_ok-literals.literals.value)) (λ s. IsTrue (set_well_formed R s)) c.of_members.result c.of_members.ensures.members c.of_members.ensures.hashed
+    (λ s is hashed. empty_kept R s (is ∙ c.new-3.ensures.items) (hashed ∙ (λ i. Some (literals_of (c.in_ok-literals.ensures.ok i))) ∙ ap (λ ks. Some (map bare_literal ks)) c.new.ensures.empty))

@@ -1,20 +1,28 @@
-use Rattle.std.proofs.Common.{◌≡◌, sym, subst, IsTrue}
+use Rattle.std.proofs.Common.{◌≡◌, map, ap, sym, subst, ◌∙◌, IsTrue}
+use Rattle.std.specs.Prelude.{option_map}
 use Rattle.std.proofs.lemmas.Result.{IfOk-weaker}
 use Rattle.std.specs.List.{list_all}
 use Rattle.rising.specs.Classes.{IsClassesOf}
-use Rattle.cedar_values.specs.Sets.{by_tree, members}
+use Rattle.cedar_values.specs.BareValues.{bare_value}
+use Rattle.cedar_values.specs.HashForms.{is_hash_form, literals_of}
+use Rattle.cedar_values.specs.Sets.{by_tree, hashed_literals, members}
 use Rattle.cedar_values.specs.WellFormed.{well_formed, set_well_formed}
 use Rattle.cedar_values.specs.declared.set.Set.{Set}
-use Rattle.cedar_values.proofs.WellFormedSets.{by_trees, kept_of_classes}
+use Rattle.cedar_values.proofs.Making.{if_both, made_well}
+use Rattle.cedar_values.proofs.WellFormedSets.{by_trees}
 use Rattle.cedar_values.proofs.set.Set.new.Goals as goal
 
-classes : (g : _) (c : goal.After-of_members g) (s : Set g.row.X.Denot) → members s ≡ c.into_rising.result.items → IsClassesOf (by_tree g.X.Ord.cmp) (members s) c.args.values.items
-classes g c s is =
-    subst (λ xs. IsClassesOf (by_tree g.X.Ord.cmp) xs c.args.values.items) (sym is)
-    (by_trees g.X.Ord.cmp c.order_of_values.ensures.order (λ D. IsClassesOf D c.into_rising.result.items c.args.values.items) c.into_rising.ensures)
+classes : (g : _) (c : goal.After-of_members g) → IsClassesOf (by_tree g.X.Ord.cmp) c.into_rising.result.items c.args.values.items
+classes g c = by_trees g.X.Ord.cmp c.order_of_values.ensures.order (λ D. IsClassesOf D c.into_rising.result.items c.args.values.items) c.into_rising.ensures
 
 pub returns : goal.returns
-returns g c = record {
-  classes = IfOk-weaker c.of_members.result (λ s. members s ≡ c.into_rising.result.items) (λ s. IsClassesOf (by_tree g.X.Ord.cmp) (members s) c.args.values.items) (classes g c) c.of_members.ensures;
-  well_formed = IfOk-weaker c.of_members.result (λ s. members s ≡ c.into_rising.result.items) (λ s. IsTrue (list_all (well_formed g.X.Ord.cmp) c.args.values.items) → IsTrue (set_well_formed g.X.Ord.cmp s)) (λ s is all. kept_of_classes g.X.Ord.cmp s c.args.values.items (classes g c s is) all) c.of_members.ensures;
-}
+returns g c =
+    let R = g.X.Ord.cmp in
+    let vs = c.args.values.items in
+    let ms = c.into_rising.result.items in
+    let f = option_map (λ h. literals_of h.value) c.in_ok-literals.literals in
+    record {
+      classes = IfOk-weaker c.of_members.result (λ s. members s ≡ ms) (λ s. IsClassesOf (by_tree R) (members s) vs) (λ s is. subst (λ xs. IsClassesOf (by_tree R) xs vs) (sym is) (classes g c)) c.of_members.ensures.members;
+      well_formed = if_both (λ s. members s ≡ ms) (λ s. hashed_literals s ≡ f) (λ s. IsTrue (list_all (well_formed R) vs) → IsTrue (set_well_formed R s)) c.of_members.result c.of_members.ensures.members c.of_members.ensures.hashed
+          (λ s is hashed all. made_well R c.values_are_ordered.ensures.total s ms vs f is hashed (classes g c) (ap (λ xs. is_hash_form (map bare_value xs) f) (sym c.deref.ensures.value) ∙ c.in_ok-literals.ensures) all);
+    }

@@ -1,10 +1,7 @@
-use Rattle.std.proofs.Common.{IsTrue}
 use Rattle.cedar_exprs.specs.BareExpr.{bare_expr}
 use Rattle.value_trees.specs.Reading.{IsValueOf}
 use Rattle.cedar_values.specs.BareValues.{bare_value}
-use Rattle.cedar_values.specs.WellFormed.{well_formed}
 use Rattle.cedar_values.proofs.FirstFault.{InPreorder, answered}
-use Rattle.cedar_values.proofs.Readings.{if_match}
 use Rattle.cedar_values.proofs.value.Value.try_from_expr.Goals as goal
 
 pub returns-clause-readable : goal.returns-clause-readable
@@ -12,10 +9,3 @@ returns-clause-readable g c =
     let o : InPreorder Unit = record { order = c.nodes_in_preorder.ensures.order; trees = c.nodes_in_preorder.ensures.trees } in
     let e = c.args.expr in
     answered o e (λ v. IsValueOf g.X.Ord.cmp (bare_expr e) (bare_value v)) (λ v. c.reading_gives_one_value.ensures.readable (bare_expr e) (bare_value v)) c.value_of.result c.value_of.ensures.outcome
-
-pub returns-clause-well_formed : goal.returns-clause-well_formed
-unfolding well_formed
-returns-clause-well_formed g c =
-    let R = g.X.Ord.cmp in
-    let e = bare_expr c.args.expr in
-    if_match (λ v. IsValueOf R e (bare_value v)) (λ v. IsTrue (well_formed R v)) _ c.value_of.result c.value_of.ensures.outcome (λ v. c.reading_gives_one_value.ensures.well_formed e (bare_value v))

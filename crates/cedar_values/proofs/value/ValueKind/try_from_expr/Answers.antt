@@ -1,21 +1,11 @@
-use Rattle.std.proofs.Common.{IsTrue}
 use Rattle.cedar_exprs.specs.BareExpr.{bare_expr}
 use Rattle.value_trees.specs.Reading.{IsValueOf}
 use Rattle.cedar_values.specs.BareValues.{bare_value_kind}
-use Rattle.cedar_values.specs.WellFormed.{kind_well_formed}
 use Rattle.cedar_values.proofs.FirstFault.{InPreorder, answered}
-use Rattle.cedar_values.proofs.Readings.{if_match}
 use Rattle.cedar_values.proofs.value.ValueKind.try_from_expr.Goals as goal
 
 pub returns-clause-readable : goal.returns-clause-readable
 returns-clause-readable g c =
     let o : InPreorder Unit = record { order = c.nodes_in_preorder.ensures.order; trees = c.nodes_in_preorder.ensures.trees } in
     let e = c.args.expr in
-    answered o e (λ v. IsValueOf g.X.Ord.cmp (bare_expr e) (bare_value_kind v)) (λ v. c.reading_gives_one_value.ensures.readable (bare_expr e) (bare_value_kind v)) c.kind_of_expr.result c.kind_of_expr.ensures
-
-pub returns-clause-well_formed : goal.returns-clause-well_formed
-unfolding kind_well_formed
-returns-clause-well_formed g c =
-    let R = g.X.Ord.cmp in
-    let e = bare_expr c.args.expr in
-    if_match (λ v. IsValueOf R e (bare_value_kind v)) (λ v. IsTrue (kind_well_formed R v)) _ c.kind_of_expr.result c.kind_of_expr.ensures (λ v. c.reading_gives_one_value.ensures.well_formed e (bare_value_kind v))
+    answered o e (λ v. IsValueOf g.X.Ord.cmp (bare_expr e) (bare_value_kind v)) (λ v. c.reading_gives_one_value.ensures.readable (bare_expr e) (bare_value_kind v)) c.kind_of_expr.result c.kind_of_expr.ensures.outcome
