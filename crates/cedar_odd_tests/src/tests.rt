@@ -1,0 +1,11 @@
+mod answers;
+mod faults;
+mod flip;
+mod large;
+mod large_values;
+mod names;
+mod raw_nodes;
+mod refusals;
+mod representations;
+mod reversed;
+mod shared;

@@ -1,0 +1,100 @@
+// An extension whose values are ordered in reverse.
+ghost use Rattle.std.specs.Prelude.{◌≡◌, IfOk, codes};
+ghost use Rattle.cedar_names.specs.Names.{unqualified};
+ghost use Rattle.cedar_names.specs.PlainNames.{bare_name};
+ghost use Rattle.cedar_terms.specs.Literals.{LongLit};
+ghost use Rattle.cedar_builders.specs.BareExpr.{Lit, tree, no_trees};
+
+use cedar_exprs::{RestrictedExpr, SubstituteValue};
+use cedar_names::Name;
+use cedar_terms::Literal;
+use cedar_values::{ExtensionValue, RepresentableExtensionValue, Value, ValueKind};
+use std::alloc::{AllocError, Global};
+use std::cmp::Reverse;
+use std::rc::Rc;
+use std::test::Fail;
+
+// A number, of which the greater comes first. Its type and its canonical function are `flip`.
+#[derive(Debug, PartialEq, Eq, PartialOrd, Ord, Drop)]
+pub struct Flip {
+    number: Reverse<i64>,
+}
+
+impl Flip {
+    pub fn new(number: i64) -> Flip {
+        Flip {
+            number: Reverse(number),
+        }
+    }
+
+    pub fn number(&self) -> i64 {
+        self.number.0
+    }
+}
+
+// The name `flip`.
+fn flip_name(alloc: Global) -> Result<Name, AllocError>
+    ensures { IfOk result (λ n. bare_name n ≡ unqualified (codes "flip")) }
+{
+    match Name::parse_unqualified_name(alloc, "flip") {
+        Ok(name) => Ok(name),
+        Err(_) => Err(AllocError),
+    }
+}
+
+impl ExtensionValue for Flip {
+    ghost use Rattle.std.specs.Prelude.{false};
+
+    ghost type_name = { λ _. unqualified (codes "flip") };
+
+    ghost canonical = { λ f. record {
+      func = unqualified (codes "flip");
+      args = tree (Lit (LongLit f.number.0)) no_trees;
+    } };
+
+    ghost text_of = { λ _. codes "flip" };
+
+    ghost is_overloadable = { λ _. false };
+
+    fn typename(&self, alloc: Global) -> Result<Name, AllocError> {
+        flip_name(alloc)
+    }
+
+    fn supports_operator_overloading(&self) -> bool {
+        false
+    }
+
+    fn canonical_repr(&self, alloc: Global) -> Result<(Name, Vec<RestrictedExpr>), AllocError> {
+        let number = Literal::Long(self.number.0).value_expr(alloc)?;
+        let mut args = Vec::new(alloc);
+        args.push(number)?;
+        Ok((flip_name(alloc)?, args))
+    }
+
+    fn text(&self) -> &str {
+        "flip"
+    }
+}
+
+// The value of an extension value.
+pub fn extension(
+    rt: &HostRuntime,
+    value: RepresentableExtensionValue<Flip>,
+) -> Result<Value<Flip>, Fail> {
+    let value = Rc::new(rt.alloc(), value)?;
+    Ok(Value::new(ValueKind::ExtensionValue(value), None))
+}
+
+// The value of a number, which its canonical call stands for.
+pub fn flipped(rt: &HostRuntime, number: i64) -> Result<Value<Flip>, Fail> {
+    extension(rt, RepresentableExtensionValue::new_lazy(Flip::new(number)))
+}
+
+// The values of these numbers.
+pub fn flips(rt: &HostRuntime, numbers: &[i64]) -> Result<Vec<Value<Flip>>, Fail> {
+    let mut values = Vec::new(rt.alloc());
+    for number in numbers {
+        values.push(flipped(rt, *number)?)?;
+    }
+    Ok(values)
+}
