@@ -1,4 +1,32 @@
 //! The tests of `cedar_names`: a crate with tests is proved twice, so they stand beside it.
+//!
+//! Calls that take memory, all of `cedar_names`, each with the test that runs it with ample memory
+//! and compares its answer:
+//!
+//! - `Id::from_normalized_str`, `UnreservedId::from_normalized_str`, `AnyId::from_normalized_str`:
+//!   `reads_identifiers`
+//! - `InternalName::from_normalized_str`, `Name::from_normalized_str`: `reads_names`
+//! - `RawName::from_normalized_str`: `keeps_the_places_of_references`
+//! - `InternalName::parse_unqualified_name`, `Name::parse_unqualified_name`, `InternalName::cedar`:
+//!   `reads_one_identifier_as_a_name`
+//! - `RawName::parse_unqualified_name`: `compares_raw_names`
+//! - `InternalName::type_in_namespace`: `goes_within_a_namespace`
+//! - `InternalName::namespace`: `shows_namespaces`
+//! - `Name::basename`: `shows_basenames`
+//! - `qualify_with`, `qualify_with_name` of `InternalName`, `Name`: `qualifies`
+//! - `qualify_with`, `qualify_with_name` of `RawName`: `qualifies_raw_names`
+//! - `RawName::conditionally_qualify_with`: `resolves_the_first_declared_possibility`
+//! - `ConditionalName::unconditional`: `stands_for_one_name`
+//! - `Id::clone`, `UnreservedId::clone`: `converts_identifiers`
+//! - `AnyId::clone`: `converts_words`
+//! - `InternalName::clone`, `Loc::clone_option`: `keeps_the_place_given`
+//! - `Name::clone`: `copies_names`
+//! - `RawName::clone`: `makes_raw_names`
+//! - `ConditionalName::clone`: `refuses_with_the_reference`
+//! - `Loc::clone`: `orders_places`
+//! - `Slot::clone`: `compares_slots_without_places`
+//! - `NonEmpty::clone`: `compares_lists_of_one_or_more`
+//! - `ReservedNameError::clone`: `refuses_a_reserved_identifier`
 #![tactic(auto)]
 
 #[cfg(test)]

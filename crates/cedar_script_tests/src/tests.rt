@@ -1,18 +1,32 @@
 // Scripts, with what they show and what they end with.
+mod cuts;
+mod readers;
+mod writers;
+
 use cedar_script::{RunFault, run};
 use std::alloc::{AllocError, Global};
-use std::io::{self, ErrorKind, Read, Write};
+use std::io::Read;
 use std::process::Abort;
 use std::test::Fail;
 
 // Runs a script, and gives what it writes, the text of its fault, empty where it has none, and its status.
 fn play(alloc: Global, mut script: &[u8]) -> Result<(String, String, u8), Fail> {
+    play_from(alloc, &mut script)
+}
+
+// The same from any reader.
+fn play_from<R: Read>(alloc: Global, reader: &mut R) -> Result<(String, String, u8), Fail> {
     let mut shown = Vec::new(alloc);
-    let (fault, status) = match run(alloc, &mut script, &mut shown) {
-        Ok(()) => (String::new(alloc), 0),
-        Err(fault) => (fault.to_string(alloc)?, fault.status()),
-    };
+    let (fault, status) = ended(alloc, run(alloc, reader, &mut shown))?;
     Ok((String::from_utf8(shown)?, fault, status))
+}
+
+// The text of a run's fault, empty where it has none, and its status.
+fn ended(alloc: Global, end: Result<(), RunFault>) -> Result<(String, u8), Fail> {
+    match end {
+        Ok(()) => Ok((String::new(alloc), 0)),
+        Err(fault) => Ok((fault.to_string(alloc)?, fault.status())),
+    }
 }
 
 // Checks that a script comes to its end and shows this.
@@ -556,88 +570,4 @@ fn long_scripts_run(rt: HostRuntime) -> Result<(), Fail> {
     }
     shown.push_str("\n")?;
     assert_shows(&rt, script.as_str(), shown.as_str())
-}
-
-// A reader that fails after some bytes.
-#[derive(Drop)]
-struct BrokenReader<'a> {
-    bytes: &'a [u8],
-    kind: ErrorKind,
-}
-
-impl Read for BrokenReader<'_> {
-    fn read(&mut self, buf: &mut [u8]) -> io::Result<usize> {
-        if self.bytes.is_empty() {
-            return Err(io::Error::from(self.kind));
-        }
-        self.bytes.read(buf)
-    }
-}
-
-#[test]
-fn broken_readers_end_the_run(rt: HostRuntime) -> Result<(), Fail> {
-    let alloc = rt.alloc();
-    let table = [
-        (ErrorKind::BrokenPipe, RunFault::Input, "input fault"),
-        (ErrorKind::OutOfMemory, RunFault::Memory, "no memory"),
-    ];
-    for (kind, wanted, text) in table {
-        let mut reader = BrokenReader {
-            bytes: b"long 1\nshow\n",
-            kind,
-        };
-        let mut shown = Vec::new(alloc);
-        let fault = run(alloc, &mut reader, &mut shown).err().ok_or("no fault")?;
-        assert_eq!(rt; fault, wanted);
-        assert_eq!(rt; fault.to_string(alloc)?.as_str(), text);
-        assert_eq!(rt; fault.status(), 2);
-        assert!(rt; shown.is_empty());
-    }
-    Ok(())
-}
-
-// A writer that takes one byte at a time, and fails where its room is full.
-#[derive(Drop)]
-struct FullWriter<'a> {
-    room: &'a mut [u8],
-    used: usize,
-}
-
-impl Write for FullWriter<'_> {
-    fn write(&mut self, buf: &[u8]) -> io::Result<usize> {
-        match (buf.first(), self.room.get_mut(self.used)) {
-            (Some(byte), Some(free)) => {
-                *free = *byte;
-                self.used = self.used.saturating_add(1);
-                Ok(1)
-            }
-            (Some(_), None) => Err(io::Error::from(ErrorKind::BrokenPipe)),
-            (None, _) => Ok(0),
-        }
-    }
-
-    fn flush(&mut self) -> io::Result<()> {
-        Ok(())
-    }
-}
-
-#[test]
-fn broken_writers_end_the_run(rt: HostRuntime) -> Result<(), Fail> {
-    let alloc = rt.alloc();
-    for (room, wanted) in [(0, ""), (2, "1\n"), (3, "1\n1")] {
-        let mut bytes = vec![in alloc; 0u8; room]?;
-        let mut writer = FullWriter {
-            room: bytes.as_mut_slice(),
-            used: 0,
-        };
-        let mut script: &[u8] = b"long 1\nshow\nshow\nbad";
-        let fault = run(alloc, &mut script, &mut writer)
-            .err()
-            .ok_or("no fault")?;
-        assert_eq!(rt; fault, RunFault::Output);
-        assert_eq!(rt; fault.to_string(alloc)?.as_str(), "output fault");
-        assert_eq!(rt; fault.status(), 2);
-        assert_eq!(rt; bytes.as_slice(), wanted.as_bytes());
-    }
-    Ok(())
 }

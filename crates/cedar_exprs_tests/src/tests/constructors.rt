@@ -4,7 +4,7 @@ use cedar_builders::ExprBuilder as _;
 use cedar_exprs::{Expr, ExprBuilder, ExprKind};
 use cedar_names::{NonEmpty, SlotId};
 use cedar_terms::{BinaryOp, EntityType, Literal, UnaryOp, Unknown, Var};
-use expr_samples::{anything, at, children_are_at, is_at, name, record, text, two};
+use expr_samples::{anything, at, children_are_at, each_kind, is_at, name, record, text, two};
 use std::alloc::{AllocError, Global};
 use std::collections::BTreeMap;
 use std::rc::{Rc, RcStr};
@@ -369,6 +369,14 @@ fn records_refuse_a_repeated_key(rt: HostRuntime) -> Result<(), Fail> {
             Err(error) => assert_eq!(rt; error.to_string(rt.alloc())?.as_str(), wanted),
             Ok(_) => assert!(rt; false, "a key stands twice"),
         }
+    }
+    Ok(())
+}
+
+#[test]
+fn copies_of_kinds(rt: HostRuntime) -> Result<(), Fail> {
+    for e in each_kind(&rt, 1, &x())? {
+        assert!(rt; node(e.expr_kind().clone(rt.alloc())?) == e, "{e:?}");
     }
     Ok(())
 }

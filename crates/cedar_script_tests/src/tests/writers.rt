@@ -1,0 +1,147 @@
+// Writers that fail, that take a byte at a time, and that take none.
+use crate::tests::ended;
+use cedar_script::run;
+use std::alloc::Global;
+use std::io::{self, ErrorKind, Write};
+use std::test::Fail;
+
+const SCRIPT: &str = "long 1\nshow\nstring ab\nshow\nbad";
+
+// Keeps what it takes, and fails after so many calls.
+#[derive(Drop)]
+struct BrokenWriter {
+    taken: Vec<u8>,
+    calls: usize,
+}
+
+impl BrokenWriter {
+    fn begin(&mut self) -> io::Result<()> {
+        if self.calls == 0 {
+            return Err(io::Error::from(ErrorKind::BrokenPipe));
+        }
+        self.calls -= 1;
+        Ok(())
+    }
+}
+
+impl Write for BrokenWriter {
+    fn write(&mut self, buf: &[u8]) -> io::Result<usize> {
+        self.begin()?;
+        match self.taken.extend_from_slice(buf) {
+            Ok(()) => Ok(buf.len()),
+            Err(_) => Err(io::Error::from(ErrorKind::OutOfMemory)),
+        }
+    }
+
+    fn flush(&mut self) -> io::Result<()> {
+        self.begin()
+    }
+}
+
+// What the writer takes before it fails, and what the run ends with.
+fn written(alloc: Global, calls: usize) -> Result<(String, String, u8), Fail> {
+    let mut script = SCRIPT.as_bytes();
+    let mut writer = BrokenWriter {
+        taken: Vec::new(alloc),
+        calls,
+    };
+    let (fault, status) = ended(alloc, run(alloc, &mut script, &mut writer))?;
+    Ok((String::from_utf8(writer.taken)?, fault, status))
+}
+
+// Each text that is shown takes three calls: the text, its line feed, and a flush.
+#[test]
+fn writers_that_fail_end_the_run(rt: HostRuntime) -> Result<(), Fail> {
+    let table = [
+        (0, ("", "output fault", 2)),
+        (1, ("1", "output fault", 2)),
+        (2, ("1\n", "output fault", 2)),
+        (3, ("1\n", "output fault", 2)),
+        (4, ("1\n\"ab\"", "output fault", 2)),
+        (5, ("1\n\"ab\"\n", "output fault", 2)),
+        (6, ("1\n\"ab\"\n", "line 5: bad line", 1)),
+    ];
+    for (calls, wanted) in table {
+        let (taken, fault, status) = written(rt.alloc(), calls)?;
+        assert_eq!(rt;
+            (taken.as_str(), fault.as_str(), status),
+            wanted,
+            "call {calls}"
+        );
+    }
+    Ok(())
+}
+
+// Takes so many bytes of a buffer, and fails where its room is full.
+#[derive(Drop)]
+struct NarrowWriter<'a> {
+    room: &'a mut [u8],
+    used: usize,
+}
+
+impl Write for NarrowWriter<'_> {
+    fn write(&mut self, buf: &[u8]) -> io::Result<usize> {
+        match (buf.first(), self.room.get_mut(self.used)) {
+            (Some(byte), Some(free)) => {
+                *free = *byte;
+                self.used = self.used.saturating_add(1);
+                Ok(1)
+            }
+            (Some(_), None) => Err(io::Error::from(ErrorKind::BrokenPipe)),
+            (None, _) => Ok(0),
+        }
+    }
+
+    fn flush(&mut self) -> io::Result<()> {
+        Ok(())
+    }
+}
+
+#[test]
+fn a_byte_is_written_at_a_time(rt: HostRuntime) -> Result<(), Fail> {
+    let alloc = rt.alloc();
+    let table = [
+        (0, "", "output fault", 2),
+        (1, "1", "output fault", 2),
+        (2, "1\n", "output fault", 2),
+        (3, "1\n\"", "output fault", 2),
+        (4, "1\n\"a", "output fault", 2),
+        (5, "1\n\"ab", "output fault", 2),
+        (6, "1\n\"ab\"", "output fault", 2),
+        (7, "1\n\"ab\"\n", "line 5: bad line", 1),
+    ];
+    for (room, shown, fault, status) in table {
+        let mut bytes = vec![in alloc; 0u8; room]?;
+        let mut script = SCRIPT.as_bytes();
+        let mut writer = NarrowWriter {
+            room: bytes.as_mut_slice(),
+            used: 0,
+        };
+        let found = ended(alloc, run(alloc, &mut script, &mut writer))?;
+        assert_eq!(rt; (found.0.as_str(), found.1), (fault, status), "room {room}");
+        assert_eq!(rt; bytes.as_slice(), shown.as_bytes());
+    }
+    Ok(())
+}
+
+// Takes nothing.
+#[derive(Drop)]
+struct FullWriter;
+
+impl Write for FullWriter {
+    fn write(&mut self, _: &[u8]) -> io::Result<usize> {
+        Ok(0)
+    }
+
+    fn flush(&mut self) -> io::Result<()> {
+        Ok(())
+    }
+}
+
+#[test]
+fn a_writer_that_takes_nothing_ends_the_run(rt: HostRuntime) -> Result<(), Fail> {
+    let mut script = SCRIPT.as_bytes();
+    let found = ended(rt.alloc(), run(rt.alloc(), &mut script, &mut FullWriter))?;
+    assert_eq!(rt; (found.0.as_str(), found.1), ("output fault", 2));
+    Ok(())
+}
