@@ -1,0 +1,3 @@
+pub mod Lines
+pub mod Corpora
+pub mod Comparisons
