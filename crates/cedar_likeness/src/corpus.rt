@@ -92,6 +92,7 @@ pub struct Corpus<'a> {
 impl<'a> Corpus<'a> {
     ghost use Rattle.cedar_likeness.specs.Corpora.{last_line, left};
 
+    /// A corpus of which nothing is read yet.
     #[tactic(auto, using(crate::proofs::Feeds::feeds_at_most))]
     pub fn new(text: &'a [u8]) -> Corpus<'a>
         ensures text { left result ≡ text.now }
