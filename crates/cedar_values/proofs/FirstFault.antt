@@ -1,14 +1,12 @@
 -- The first node that is no literal, set or record, from a node to its children.
-use Rattle.std.proofs.Common.{◌≡◌, ℕ, ◌+◌, ◌<◌, length, get_or, drop, drop-cons, add-one, List, [], ◌∷◌, ◌++◌, map, Bool, true, false, not, ◌&&◌, if◌then◌else◌, Option, Some, None, option_map, refl, sym, ap, ◌∙◌, subst, Global, BTreeMap, Vec, Result, Ok, Err}
+use Rattle.std.proofs.Common.{◌≡◌, ℕ, ◌+◌, ◌<◌, length, get_or, drop, drop-cons, add-one, List, [], ◌∷◌, map, Bool, true, false, not, ◌&&◌, if◌then◌else◌, Option, Some, None, option_map, refl, sym, ap, ◌∙◌, subst, Global, BTreeMap, Vec, Result, Ok, Err}
 use Rattle.std.specs.List.{find, list_all}
 use Rattle.std.specs.Option.{option_or, is_none}
 use Rattle.std.specs.Result.{MatchResult}
 use Rattle.std.specs.declared.rc.Rc.{Rc}
 use Rattle.std.specs.declared.rc.RcStr.{RcStr}
-use Rattle.std.specs.declared.cmp.Ordering.{Ordering}
 use Rattle.std.proofs.lemmas.List.Folds.{find-append}
 use Rattle.cedar_names.specs.Place.{Place}
-use Rattle.cedar_builders.specs.BareExpr.{BareExpr}
 use Rattle.cedar_builders.specs.Walks as bare
 use Rattle.cedar_builders.specs.Walks.{forward}
 use Rattle.cedar_exprs.specs.BareExpr.{bare_expr, expr_place, kind_of}
@@ -17,8 +15,7 @@ use Rattle.cedar_exprs.specs.declared.expr.Expr.{Expr}
 use Rattle.cedar_exprs.specs.declared.expr.ExprKind.{ExprKind, out-ExprKind}
 use Rattle.cedar_exprs.specs.declared.expr.ExprKind.TheOpen.{ExprKind-F}
 use Rattle.cedar_exprs.specs.declared.expr.ExprKind.TheVariants.{Set, Record, outs-Set, outs-Record}
-use Rattle.value_trees.specs.BareValue.{BareValue}
-use Rattle.value_trees.specs.Reading.{is_readable_node, is_readable, IsValueOf}
+use Rattle.value_trees.specs.Reading.{is_readable_node, is_readable}
 use Rattle.cedar_values.specs.NotReadable.{is_not_readable, first_not_readable, first_not_readable_of, IsNotValueAt, IsAnswerWhere}
 use Rattle.cedar_values.specs.declared.not_value.NotValue.{NotValue}
 use Rattle.cedar_values.specs.declared.not_value.NotValue.TheVariants as error

@@ -1,6 +1,6 @@
 -- As many literals by hash as there are members, of which each is one of them: then they are just the
 -- members.
-use Rattle.std.proofs.Common.{◌≡◌, ℕ, Bool, true, false, ◌&&◌, ◌||◌, ◌≤◌, arith, suc, List, [], ◌∷◌, Some, length, map, refl, sym, ap, ◌∙◌}
+use Rattle.std.proofs.Common.{◌≡◌, Bool, true, false, ◌&&◌, ◌||◌, arith, suc, List, [], ◌∷◌, Some, length, map, refl, sym, ap, ◌∙◌}
 use Rattle.std.specs.List.{AllByRecursion, IsDistinct, list_all}
 use Rattle.std.specs.List.Sorted.{IsStrictlySortedBy}
 use Rattle.std.specs.Ordering.{is_eq, on}
@@ -12,7 +12,7 @@ use Rattle.cedar_terms.specs.LiteralOrder.{literal_eq, literal_eq_decides, liter
 use Rattle.cedar_terms.specs.Literals.{BareLiteral, bare_literal}
 use Rattle.cedar_terms.specs.declared.literal.Literal.{Literal}
 use Rattle.rising.specs.Images.{sorted_images}
-use Rattle.rising.specs.Rising.{and_left, and_right}
+use Rattle.rising.specs.Rising.{and_right}
 use Rattle.value_trees.specs.BareValue.{BareValue, LitValue, SetValue, RecordValue, ExtensionValue}
 use Rattle.value_trees.specs.ValueOrder.{value_cmp}
 use Rattle.cedar_values.specs.BareValues.{bare_value}

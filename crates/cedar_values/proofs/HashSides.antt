@@ -14,7 +14,6 @@ use Rattle.cedar_terms.specs.Literals.{BareLiteral, bare_literal}
 use Rattle.cedar_terms.specs.declared.literal.Literal.{Literal}
 use Rattle.rising.specs.Classes.{has_class, HaveNoneInCommon, IsClassesOf, IsPartOf}
 use Rattle.rising.specs.Images.{classes_of_images}
-use Rattle.value_trees.specs.BareValue.{LitValue}
 use Rattle.value_trees.specs.ValueOrder.{value_cmp}
 use Rattle.cedar_values.specs.BareValues.{bare_value}
 use Rattle.cedar_values.specs.HashForms.{HasLiterals, LiteralSet, is_among, is_hash_form, is_literal_among, literals_in, literals_of}

@@ -8,6 +8,7 @@ pub mod Order
 pub mod Records
 pub mod ValueOrder
 pub mod WellFormedSets
+pub mod Fewer
 pub mod Entries
 pub mod ExprLevels
 pub mod FirstFault

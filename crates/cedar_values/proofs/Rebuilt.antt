@@ -8,7 +8,8 @@ use Rattle.cedar_exprs.specs.declared.expr.Expr.{Expr}
 use Rattle.value_trees.specs.BareValue.{BareCall}
 use Rattle.value_trees.specs.ValueExpr.{value_expr}
 use Rattle.cedar_values.specs.BareValues.{kind_of, bare_value_kind, bare_value, value_place}
-use Rattle.cedar_values.specs.Rows.{filled, row_place, row_left, step_tree, step_place, step_left, nodes, IsRow, IsStep}
+use Rattle.cedar_values.specs.Counts.{nodes}
+use Rattle.cedar_values.specs.Rows.{filled, row_place, row_left, step_tree, step_place, step_left, IsRow, IsStep}
 use Rattle.cedar_values.specs.declared.to_expr.Step.{Step}
 use Rattle.cedar_values.specs.declared.to_expr.Step.TheVariants.{Made, Into}
 use Rattle.cedar_values.specs.declared.to_expr.Waiting.{Waiting}

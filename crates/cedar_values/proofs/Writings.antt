@@ -19,9 +19,10 @@ use Rattle.value_trees.specs.BareValue.{BareCall, values_of}
 use Rattle.value_trees.specs.ValueExpr.{value_expr, member_exprs, pair_exprs}
 use Rattle.cedar_values.specs.BareValues.{bare_value, bare_value_kind}
 use Rattle.cedar_values.specs.Conversions.{bare_pairs}
+use Rattle.cedar_values.specs.Counts.{nodes, nodes_of, pair_nodes}
 use Rattle.cedar_values.specs.Keyed.{IsAbove}
 use Rattle.cedar_values.specs.Records.{key_cmp}
-use Rattle.cedar_values.specs.Rows.{ArePairsRestricted, nodes, nodes_of, pair_nodes, written}
+use Rattle.cedar_values.specs.Rows.{ArePairsRestricted, written}
 use Rattle.cedar_values.specs.Sets.{members}
 use Rattle.cedar_values.specs.declared.set.Set as set_of
 use Rattle.cedar_values.specs.declared.value.Value.{Value}

@@ -9,6 +9,8 @@ pub mod Records
 pub mod NotReadable
 pub mod Conversions
 pub mod Keyed
+pub mod Counts
+pub mod Drops
 pub mod Rows
 pub mod ValueMaps
 pub mod Holders

@@ -1,5 +1,5 @@
 -- Values whose expression is being written (`Value::to_expr` of Cedar's `value.rs`): a value inside comes next, and the sets and records around it wait.
-use Rattle.std.specs.Prelude.{ℕ, suc, ◌+◌, List, ◌∷◌, ◌++◌, map, Option, IsTrue}
+use Rattle.std.specs.Prelude.{ℕ, ◌+◌, List, ◌∷◌, ◌++◌, map, Option, IsTrue}
 use Rattle.std.specs.Global.{Global}
 use Rattle.std.specs.List.{list_all}
 use Rattle.std.specs.Option.{option_copied}
@@ -12,10 +12,11 @@ use Rattle.cedar_builders.specs.Keys.{IsRising, keys_of, meant_pairs}
 use Rattle.cedar_builders.specs.Restricted.{is_restricted}
 use Rattle.cedar_exprs.specs.BareExpr.{bare_expr, expr_place}
 use Rattle.cedar_exprs.specs.declared.expr.Expr.{Expr}
-use Rattle.value_trees.specs.BareValue.{BareCall, BareValue, LitValue, SetValue, RecordValue, ExtensionValue, BareValues, no_values, value, BarePairs, no_pairs, pair, values_of}
+use Rattle.value_trees.specs.BareValue.{BareCall}
 use Rattle.value_trees.specs.ValueExpr.{value_expr}
 use Rattle.cedar_values.specs.BareValues.{bare_value}
 use Rattle.cedar_values.specs.Conversions.{bare_pairs}
+use Rattle.cedar_values.specs.Counts.{nodes, nodes_of, pair_nodes}
 use Rattle.cedar_values.specs.declared.to_expr.SetRow.{SetRow}
 use Rattle.cedar_values.specs.declared.to_expr.RecordRow.{RecordRow}
 use Rattle.cedar_values.specs.declared.to_expr.Waiting.{Waiting}
@@ -24,28 +25,7 @@ use Rattle.cedar_values.specs.declared.to_expr.Step.{Step}
 use Rattle.cedar_values.specs.declared.to_expr.Step.TheVariants.{Made, Into}
 use Rattle.cedar_values.specs.declared.value.Value.{Value}
 
-abbrev mutual
-  -- how many values a value has, itself and those inside
-  pub nodes : {X : Type 0} → BareValue X → ℕ
-  nodes (LitValue l) = 1
-  nodes (SetValue ts) = suc (member_nodes ts)
-  nodes (RecordValue ps) = suc (pair_nodes ps)
-  nodes (ExtensionValue x g) = 1
-
-  -- how many the members of a set have
-  pub member_nodes : {X : Type 0} → BareValues X → ℕ
-  member_nodes no_values = 0
-  member_nodes (value t ts) = nodes t + member_nodes ts
-
-  -- how many those of a record have
-  pub pair_nodes : {X : Type 0} → BarePairs X → ℕ
-  pair_nodes no_pairs = 0
-  pair_nodes (pair k t ps) = nodes t + pair_nodes ps
-
--- how many are left in a list of members, in what waits, after a step
-abbrev pub nodes_of : {X : Type 0} → List (Value X) → ℕ
-nodes_of vs = member_nodes (values_of (map bare_value vs))
-
+-- how many values are left in what waits, after a step
 abbrev pub row_left : {X : Type 0} → Waiting X → ℕ
 row_left (InSet m) = nodes_of (iter_rest m.rest)
 row_left (InRecord m k) = pair_nodes (bare_pairs m.rest)

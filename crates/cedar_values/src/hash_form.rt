@@ -109,7 +109,7 @@ pub(crate) fn is_hash_form<X: Drop>(
 }
 
 // Whether each member is one of the literals.
-pub(crate) fn are_among<X>(members: &[Value<X>], literals: &HashSet<Literal>) -> bool
+fn are_among<X>(members: &[Value<X>], literals: &HashSet<Literal>) -> bool
     ensures { result ≡ list_all
         (λ v. is_literal_among (literals_of literals.now) (bare_value v)) members.now }
 {

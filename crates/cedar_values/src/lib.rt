@@ -2,6 +2,7 @@
 #![tactic(auto)]
 
 mod bounded_display;
+mod dropping;
 mod extension_value;
 mod from_expr;
 mod hash_form;

@@ -67,6 +67,25 @@ impl<X: Drop> Set<X> {
         })
     }
 
+    // The list of members alone.
+    pub(crate) fn into_row(self) -> Rc<Vec<Value<X>>>
+        ensures { members self ≡ result.value.items }
+    {
+        let Set { members, fast } = self;
+        drop(fast);
+        members
+    }
+
+    // A list of members without their hash form, as it waits while a value is dropped.
+    pub(crate) fn of_row(row: Rc<Vec<Value<X>>>) -> Set<X>
+        ensures { members result ≡ row.value.items }
+    {
+        Set {
+            members: row,
+            fast: None,
+        }
+    }
+
     /// A copy, which shares the members in both their forms.
     pub fn clone(&self, _alloc: Global) -> Result<Set<X>, AllocError>
         ensures members { IfOk result (λ s. members s ≡ members self.now) }

@@ -13,6 +13,7 @@ ghost use Rattle.value_trees.specs.ValueExpr.{call_expr, value_expr};
 ghost use Rattle.cedar_values.specs.BareCalls.{bare_call};
 ghost use Rattle.cedar_values.specs.BareValues.{bare_representable, bare_value, bare_value_kind, value_place};
 ghost use Rattle.cedar_values.specs.Conversions.{bare_pairs};
+ghost use Rattle.cedar_values.specs.Counts.{nodes, nodes_of, pair_nodes};
 ghost use Rattle.cedar_values.specs.Rows.{
   AreRestricted,
   ArePairsRestricted,
@@ -20,9 +21,6 @@ ghost use Rattle.cedar_values.specs.Rows.{
   IsStep,
   filled,
   members_tree,
-  nodes,
-  nodes_of,
-  pair_nodes,
   pairs_tree,
   row_left,
   row_place,

@@ -19,6 +19,7 @@ ghost use Rattle.cedar_values.specs.Records.{IsLastOfEach};
 ghost use Rattle.cedar_values.specs.Sets.{by_tree, members};
 ghost use Rattle.cedar_values.specs.WellFormed.{kind_well_formed, well_formed};
 
+use crate::dropping::drop_kind;
 use crate::extension_value::{ExtensionValue, NoExtension, RepresentableExtensionValue};
 use crate::laws::order_of_values;
 use crate::record::last_of_each;
@@ -27,13 +28,14 @@ use cedar_names::Loc;
 use cedar_terms::{Literal, StaticallyTyped, Type};
 use std::alloc::{AllocError, Global};
 use std::collections::BTreeMap;
+use std::mem;
 use std::rc::{Rc, RcStr};
 
 /// A value with the place where it was written, if known.
 ///
 /// Values compare by their kinds; places and the representations of extension values do not count.
 #[cycle(value)]
-#[derive(Debug, Drop)]
+#[derive(Debug)]
 #[derive_where(PartialEq, Eq, PartialOrd, Ord; X)]
 pub struct Value<X = NoExtension> {
     kind: ValueKind<X>,
@@ -53,6 +55,12 @@ pub enum ValueKind<X = NoExtension> {
     Record(Rc<BTreeMap<RcStr, Value<X>>>),
     /// A value of an extension.
     ExtensionValue(Rc<RepresentableExtensionValue<X>>),
+}
+
+impl<X: Drop> Drop for Value<X> {
+    fn drop(self) {
+        drop_kind(self.into_kind());
+    }
 }
 
 impl<X> Value<X> {
@@ -100,6 +108,22 @@ impl<X> Value<X> {
 }
 
 impl<X: Drop> Value<X> {
+    // The kind alone.
+    pub(crate) fn into_kind(self) -> ValueKind<X>
+        ensures { result ≡ kind_of self }
+    {
+        let Value { kind, loc: _ } = self;
+        kind
+    }
+
+    // The kind, in whose place another is put.
+    pub(crate) fn replace_kind(&mut self, kind: ValueKind<X>) -> ValueKind<X>
+        ensures taken { result ≡ kind_of self.old }
+        ensures put { kind_of self.new ≡ kind }
+    {
+        mem::replace(&mut self.kind, kind)
+    }
+
     /// The same value at another place, or at none. The places inside stay.
     pub fn with_maybe_source_loc(self, loc: Option<Loc>) -> Value<X>
         ensures kind { kind_of result ≡ kind_of self }

@@ -1,7 +1,10 @@
 //! Chains of expressions, each one inside the next, that are made, substituted, built, shown and
-//! dropped on the usual stack.
+//! dropped on the usual stack; and chains of values, whose expressions are written.
 #![tactic(auto)]
 
+mod values;
+
+use crate::values::{Nest, show_value};
 use cedar_exprs::{Expr, ExprBuilder};
 use cedar_names::{FromNormalizedStr, Name};
 use cedar_script::Sketch;
@@ -46,6 +49,14 @@ fn main(rt: HostRuntime) -> io::Result<()> {
     ];
     for (chain, name, levels) in chains {
         let text = work(rt.alloc(), chain, levels)?;
+        println!(rt; "{name}: {levels} levels, shown in {} bytes", text.len())?;
+    }
+    let nests = [
+        (Nest::Set, "set of values", LEVELS),
+        (Nest::Record, "record of values", RECORDS),
+    ];
+    for (nest, name, levels) in nests {
+        let text = show_value(rt.alloc(), nest, levels)?;
         println!(rt; "{name}: {levels} levels, shown in {} bytes", text.len())?;
     }
     Ok(())

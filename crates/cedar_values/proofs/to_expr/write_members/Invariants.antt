@@ -1,7 +1,8 @@
 use Rattle.std.proofs.Common.{◌≡◌, ◌≤◌, length}
 use Rattle.std.specs.Option.{option_copied}
 use Rattle.std.specs.Slice.Iter.{iter_rest}
-use Rattle.cedar_values.specs.Rows.{members_tree, nodes_of, AreRestricted}
+use Rattle.cedar_values.specs.Counts.{nodes_of}
+use Rattle.cedar_values.specs.Rows.{members_tree, AreRestricted}
 use Rattle.cedar_values.proofs.to_expr.write_members.Given as goal
 
 -- what is written and what is left make the whole, and what is written is restricted

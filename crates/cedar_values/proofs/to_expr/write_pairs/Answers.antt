@@ -7,7 +7,8 @@ use Rattle.cedar_builders.specs.Restricted.{IsRestricted, is_restricted}
 use Rattle.cedar_exprs.specs.BareExpr.{bare_expr, bare_fields}
 use Rattle.cedar_values.specs.BareValues.{bare_value}
 use Rattle.cedar_values.specs.Conversions.{bare_pairs}
-use Rattle.cedar_values.specs.Rows.{nodes, pair_nodes, written}
+use Rattle.cedar_values.specs.Counts.{nodes, pair_nodes}
+use Rattle.cedar_values.specs.Rows.{written}
 use Rattle.cedar_values.specs.declared.value.Value.{Value}
 use Rattle.cedar_values.proofs.Restrictions.{restricted_record}
 use Rattle.cedar_values.proofs.Writings.{if_some, put_key, put_restricted, all_pairs, next_pair, next_above}

@@ -2,7 +2,8 @@ use Rattle.std.proofs.Common.{◌≡◌, ◌≤◌, ◌++◌, length}
 use Rattle.std.specs.Option.{option_copied}
 use Rattle.cedar_builders.specs.Keys.{IsRising, keys_of}
 use Rattle.cedar_values.specs.Conversions.{bare_pairs}
-use Rattle.cedar_values.specs.Rows.{pairs_tree, pair_nodes, ArePairsRestricted}
+use Rattle.cedar_values.specs.Counts.{pair_nodes}
+use Rattle.cedar_values.specs.Rows.{pairs_tree, ArePairsRestricted}
 use Rattle.cedar_values.proofs.to_expr.write_pairs.Given as goal
 
 -- what is written and what is left make the whole; what is written is restricted, and the keys rise

@@ -1,5 +1,4 @@
-use Rattle.std.proofs.Common.{◌≡◌, Some, [], IsTrue, ap, map, ◌∙◌}
-use Rattle.std.specs.HashSet.{keys}
+use Rattle.std.proofs.Common.{◌≡◌, Some, IsTrue, ap, map, ◌∙◌}
 use Rattle.cedar_terms.specs.Literals.{bare_literal}
 use Rattle.cedar_values.specs.HashForms.{literals_of}
 use Rattle.cedar_values.specs.Sets.{hashed_literals, members}

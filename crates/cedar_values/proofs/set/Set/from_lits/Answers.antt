@@ -1,5 +1,4 @@
-use Rattle.std.proofs.Common.{◌≡◌, true, Some, map, ap, sym, subst, ◌∙◌, IsTrue}
-use Rattle.std.specs.Prelude.{option_map}
+use Rattle.std.proofs.Common.{◌≡◌, true, Some, map, sym, subst, ◌∙◌, IsTrue}
 use Rattle.std.proofs.lemmas.Result.{IfOk-weaker}
 use Rattle.rising.specs.Classes.{IsClassesOf}
 use Rattle.cedar_terms.specs.Literals.{bare_literal}

@@ -7,7 +7,6 @@ use Rattle.cedar_values.specs.BareValues.{bare_value}
 use Rattle.cedar_values.specs.HashForms.{is_hash_form, literals_of}
 use Rattle.cedar_values.specs.Sets.{by_tree, hashed_literals, members}
 use Rattle.cedar_values.specs.WellFormed.{well_formed, set_well_formed}
-use Rattle.cedar_values.specs.declared.set.Set.{Set}
 use Rattle.cedar_values.proofs.Making.{if_both, made_well}
 use Rattle.cedar_values.proofs.WellFormedSets.{by_trees}
 use Rattle.cedar_values.proofs.set.Set.new.Goals as goal

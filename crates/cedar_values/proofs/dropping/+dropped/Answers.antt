@@ -1,0 +1,38 @@
+use Rattle.std.proofs.Common.{◌<◌, IfSome, arith, ap, subst}
+use Rattle.cedar_values.specs.Counts.{nodes_of, entry_nodes}
+use Rattle.cedar_values.specs.Drops.{all_nodes}
+use Rattle.cedar_values.proofs.Fewer.{fewer, one_off, one_pair_off, nodes_of_kind}
+use Rattle.cedar_values.proofs.dropping.+dropped.Goals as goal
+
+pub drop_kind-down-smaller-in-On : goal.drop_kind-down-smaller-in-On
+drop_kind-down-smaller-in-On g t c = fewer _ _ _ _ _ (omega (arith, c.in-On.ensures)) (omega arith) (omega (arith, c.in-On.ensures, c.down.invariant))
+
+pub drop_kind-down-smaller-in-Some : goal.drop_kind-down-smaller-in-Some
+drop_kind-down-smaller-in-Some g t c =
+    let less = subst (λ n. IfSome n (λ left. all_nodes left < all_nodes c.down.left)) c.in-Some.is c.in-Members.ensures.1 in
+    fewer _ _ _ _ _ less (omega arith) (omega (arith, less, c.down.invariant))
+
+pub drop_kind-down-smaller : goal.drop_kind-down-smaller
+drop_kind-down-smaller g t c =
+    let less = subst (λ n. IfSome n (λ left. all_nodes left < all_nodes c.down.left)) c.in-Some-next.is c.in-Pairs.ensures.1 in
+    fewer _ _ _ _ _ less (omega arith) (omega (arith, less, c.down.invariant))
+
+pub drop_members-each-preserved : goal.drop_members-each-preserved
+drop_members-each-preserved g t c = let less = one_off _ _ _ c.in-Some-pop.ensures.items in omega (arith, less, c.each.invariant)
+
+pub drop_pairs-each-preserved : goal.drop_pairs-each-preserved
+drop_pairs-each-preserved g t c = let less = one_pair_off _ _ _ _ c.in-Some-pop_first.ensures.removal in omega (arith, less, c.each.invariant)
+
+pub drop_members-drop_kind-requires : goal.drop_members-drop_kind-requires
+drop_members-drop_kind-requires g t c κs within =
+    let less = one_off _ _ _ c.in-Some-pop.ensures.items in
+    let same = nodes_of_kind c.in-Some-pop.item _ c.into_kind.ensures in
+    let whole = ap (λ v. nodes_of v.items) c.in-Some.ensures in
+    (omega (arith, less, same, whole, c.each.invariant, c.decreases), within)
+
+pub drop_pairs-drop_kind-requires : goal.drop_pairs-drop_kind-requires
+drop_pairs-drop_kind-requires g t c κs within =
+    let less = one_pair_off _ _ _ _ c.in-Some-pop_first.ensures.removal in
+    let same = nodes_of_kind c.in-Some-pop_first.item _ c.into_kind.ensures in
+    let whole = ap (λ m. entry_nodes m.entries) c.in-Some.ensures in
+    (omega (arith, less, same, whole, c.each.invariant, c.decreases), within)

@@ -1,0 +1,33 @@
+use Rattle.std.proofs.Common.{◌+◌, ◌*◌, ◌≤◌, length, vec_len}
+use Rattle.cedar_values.specs.Counts.{kind_nodes, nodes_of, entry_nodes}
+use Rattle.cedar_values.specs.Drops.{all_nodes}
+use Rattle.cedar_values.proofs.dropping.+dropped.Given as goal
+
+abbrev pub decreases-drop_kind : goal.decreases-drop_kind
+decreases-drop_kind g l = 2 * kind_nodes l.kind
+
+abbrev pub decreases-drop_members : goal.decreases-drop_members
+decreases-drop_members g l = 2 * nodes_of l.row.value.items + 1
+
+abbrev pub decreases-drop_pairs : goal.decreases-drop_pairs
+decreases-drop_pairs g l = 2 * entry_nodes l.row.value.entries + 1
+
+-- no more values are left than there were
+abbrev pub invariant-drop_kind-down : goal.invariant-drop_kind-down
+invariant-drop_kind-down g l = all_nodes l.left ≤ kind_nodes l.fn.kind
+
+-- each step leaves fewer values, or as many and a smaller kind
+abbrev pub decreases-drop_kind-down : goal.decreases-drop_kind-down
+decreases-drop_kind-down g l = all_nodes l.left * (kind_nodes l.fn.kind + 1) + kind_nodes l.left.kind
+
+abbrev pub invariant-drop_members-each : goal.invariant-drop_members-each
+invariant-drop_members-each g l = nodes_of l.row.items ≤ nodes_of l.initial.row.items
+
+abbrev pub decreases-drop_members-each : goal.decreases-drop_members-each
+decreases-drop_members-each g l = vec_len l.row
+
+abbrev pub invariant-drop_pairs-each : goal.invariant-drop_pairs-each
+invariant-drop_pairs-each g l = entry_nodes l.row.entries ≤ entry_nodes l.initial.row.entries
+
+abbrev pub decreases-drop_pairs-each : goal.decreases-drop_pairs-each
+decreases-drop_pairs-each g l = length l.row.entries
