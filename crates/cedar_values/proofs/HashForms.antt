@@ -1,14 +1,13 @@
 -- What the literals that are kept by hash say of the members.
 use Rattle.std.proofs.Common.{◌≡◌, Bool, true, false, not, ◌||◌, ◌&&◌, List, [], ◌∷◌, Option, Some, None, map, refl, sym, ap, ◌∙◌}
 use Rattle.std.specs.Bool.{MatchBool}
-use Rattle.std.specs.Prelude.{option_map}
 use Rattle.std.specs.Cmp.{IsTotalOrder}
 use Rattle.std.specs.HashSet.{contains, keys}
-use Rattle.std.specs.List.{list_all, list_any}
+use Rattle.std.specs.List.{list_all, list_any, Contains}
 use Rattle.std.specs.List.Sorted.{IsPermutation}
 use Rattle.std.specs.Ordering.{on}
 use Rattle.std.specs.declared.cmp.Ordering.{Ordering}
-use Rattle.std.proofs.lemmas.Bool.{true≢false}
+use Rattle.std.proofs.lemmas.Bool.{or_right, true≢false}
 use Rattle.std.proofs.lemmas.Cmp.{on_total}
 use Rattle.std.proofs.lemmas.List.Elements.{All-contains, Contains-get_or}
 use Rattle.std.proofs.lemmas.List.Folds.{list_all-map}
@@ -36,10 +35,6 @@ both true b f g = sym (f refl)
 both false true f g = g refl
 both false false f g = refl
 
-or_right : (a b : Bool) → b ≡ true → (a || b) ≡ true
-or_right true b h = refl
-or_right false b h = h
-
 all_among : (xs ls : List BareLiteral) → ((l : BareLiteral) → is_among xs l ≡ true → is_among ls l ≡ true) → list_all (is_among ls) xs ≡ true
 all_among [] ls h = refl
 all_among (x ∷ xs) ls h = λ i. h x (ap (λ b. b || is_among xs x) (literal_eq_equiv.refl x)) i && all_among xs ls (λ l t. h l (or_right (literal_eq l x) _ t)) i
@@ -62,7 +57,7 @@ among_alike ks ls h l =
     (λ t. among_all ls ks (and_left (list_all (is_among ls) ks) _ h) l t)
     (λ t. among_all ks ls (and_right (list_all (is_among ls) ks) _ h) l t)
 
-not_false : (b : Bool) → false ≡ not b → b ≡ true
+pub not_false : (b : Bool) → false ≡ not b → b ≡ true
 not_false true h = refl
 not_false false h = cc
 
@@ -79,7 +74,7 @@ any_map p f (x ∷ xs) = ap (λ b. p (f x) || b) (any_map p f xs)
 pub has : (h : LiteralSet) (l : BareLiteral) → is_among (literals_of h) l ≡ list_any (λ k. literal_eq l (bare_literal k)) (keys h)
 has h l = any_map (literal_eq l) bare_literal (keys h)
 
-known : (ls : List BareLiteral) (k : BareLiteral) → is_among ls k ≡ true → (l : BareLiteral) → is_among ls l ≡ (literal_eq l k || is_among ls l)
+pub known : (ls : List BareLiteral) (k : BareLiteral) → is_among ls k ≡ true → (l : BareLiteral) → is_among ls l ≡ (literal_eq l k || is_among ls l)
 known ls k h l =
     elim (literal_eq l k) as (λ b. literal_eq l k ≡ b → is_among ls l ≡ (b || is_among ls l)) [
       | true ↦ λ e. list_any_congr literal_eq_equiv l k ls e ∙ h
@@ -95,50 +90,16 @@ added h n k false kept old l =
     ap (λ ks. is_among (map bare_literal ks) l) kept
     ∙ known (literals_of h) (bare_literal k) (has h (bare_literal k) ∙ not_false _ old) l
 
--- ---- literals are added one by one
+-- ---- some of the values
 
--- with those that are left, the set has all
-abbrev pub Lacks : List BareLiteral → List BareLiteral → LiteralSet → Type 0
-Lacks whole left h = (l : BareLiteral) → (is_among (literals_of h) l || is_among left l) ≡ is_among whole l
-
-turned : (a b c : Bool) → ((a || b) || c) ≡ (b || (a || c))
-turned true true c = refl
-turned true false c = refl
-turned false b c = refl
-
-or_false : (a : Bool) → (a || false) ≡ a
-or_false true = refl
-or_false false = refl
-
-pub one_less : (whole left : List BareLiteral) (k : BareLiteral) (h n : LiteralSet) → Lacks whole (k ∷ left) h → HasLiterals (k ∷ literals_of h) n → Lacks whole left n
-one_less whole left k h n lacks adds l =
-    ap (λ b. b || is_among left l) (adds l) ∙ turned (literal_eq l k) (is_among (literals_of h) l) (is_among left l) ∙ lacks l
-
-pub none_left : (whole : List BareLiteral) (h : LiteralSet) → Lacks whole [] h → HasLiterals whole h
-none_left whole h lacks l = sym (or_false (is_among (literals_of h) l)) ∙ lacks l
-
-pub none_yet : (whole : List BareLiteral) (h : LiteralSet) → keys h ≡ [] → Lacks whole whole h
-none_yet whole h none l = ap (λ ks. is_among (map bare_literal ks) l || is_among whole l) none
+-- what all pass, some of them pass
+pub all_kept : {A : Type 0} (p : A → Bool) (ms vs : List A) → ((v : A) → Contains ms v → Contains vs v) → list_all p vs ≡ true → list_all p ms ≡ true
+all_kept p ms vs kept all =
+    list_all-from_AllPass p ms (λ k d l. All-contains (λ x. p x ≡ true) vs _ (AllPass-from_list_all p vs all) (kept _ (Contains-get_or ms k d l)))
 
 -- ---- literals among values
 
-pub none_of : {A B : Type 0} (f : A → B) (r : Option A) → ((x : A) → r ≡ Some x → ⊥) → option_map f r ≡ None
-none_of f None never = refl
-none_of f (Some x) never = absurd (never x refl)
-
 module _ {X : Type 0} where
-  pub literal_first : (t : BareValue X) (ts : List (BareValue X)) (l : BareLiteral) → literal_of t ≡ Some l → literals_in (t ∷ ts) ≡ l ∷ literals_in ts
-  literal_first (LitValue k) ts l h = ap (λ o. elim o as (λ _. List BareLiteral) [ None ↦ [] | Some x ↦ x ∷ literals_in ts ]) h
-  literal_first (SetValue us) ts l h = cc
-  literal_first (RecordValue ps) ts l h = cc
-  literal_first (ExtensionValue x g) ts l h = cc
-
-  pub none_first : (t : BareValue X) (ts : List (BareValue X)) → literal_of t ≡ None → literals_in (t ∷ ts) ≡ literals_in ts
-  none_first (LitValue k) ts h = cc
-  none_first (SetValue us) ts h = refl
-  none_first (RecordValue ps) ts h = refl
-  none_first (ExtensionValue x g) ts h = refl
-
   pub one_among : (ks : List BareLiteral) (t : BareValue X) (l : BareLiteral) → literal_of t ≡ Some l → is_literal_among ks t ≡ is_among ks l
   one_among ks (LitValue k) l h = ap (λ o. elim o as (λ _. Bool) [ None ↦ false | Some x ↦ is_among ks x ]) h
   one_among ks (SetValue us) l h = cc
@@ -171,13 +132,27 @@ module _ {X : Type 0} where
   form_lit ts ks h = and_left (list_all is_lit_value ts) _ h
 
   module _ (R : X → X → Ordering) where
+    -- the class of a literal is there just where it is among the literals
+    lit_class : (ts : List (BareValue X)) (l : BareLiteral) → is_among (literals_in ts) l ≡ has_class (value_cmp R) ts (LitValue l)
+    lit_class [] l = refl
+    lit_class (LitValue k ∷ ts) l = λ i. literal_ties l k i || lit_class ts l i
+    lit_class (SetValue us ∷ ts) l = lit_class ts l
+    lit_class (RecordValue ps ∷ ts) l = lit_class ts l
+    lit_class (ExtensionValue x g ∷ ts) l = lit_class ts l
+
+    pub literal_class : (ts : List (BareValue X)) (t : BareValue X) (l : BareLiteral) → literal_of t ≡ Some l → is_among (literals_in ts) l ≡ true → has_class (value_cmp R) ts t ≡ true
+    literal_class ts (LitValue k) l h there = sym (lit_class ts k) ∙ ap (λ o. elim o as (λ _. Bool) [ None ↦ true | Some x ↦ is_among (literals_in ts) x ]) h ∙ there
+    literal_class ts (SetValue us) l h there = cc
+    literal_class ts (RecordValue ps) l h there = cc
+    literal_class ts (ExtensionValue x g) l h there = cc
+
     -- among literals, the class of a value is there just where it is one of them
     class_among : (ts : List (BareValue X)) → list_all is_lit_value ts ≡ true → (t : BareValue X) → is_literal_among (literals_in ts) t ≡ has_class (value_cmp R) ts t
     class_among [] all (LitValue l) = refl
     class_among [] all (SetValue us) = refl
     class_among [] all (RecordValue ps) = refl
     class_among [] all (ExtensionValue x g) = refl
-    class_among (LitValue k ∷ ts) all (LitValue l) = λ i. literal_ties l k i || class_among ts all (LitValue l) i
+    class_among (LitValue k ∷ ts) all (LitValue l) = lit_class (LitValue k ∷ ts) l
     class_among (LitValue k ∷ ts) all (SetValue us) = class_among ts all (SetValue us)
     class_among (LitValue k ∷ ts) all (RecordValue ps) = class_among ts all (RecordValue ps)
     class_among (LitValue k ∷ ts) all (ExtensionValue x g) = class_among ts all (ExtensionValue x g)
@@ -212,11 +187,10 @@ module _ {X : Type 0} where
         true≢false (sym (part found.0 found.2) ∙ sym (form_has ws ks some found.0) ∙ other_among ks (bare_value found.0) found.1)
 
     -- what is the hash form of some values is that of their classes
-    kept_lit : (ms vs : List (Value X)) → IsClassesOf (on bare_value (value_cmp R)) ms vs → list_all is_lit_value (map bare_value vs) ≡ true → list_all is_lit_value (map bare_value ms) ≡ true
-    kept_lit ms vs h all =
-        let p : Value X → Bool = λ v. is_lit_value (bare_value v) in
+    kept_lit : (ms vs : List (Value X)) → ((v : Value X) → Contains ms v → Contains vs v) → list_all is_lit_value (map bare_value vs) ≡ true → list_all is_lit_value (map bare_value ms) ≡ true
+    kept_lit ms vs kept all =
         list_all-map is_lit_value bare_value ms
-        ∙ list_all-from_AllPass p ms (λ k d l. All-contains (λ x. p x ≡ true) vs _ (AllPass-from_list_all p vs (sym (list_all-map is_lit_value bare_value vs) ∙ all)) (h.kept _ (Contains-get_or ms k d l)))
+        ∙ all_kept (λ v. is_lit_value (bare_value v)) ms vs kept (sym (list_all-map is_lit_value bare_value vs) ∙ all)
 
     pub kept_form : IsTotalOrder (value_cmp R) → (ms vs : List (Value X)) → IsClassesOf (on bare_value (value_cmp R)) ms vs → (f : Option (List BareLiteral)) → is_hash_form (map bare_value vs) f ≡ true → is_hash_form (map bare_value ms) f ≡ true
     kept_form o ms vs h None form =
@@ -226,10 +200,10 @@ module _ {X : Type 0} where
         ] refl
     kept_form o ms vs h (Some ks) form =
         let all = form_lit (map bare_value vs) ks form in
-        let all_kept = kept_lit ms vs h all in
+        let lit = kept_lit ms vs h.kept all in
         let images = classes_of_images bare_value o ms vs h in
-        form_of (map bare_value ms) ks all_kept (λ l.
+        form_of (map bare_value ms) ks lit (λ l.
         among_alike ks (literals_in (map bare_value vs)) (and_right (list_all is_lit_value (map bare_value vs)) _ form) l
         ∙ class_among (map bare_value vs) all (LitValue l)
         ∙ sym (images.same (LitValue l))
-        ∙ sym (class_among (map bare_value ms) all_kept (LitValue l)))
+        ∙ sym (class_among (map bare_value ms) lit (LitValue l)))

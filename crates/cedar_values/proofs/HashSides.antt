@@ -1,26 +1,22 @@
 -- Sets of literals by hash, side by side, and beside the lists of their members.
-use Rattle.std.proofs.Common.{◌≡◌, Bool, true, false, ◌&&◌, ◌||◌, List, [], ◌∷◌, Option, Some, None, map, refl, sym, ap, subst, ◌∙◌, IsTrue}
+use Rattle.std.proofs.Common.{◌≡◌, Bool, true, false, ◌||◌, List, [], ◌∷◌, Option, Some, None, map, refl, sym, ap, ◌∙◌, IsTrue}
 use Rattle.std.specs.Prelude.{◌↔◌, option_map, is_some, IfSome}
-use Rattle.std.specs.Cmp.{IsTotalOrder}
 use Rattle.std.specs.HashSet.{IsDisjoint, IsSubset, contains, keys}
 use Rattle.std.specs.List.{list_all, list_any}
 use Rattle.std.specs.Ordering.{on}
 use Rattle.std.specs.declared.cmp.Ordering.{Ordering}
 use Rattle.std.proofs.lemmas.Bool.{true≢false}
-use Rattle.std.proofs.lemmas.Cmp.{on_total}
 use Rattle.std.proofs.lemmas.List.Folds.{list_all-map}
-use Rattle.cedar_terms.specs.LiteralOrder.{literal_cmp, literal_eq, literal_eq_decides}
+use Rattle.cedar_terms.specs.LiteralOrder.{literal_eq, literal_eq_decides}
 use Rattle.cedar_terms.specs.Literals.{BareLiteral, bare_literal}
 use Rattle.cedar_terms.specs.declared.literal.Literal.{Literal}
-use Rattle.rising.specs.Classes.{has_class, HaveNoneInCommon, IsClassesOf, IsPartOf}
-use Rattle.rising.specs.Images.{classes_of_images}
-use Rattle.value_trees.specs.ValueOrder.{value_cmp}
+use Rattle.rising.specs.Classes.{has_class, HaveNoneInCommon, IsPartOf}
 use Rattle.cedar_values.specs.BareValues.{bare_value}
-use Rattle.cedar_values.specs.HashForms.{HasLiterals, LiteralSet, is_among, is_hash_form, is_literal_among, literals_in, literals_of}
+use Rattle.cedar_values.specs.HashForms.{LiteralSet, is_hash_form, is_literal_among, literals_of}
 use Rattle.cedar_values.specs.Places.{is_lit_value, literal_of, literal_value}
 use Rattle.cedar_values.specs.Sets.{HoldsJust, by_tree}
 use Rattle.cedar_values.specs.declared.value.Value.{Value}
-use Rattle.cedar_values.proofs.HashForms.{form_has, form_lit, form_of, has, not_true, one_among, other_among}
+use Rattle.cedar_values.proofs.HashForms.{form_has, form_lit, has, not_true, one_among, other_among}
 use Rattle.cedar_values.proofs.Levels.{literal_tree}
 
 -- a literal that is equal to one that is there
@@ -90,22 +86,3 @@ module _ {X : Type 0} (R : X → X → Ordering) where
   pub just : {A : Type 0} (f : A → LiteralSet) (r : Option A) (vs : List (Value X)) → is_hash_form (map bare_value vs) (option_map (λ a. literals_of (f a)) r) ≡ true → IfSome r (λ a. HoldsJust R vs (f a))
   just f None vs form = tt
   just f (Some a) vs form = holds vs (f a) form
-
-  -- ---- a set that is made of literals
-
-  literal_order : (a b : Literal) → by_tree R (literal_value a) (literal_value b) ≡ literal_cmp (bare_literal a) (bare_literal b)
-  literal_order a b = λ i. value_cmp R (literal_tree {X = X} a i) (literal_tree {X = X} b i)
-
-  pub literal_classes : IsTotalOrder (value_cmp R) → (ks ls : List Literal) → IsClassesOf (on bare_literal literal_cmp) ks ls → IsClassesOf (by_tree R) (map literal_value ks) (map literal_value ls)
-  literal_classes o ks ls h = classes_of_images literal_value (on_total bare_value o) ks ls (subst (λ (C : Literal → Literal → Ordering). IsClassesOf C ks ls) (sym (λ i a b. literal_order a b i)) h)
-
-  all_literals : (ls : List Literal) → list_all is_lit_value (map bare_value (map (literal_value {X = X}) ls)) ≡ true
-  all_literals [] = refl
-  all_literals (l ∷ ls) = λ i. is_lit_value (literal_tree {X = X} l i) && all_literals ls i
-
-  literals_are : (ls : List Literal) → literals_in (map bare_value (map (literal_value {X = X}) ls)) ≡ map bare_literal ls
-  literals_are [] = refl
-  literals_are (l ∷ ls) = (λ i. literals_in (literal_tree {X = X} l i ∷ map bare_value (map (literal_value {X = X}) ls))) ∙ ap (λ bs. bare_literal l ∷ bs) (literals_are ls)
-
-  pub literal_form : (ls : List Literal) (h : LiteralSet) → HasLiterals (map bare_literal ls) h → is_hash_form (map bare_value (map (literal_value {X = X}) ls)) (Some (literals_of h)) ≡ true
-  literal_form ls h just = form_of (map bare_value (map literal_value ls)) (literals_of h) (all_literals ls) (λ b. just b ∙ ap (λ bs. is_among bs b) (sym (literals_are ls)))

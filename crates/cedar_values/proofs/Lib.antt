@@ -1,6 +1,7 @@
 pub mod HashForms
 pub mod HashCounts
 pub mod HashSides
+pub mod Firsts
 pub mod Hashed
 pub mod Levels
 pub mod Making

@@ -11,7 +11,7 @@ use Rattle.value_trees.specs.ValueOrder.{value_cmp}
 use Rattle.cedar_values.specs.BareValues.{bare_value}
 use Rattle.cedar_values.specs.HashForms.{is_hash_form}
 use Rattle.cedar_values.specs.Places.{gathered, is_lit_value, unplaced}
-use Rattle.cedar_values.specs.Sets.{by_tree, hashed_literals, members}
+use Rattle.cedar_values.specs.Sets.{HaveEachOf, by_tree, hashed_literals, members}
 use Rattle.cedar_values.specs.WellFormed.{set_well_formed, well_formed}
 use Rattle.cedar_values.specs.declared.set.Set.{Set}
 use Rattle.cedar_values.specs.declared.value.Value.{Value}
@@ -47,6 +47,14 @@ module _ {X : Type 0} (R : X → X → Ordering) where
   -- a set without members, and with no literal by hash
   pub empty_kept : (s : Set X) → members s ≡ [] → hashed_literals s ≡ Some [] → set_well_formed R s ≡ true
   empty_kept s h none = set_is R s ∙ λ i. rises (by_tree R) (h i) && (is_hash_form (map bare_value (h i)) (none i) && list_all (well_formed R) (h i))
+
+  -- the classes of some of the values, which are one or more of each class, are those of all
+  pub classes_of_each : (ms ws vs : List (Value X)) → IsClassesOf (by_tree R) ms ws → HaveEachOf R ws vs → IsClassesOf (by_tree R) ms vs
+  classes_of_each ms ws vs h each = record {
+    rising = h.rising;
+    same = λ q. h.same q ∙ each.same q;
+    kept = λ v there. each.kept v (h.kept v there);
+  }
 
   -- a set of the classes of values, with the hash form of these
   pub made_well : IsTotalOrder (value_cmp R) → (s : Set X) (ms vs : List (Value X)) (f : Option (List BareLiteral)) → members s ≡ ms → hashed_literals s ≡ f → IsClassesOf (by_tree R) ms vs

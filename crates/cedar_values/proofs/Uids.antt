@@ -1,5 +1,6 @@
 -- Entities that are put into a set, one by one.
 use Rattle.std.proofs.Common.{◌≡◌, Bool, true, false, ◌||◌, cond, List, [], ◌∷◌, ◌++◌, map, refl, sym, ap, ◌∙◌, Global}
+use Rattle.std.proofs.Math.Bool.{or-false, or_assoc}
 use Rattle.std.specs.List.{flat_map}
 use Rattle.std.specs.declared.rc.RcStr.{RcStr}
 use Rattle.cedar_terms.specs.Entities.{BareEntityUID, bare_entity_uid}
@@ -14,23 +15,15 @@ use Rattle.cedar_values.specs.declared.set.Set as set_of
 use Rattle.cedar_values.specs.declared.value.Value.{Value}
 use Rattle.cedar_values.proofs.WellFormedSets.{set_values}
 
-or_assoc : (a b c : Bool) → ((a || b) || c) ≡ (a || (b || c))
-or_assoc true b c = refl
-or_assoc false b c = refl
-
-pub or_false : (a : Bool) → (a || false) ≡ a
-or_false true = refl
-or_false false = refl
-
 any_append : (us vs : List BareEntityUID) (u : EntityUID) → is_uid_of (us ++ vs) u ≡ (is_uid_of us u || is_uid_of vs u)
 any_append [] vs u = refl
 any_append (x ∷ us) vs u = ap (λ b. entity_uid_eq (bare_entity_uid u) x || b) (any_append us vs u) ∙ sym (or_assoc (entity_uid_eq (bare_entity_uid u) x) (is_uid_of us u) (is_uid_of vs u))
 
 swapped : (a b had : Bool) → a ≡ b → cond a true had ≡ (had || (b || false))
 swapped true b true h = refl
-swapped true b false h = h ∙ sym (or_false b)
+swapped true b false h = h ∙ sym (or-false b)
 swapped false b true h = refl
-swapped false b false h = h ∙ sym (or_false b)
+swapped false b false h = h ∙ sym (or-false b)
 
 -- one entity more
 pub one_more : (s n : UidSet) (x : EntityUID) → ((u : EntityUID) → has_uid n u ≡ cond (entity_uid_eq (bare_entity_uid x) (bare_entity_uid u)) true (has_uid s u)) → Gains (bare_entity_uid x ∷ []) s n
@@ -46,7 +39,7 @@ put_in whole us left old now new h g u =
     ∙ ap (λ b. has_uid now u || b) (sym (any_append us left u)) ∙ h u
 
 pub nothing_owed : (whole : List BareEntityUID) (old now : UidSet) → Owes whole old [] now → Gains whole old now
-nothing_owed whole old now h u = sym (or_false (has_uid now u)) ∙ h u
+nothing_owed whole old now h u = sym (or-false (has_uid now u)) ∙ h u
 
 module _ {X : Type 0} where
   abbrev pub value_uids : Value X → List BareEntityUID

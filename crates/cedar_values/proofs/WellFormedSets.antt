@@ -1,7 +1,5 @@
 -- Well formed sets, as the lists of their members.
 use Rattle.std.proofs.Common.{◌≡◌, Bool, true, false, ◌&&◌, List, [], ◌∷◌, map, Option, refl, sym, ap, subst, ◌∙◌}
-use Rattle.std.proofs.lemmas.List.Elements.{All-contains, Contains-get_or}
-use Rattle.std.proofs.lemmas.List.Sums.{AllPass-from_list_all, list_all-from_AllPass}
 use Rattle.std.specs.Cmp.{IsTotalOrder}
 use Rattle.std.specs.List.{list_all}
 use Rattle.std.specs.List.Sorted.{IsStrictlySortedBy}
@@ -19,6 +17,7 @@ use Rattle.cedar_values.specs.Sets.{by_tree, has_hash_form, hashed_literals, mem
 use Rattle.cedar_values.specs.WellFormed.{is_hashed, well_formed, set_well_formed}
 use Rattle.cedar_values.specs.declared.set.Set.{Set, fold_out-Set}
 use Rattle.cedar_values.specs.declared.value.Value.{Value}
+use Rattle.cedar_values.proofs.HashForms.{all_kept}
 use Rattle.cedar_values.proofs.Hashed.{all_both, set_hash}
 
 joined : (a b c d : Bool) → ((a && b) && (c && d)) ≡ (a && (c && (b && d)))
@@ -71,7 +70,7 @@ module _ {X : Type 0} (R : X → X → Ordering) where
   pub kept_of_classes : (s : Set X) (values : List (Value X)) → IsClassesOf (by_tree R) (members s) values → has_hash_form s ≡ true → list_all (well_formed R) values ≡ true → set_well_formed R s ≡ true
   kept_of_classes s values h form all =
       set_is s
-      ∙ λ i. rises_of_sorted (by_tree R) (members s) h.rising i && (form i && list_all-from_AllPass (well_formed R) (members s) (λ k d l. All-contains (λ x. well_formed R x ≡ true) values _ (AllPass-from_list_all (well_formed R) values all) (h.kept _ (Contains-get_or (members s) k d l))) i)
+      ∙ λ i. rises_of_sorted (by_tree R) (members s) h.rising i && (form i && all_kept (well_formed R) (members s) values h.kept all i)
 
 -- what is known by the order that values have, by that of their trees
 module _ {X : Type 0} (R : X → X → Ordering) {C : Value X → Value X → Ordering} (order : (a b : Value X) → C a b ≡ by_tree R a b) where

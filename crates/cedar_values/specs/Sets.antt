@@ -1,12 +1,13 @@
 -- Sets of values (`Set` of Cedar's `value.rs`).
 use Rattle.std.specs.Prelude.{◌≡◌, Bool, List, map, Option, option_map}
 use Rattle.std.specs.HashSet.{contains}
+use Rattle.std.specs.List.{Contains}
 use Rattle.std.specs.Ordering.{on}
 use Rattle.std.specs.declared.cmp.Ordering.{Ordering}
 use Rattle.cedar_terms.specs.LiteralOrder.{literal_eq}
 use Rattle.cedar_terms.specs.Literals.{BareLiteral, bare_literal}
 use Rattle.cedar_terms.specs.declared.literal.Literal.{Literal}
-use Rattle.rising.specs.Classes.{has_class}
+use Rattle.rising.specs.Classes.{has_class, HaveSameClasses}
 use Rattle.value_trees.specs.ValueOrder.{value_cmp}
 use Rattle.cedar_values.specs.BareValues.{bare_value}
 use Rattle.cedar_values.specs.HashForms.{LiteralSet, is_hash_form, literals_of}
@@ -34,3 +35,8 @@ by_tree R = on bare_value (value_cmp R)
 abbrev pub HoldsJust : {X : Type 0} → (X → X → Ordering) → List (Value X) → LiteralSet → Type 0
 HoldsJust R vs h =
     (l : Literal) → contains (on bare_literal literal_eq) h l ≡ has_class (by_tree R) vs (literal_value l)
+
+-- the first values are some of the second, one or more of each class
+pub record HaveEachOf {X : Type 0} (R : X → X → Ordering) (ms vs : List (Value X)) : Type 0 where
+  pub same : HaveSameClasses (by_tree R) ms vs
+  pub kept : (v : Value X) → Contains ms v → Contains vs v

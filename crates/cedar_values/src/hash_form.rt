@@ -1,5 +1,5 @@
 // The literals of a set by hash, which it keeps beside its members (`fast` of Cedar's `Set`).
-ghost use Rattle.std.specs.Prelude.{◌≡◌, ◌∷◌, IsTrue, IfOk, OnOk, map, option_map};
+ghost use Rattle.std.specs.Prelude.{◌≡◌, ◌∷◌, IsTrue, IfOk, OnOk, map, not, option_map};
 ghost use Rattle.std.specs.List.{IsDistinct, list_all};
 ghost use Rattle.cedar_terms.specs.LiteralOrder.{literal_eq};
 ghost use Rattle.cedar_terms.specs.Literals.{bare_literal};
@@ -12,57 +12,60 @@ ghost use Rattle.cedar_values.specs.HashForms.{
   literals_in,
   literals_of,
 };
+ghost use Rattle.cedar_values.specs.Sets.{HaveEachOf};
 
 use crate::value::{Value, are_literals};
 use cedar_terms::Literal;
 use std::alloc::{AllocError, Global};
 use std::collections::HashSet;
 use std::rc::Rc;
+use value_trees::laws::values_are_ordered;
 
 // Room is made at first for so many literals at most: of many values few may be different.
 const FIRST_ROOM: usize = 128;
 
-// The literals by hash, if all values are literals.
+// The values of which a set is made, and their hash form: of literals the first of each, else all.
+pub(crate) fn hash_form<X: Ord + Drop>(
+    alloc: Global,
+    values: Vec<Value<X>>,
+) -> Result<(Vec<Value<X>>, Option<Rc<HashSet<Literal>>>), AllocError>
+    ensures each { IfOk result (λ made. HaveEachOf X.cmp made.0.items values.items) }
+    ensures hashed { IfOk result (λ made. IsTrue (is_hash_form (map bare_value made.0.items)
+        (option_map (λ h. literals_of h.value) made.1))) }
+{
+    if !are_literals(&values) {
+        return Ok((values, None));
+    }
+    let (firsts, literals) = firsts_by_hash(alloc, values)?;
+    let literals = Rc::new(alloc, literals)?;
+    Ok((firsts, Some(literals)))
+}
+
+// The first value of each literal, every value that is none, and the literals by hash.
 //
 // They are taken in the order in which the values are handed in, in which their texts lie in memory
 // beside one another more often than in their own.
-pub(crate) fn hash_form<X: Drop>(
+fn firsts_by_hash<X: Ord + Drop>(
     alloc: Global,
-    values: &[Value<X>],
-) -> Result<Option<Rc<HashSet<Literal>>>, AllocError>
-    ensures { IfOk result (λ made. IsTrue (is_hash_form (map bare_value values.now)
-        (option_map (λ h. literals_of h.value) made))) }
+    values: Vec<Value<X>>,
+) -> Result<(Vec<Value<X>>, HashSet<Literal>), AllocError>
+    ensures each { IfOk result (λ made. HaveEachOf X.cmp made.0.items values.items) }
+    ensures hashed { IfOk result (λ made.
+        HasLiterals (literals_in (map bare_value made.0.items)) made.1) }
 {
-    if !are_literals(values) {
-        return Ok(None);
-    }
-    let made = literals_among(alloc, values)?;
-    let literals = Rc::new(alloc, made)?;
-    Ok(Some(literals))
-}
-
-// The literals among the values.
-fn literals_among<X>(alloc: Global, values: &[Value<X>]) -> Result<HashSet<Literal>, AllocError>
-    ensures { IfOk result (HasLiterals (literals_in (map bare_value values.now))) }
-{
+    values_are_ordered::<X>();
+    let mut firsts = Vec::with_capacity(alloc, values.len())?;
     let mut literals = HashSet::with_capacity(alloc, values.len().min(FIRST_ROOM))?;
     for value in values {
-        if let Some(literal) = value.try_as_lit() {
-            add_literal(alloc, &mut literals, literal)?;
+        let is_first = match value.try_as_lit() {
+            Some(literal) => add_literal(alloc, &mut literals, literal)?,
+            None => true,
+        };
+        if is_first {
+            firsts.push(value)?;
         }
     }
-    Ok(literals)
-}
-
-// Some literals.
-pub(crate) fn by_hash(alloc: Global, given: &[Literal]) -> Result<HashSet<Literal>, AllocError>
-    ensures { IfOk result (HasLiterals (map bare_literal given.now)) }
-{
-    let mut literals = HashSet::with_capacity(alloc, given.len().min(FIRST_ROOM))?;
-    for literal in given {
-        add_literal(alloc, &mut literals, literal)?;
-    }
-    Ok(literals)
+    Ok((firsts, literals))
 }
 
 // The same literals, shared.
@@ -78,17 +81,18 @@ pub(crate) fn share(
     }
 }
 
-// Adds a copy of a literal.
+// Adds a copy of a literal, if it is new, and says whether it was.
 fn add_literal(
     alloc: Global,
     literals: &mut HashSet<Literal>,
     literal: &Literal,
-) -> Result<(), AllocError>
-    ensures { OnOk result
+) -> Result<bool, AllocError>
+    ensures literals { OnOk result
         (HasLiterals (bare_literal literal.now ∷ literals_of literals.old) literals.new) }
+    ensures is_new { IfOk result (λ is_new.
+        is_new ≡ not (is_among (literals_of literals.old) (bare_literal literal.now))) }
 {
-    literals.insert(literal.clone(alloc)?)?;
-    Ok(())
+    Ok(literals.insert(literal.clone(alloc)?)?)
 }
 
 // Whether it is the hash form of members of which no two are the same literal.

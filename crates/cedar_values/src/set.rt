@@ -28,7 +28,7 @@ ghost use Rattle.cedar_values.specs.Sets.{HoldsJust, by_tree, hashed_literals, m
 ghost use Rattle.cedar_values.specs.WellFormed.{set_well_formed, well_formed};
 
 use crate::extension_value::NoExtension;
-use crate::hash_form::{by_hash, hash_form, is_among, is_hash_form, share};
+use crate::hash_form::{hash_form, is_among, is_hash_form, share};
 use crate::laws::order_of_values;
 use crate::value::{Value, are_literals, literal_values, without_places};
 use cedar_terms::Literal;
@@ -149,7 +149,7 @@ impl<X: Ord + Drop> Set<X> {
     {
         order_of_values::<X>();
         values_are_ordered::<X>();
-        let literals = hash_form(alloc, &values)?;
+        let (values, literals) = hash_form(alloc, values)?;
         Set::of_members(alloc, rising::into_rising(values), literals)
     }
 
@@ -159,11 +159,8 @@ impl<X: Ord + Drop> Set<X> {
             IsClassesOf (by_tree X.cmp) (members s) (map literal_value lits.items)) }
         ensures well_formed { IfOk result (λ s. IsTrue (set_well_formed X.cmp s)) }
     {
-        order_of_values::<X>();
-        values_are_ordered::<X>();
-        let literals = Rc::new(alloc, by_hash(alloc, &lits)?)?;
-        let members = literal_values(alloc, rising::into_rising(lits))?;
-        Set::of_members(alloc, members, Some(literals))
+        let values = literal_values(alloc, lits)?;
+        Set::new(alloc, values)
     }
 
     /// The set of some values, as `new` makes it (`FromIterator` of Cedar's file); but where all of

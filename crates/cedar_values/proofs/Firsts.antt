@@ -1,0 +1,119 @@
+-- The first values of each literal, as the literals by hash tell them apart.
+use Rattle.std.proofs.Common.{◌≡◌, Bool, true, false, ◌||◌, ◌++◌, List, [], ◌∷◌, map, Some, None, refl, sym, ap, subst, ◌∙◌, ⊎_elim}
+use Rattle.std.specs.Cmp.{IsTotalOrder}
+use Rattle.std.specs.List.{Contains}
+use Rattle.std.specs.Ordering.{eq_by_cmp}
+use Rattle.std.specs.declared.cmp.Ordering.{Ordering}
+use Rattle.std.proofs.Math.Bool.{or-false, or-true}
+use Rattle.std.proofs.lemmas.List.{map_push}
+use Rattle.std.proofs.lemmas.List.Elements.{Contains-append_left, Contains-push, Contains-push_cases}
+use Rattle.std.proofs.lemmas.List.Folds.{list_any-append}
+use Rattle.cedar_terms.specs.LiteralOrder.{literal_eq}
+use Rattle.cedar_terms.specs.Literals.{BareLiteral}
+use Rattle.rising.specs.Classes.{has_class}
+use Rattle.rising.specs.Images.{has_image}
+use Rattle.rising.specs.Unique.{has_alike}
+use Rattle.value_trees.specs.BareValue.{BareValue, LitValue, SetValue, RecordValue, ExtensionValue}
+use Rattle.value_trees.specs.ValueOrder.{value_cmp}
+use Rattle.cedar_values.specs.BareValues.{bare_value}
+use Rattle.cedar_values.specs.HashForms.{HasLiterals, LiteralSet, is_among, literals_in, literals_of}
+use Rattle.cedar_values.specs.Places.{literal_of}
+use Rattle.cedar_values.specs.Sets.{HaveEachOf, by_tree}
+use Rattle.cedar_values.specs.declared.value.Value.{Value}
+use Rattle.cedar_values.proofs.HashForms.{known, literal_class}
+
+-- of the values so far these are left, and their literals are kept by hash
+pub record AreFirsts {X : Type 0} (R : X → X → Ordering) (ms vs : List (Value X)) (h : LiteralSet) : Type 0 where
+  pub each : HaveEachOf R ms vs
+  pub hashed : HasLiterals (literals_in (map bare_value ms)) h
+
+turned : (a b c : Bool) → (a || (b || c)) ≡ (b || (a || c))
+turned true true c = refl
+turned true false c = refl
+turned false b c = refl
+
+module _ {X : Type 0} where
+  -- ---- a value more among literals
+
+  lit_last : (ts : List (BareValue X)) (t : BareValue X) (l : BareLiteral) → literal_of t ≡ Some l → (m : BareLiteral) → (literal_eq m l || is_among (literals_in ts) m) ≡ is_among (literals_in (ts ++ t ∷ [])) m
+  lit_last [] (LitValue k) l h m = ap (λ o. elim o as (λ _. Bool) [ None ↦ false | Some x ↦ literal_eq m x || false ]) (sym h)
+  lit_last [] (SetValue us) l h m = cc
+  lit_last [] (RecordValue ps) l h m = cc
+  lit_last [] (ExtensionValue x g) l h m = cc
+  lit_last (LitValue k ∷ ts) t l h m = turned (literal_eq m l) (literal_eq m k) (is_among (literals_in ts) m) ∙ ap (λ b. literal_eq m k || b) (lit_last ts t l h m)
+  lit_last (SetValue us ∷ ts) t l h m = lit_last ts t l h m
+  lit_last (RecordValue ps ∷ ts) t l h m = lit_last ts t l h m
+  lit_last (ExtensionValue x g ∷ ts) t l h m = lit_last ts t l h m
+
+  none_last : (ts : List (BareValue X)) (t : BareValue X) → literal_of t ≡ None → literals_in ts ≡ literals_in (ts ++ t ∷ [])
+  none_last [] (LitValue k) h = cc
+  none_last [] (SetValue us) h = refl
+  none_last [] (RecordValue ps) h = refl
+  none_last [] (ExtensionValue x g) h = refl
+  none_last (LitValue k ∷ ts) t h = ap (λ ls. k ∷ ls) (none_last ts t h)
+  none_last (SetValue us ∷ ts) t h = none_last ts t h
+  none_last (RecordValue ps ∷ ts) t h = none_last ts t h
+  none_last (ExtensionValue x g ∷ ts) t h = none_last ts t h
+
+  module _ (R : X → X → Ordering) where
+    -- a value that is put behind both
+    each_push : (ms vs : List (Value X)) (v : Value X) → HaveEachOf R ms vs → HaveEachOf R (ms ++ v ∷ []) (vs ++ v ∷ [])
+    each_push ms vs v h = record {
+      same = λ q.
+          list_any-append (eq_by_cmp (by_tree R) q) ms (v ∷ [])
+          ∙ ap (λ b. b || has_class (by_tree R) (v ∷ []) q) (h.same q)
+          ∙ sym (list_any-append (eq_by_cmp (by_tree R) q) vs (v ∷ []));
+      kept = λ w there.
+          ⊎_elim
+          (λ before. Contains-append_left vs (v ∷ []) w (h.kept w before))
+          (λ is. subst (Contains (vs ++ v ∷ [])) is (Contains-push vs v))
+          (Contains-push_cases ms v w there);
+    }
+
+    -- ---- one value more is looked at
+
+    pub none_yet : (h : LiteralSet) → literals_of h ≡ [] → AreFirsts R [] [] h
+    none_yet h none = record {
+      each = record { same = λ q. refl; kept = λ v there. there };
+      hashed = λ m. ap (λ ks. is_among ks m) none;
+    }
+
+    module _ (ms vs : List (Value X)) (v : Value X) (h : LiteralSet) (firsts : AreFirsts R ms vs h) where
+      -- it is no literal
+      pub other : literal_of (bare_value v) ≡ None → AreFirsts R (ms ++ v ∷ []) (vs ++ v ∷ []) h
+      other none = record {
+        each = each_push ms vs v firsts.each;
+        hashed = λ m. firsts.hashed m ∙ ap (λ ls. is_among ls m) (none_last (map bare_value ms) (bare_value v) none ∙ ap literals_in (sym (map_push bare_value ms v)));
+      }
+
+      module _ (n : LiteralSet) (l : BareLiteral) (is : literal_of (bare_value v) ≡ Some l) (adds : HasLiterals (l ∷ literals_of h) n) where
+        -- it is the first of its class
+        pub first : AreFirsts R (ms ++ v ∷ []) (vs ++ v ∷ []) n
+        first = record {
+          each = each_push ms vs v firsts.each;
+          hashed = λ m.
+              adds m ∙ ap (λ b. literal_eq m l || b) (firsts.hashed m)
+              ∙ lit_last (map bare_value ms) (bare_value v) l is m
+              ∙ ap (λ ts. is_among (literals_in ts) m) (sym (map_push bare_value ms v));
+        }
+
+        -- there is one of its class
+        pub later : IsTotalOrder (by_tree R) → is_among (literals_of h) l ≡ true → AreFirsts R ms (vs ++ v ∷ []) n
+        later o there =
+            let among : is_among (literals_in (map bare_value ms)) l ≡ true = sym (firsts.hashed l) ∙ there in
+            let stands : has_class (by_tree R) ms v ≡ true = sym (has_image bare_value (value_cmp R) ms v) ∙ literal_class R (map bare_value ms) (bare_value v) l is among in
+            let told : (q : Value X) (b : Bool) → eq_by_cmp (by_tree R) q v ≡ b → has_class (by_tree R) ms q ≡ (has_class (by_tree R) ms q || (b || false)) =
+            λ q b. elim b as (λ b. eq_by_cmp (by_tree R) q v ≡ b → has_class (by_tree R) ms q ≡ (has_class (by_tree R) ms q || (b || false))) [
+              | true ↦ λ alike. has_alike o ms q v alike ∙ stands ∙ sym (or-true (has_class (by_tree R) ms q))
+              | false ↦ λ _. sym (or-false (has_class (by_tree R) ms q))
+            ] in
+            record {
+              each = record {
+                same = λ q.
+                    told q (eq_by_cmp (by_tree R) q v) refl
+                    ∙ ap (λ b. b || has_class (by_tree R) (v ∷ []) q) (firsts.each.same q)
+                    ∙ sym (list_any-append (eq_by_cmp (by_tree R) q) vs (v ∷ []));
+                kept = λ w one. Contains-append_left vs (v ∷ []) w (firsts.each.kept w one);
+              };
+              hashed = λ m. adds m ∙ sym (known (literals_of h) l there m) ∙ firsts.hashed m;
+            }
