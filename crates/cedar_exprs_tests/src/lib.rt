@@ -4,17 +4,22 @@
 //! with ample memory and compares its answer:
 //!
 //! - `Expr::ite`: `constructors::conditionals`
-//! - `Expr::and`, `Expr::or`: `constructors::connectives`
-//! - `unary_app`, `binary_app` of `Expr` and of the struct `ExprBuilder`:
-//!   `constructors::operators_by_their_code`
+//! - `Expr::and`: `constructors::conjunctions`
+//! - `Expr::or`: `constructors::disjunctions`
+//! - `unary_app` of `Expr` and of the struct `ExprBuilder`:
+//!   `constructors::unary_operators_by_their_code`
+//! - `binary_app` of both: `constructors::binary_operators_by_their_code`
 //! - `not`, `neg`, `is_empty` of both: `constructors::operators_on_one_argument`
 //! - `is_eq`, `less`, `lesseq`, `add`, `sub`, `mul`, `is_in`, `contains`, `contains_all`,
 //!   `contains_any`, `get_tag`, `has_tag` of both: `constructors::operators_on_two_arguments`
 //! - `noteq`, `greater`, `greatereq` of both: `constructors::negated_operators`
-//! - `Expr::get_attr`, `Expr::has_attr`: `constructors::attributes`
+//! - `Expr::get_attr`: `constructors::attributes`
+//! - `Expr::has_attr`: `constructors::tests_for_attributes`
 //! - `Expr::extended_has_attr`: `constructors::paths_of_attributes`
-//! - `Expr::like`, `Expr::is_entity_type`: `constructors::patterns_and_types`
-//! - `Expr::set`, `Expr::call_extension_fn`: `constructors::sets_and_calls`
+//! - `Expr::like`: `constructors::patterns`
+//! - `Expr::is_entity_type`: `constructors::tests_of_types`
+//! - `Expr::set`: `constructors::sets`
+//! - `Expr::call_extension_fn`: `constructors::calls`
 //! - `Expr::record`, and by it `collect_distinct`: `constructors::records`
 //! - the other calls of the struct `ExprBuilder`: `shapes::shapes_have_no_data`
 //! - `Expr::clone`: `walks::walks_from_the_top_down`
@@ -30,9 +35,7 @@
 //!
 //! Those of substitution and building stand in `cedar_substitution_tests`, `try_validate` and
 //! `try_type_of` in `validation_tests`, `RestrictedExpr::call_extension_fn` in
-//! `cedar_values_tests`. In `cedar_builders` itself the default calls of its trait are run by
-//! `operators_make_their_nodes`, and `DuplicateKeyError::clone` and
-//! `ExpressionConstructionError::clone` by `duplicate_keys_are_named`.
+//! `cedar_values_tests`, the default calls of the trait of builders in `cedar_builders_tests`.
 #![tactic(auto)]
 
 pub mod recorder;

@@ -1,11 +1,12 @@
 // Values from outside: texts, places, error texts, and each call once.
+mod raw_names;
+
 use cedar_names::{
-    AllDefs, AnyId, ConditionalName, FromNormalizedStr, Id, InternalName, Loc, Name, NonEmpty,
-    ParseErrors, PrincipalOrResource, RawName, ReferenceType, Slot, SlotId, UnreservedId,
-    is_normalized_ident,
+    AnyId, FromNormalizedStr, Id, InternalName, Loc, Name, NonEmpty, ParseErrors,
+    PrincipalOrResource, Slot, SlotId, UnreservedId, is_normalized_ident,
 };
 use std::alloc::{AllocError, Global};
-use std::collections::{BTreeMap, BTreeSet, HashMap};
+use std::collections::{BTreeMap, HashMap};
 use std::convert::{AsRef, AsStr, TryFrom};
 use std::fmt::{Debug, Display};
 use std::hash::Hash;
@@ -21,14 +22,18 @@ const KEYWORDS: &str = "true|false|if|then|else|in|is|like|has";
 const NO_NAMES: &str =
     "|foo\n| foo|foo |::foo|foo::|foo::\"bar\"|foo//comment|1foo|fo o|foo-bar|foo:bar|foo :: bar|a:::b|\u{e9}";
 
-// What was read, printed, or the error's text.
-fn text_of<T: Display + Drop>(
+fn shown<T: Display>(rt: &HostRuntime, x: &T) -> Result<String, Fail> {
+    Ok(x.to_string(rt.alloc())?)
+}
+
+// What was made, printed, or the error's text.
+fn text_of<T: Display + Drop, E: Display + Drop>(
     rt: &HostRuntime,
-    read: Result<T, ParseErrors>,
+    answer: Result<T, E>,
 ) -> Result<String, Fail> {
-    match read {
-        Ok(read) => Ok(read.to_string(rt.alloc())?),
-        Err(e) => Ok(e.to_string(rt.alloc())?),
+    match answer {
+        Ok(made) => shown(rt, &made),
+        Err(e) => shown(rt, &e),
     }
 }
 
@@ -86,6 +91,13 @@ fn is_equal<T: PartialEq + Drop, E: Debug + Drop>(
     Ok(first == second?)
 }
 
+fn is_less<T: PartialOrd + Drop, E: Debug + Drop>(
+    first: T,
+    second: Result<T, E>,
+) -> Result<bool, Fail> {
+    Ok(first < second?)
+}
+
 fn read<T: FromNormalizedStr + Drop>(rt: &HostRuntime, s: &str) -> Result<T, Fail> {
     made(T::from_normalized_str(rt.alloc(), s))
 }
@@ -94,12 +106,34 @@ fn id(rt: &HostRuntime, s: &str) -> Result<Id, Fail> {
     read(rt, s)
 }
 
+fn unreserved(rt: &HostRuntime) -> Result<UnreservedId, Fail> {
+    made(UnreservedId::try_from(id(rt, "foo")?))
+}
+
 fn internal(rt: &HostRuntime, s: &str) -> Result<InternalName, Fail> {
     read(rt, s)
 }
 
 fn name(rt: &HostRuntime, s: &str) -> Result<Name, Fail> {
     read(rt, s)
+}
+
+// Whether it is what the text is read as.
+fn is_read_from<T: FromNormalizedStr + PartialEq + Drop>(
+    rt: &HostRuntime,
+    x: T,
+    text: &str,
+) -> Result<bool, Fail> {
+    is_equal(x, T::from_normalized_str(rt.alloc(), text))
+}
+
+// Whether what was made is this name.
+fn is_named<E: Debug + Drop>(
+    rt: &HostRuntime,
+    made: Result<InternalName, E>,
+    text: &str,
+) -> Result<bool, Fail> {
+    is_equal(internal(rt, text)?, made)
 }
 
 fn loc(rt: &HostRuntime, start: usize, stop: usize, s: &str) -> Result<Loc, Fail> {
@@ -209,11 +243,16 @@ fn is_refused<T: Display + Drop>(
 
 #[test]
 fn reads_one_identifier_as_a_name(rt: HostRuntime) -> Result<(), Fail> {
-    let alloc = rt.alloc();
-    let reserved = InternalName::parse_unqualified_name(alloc, "__cedar")?;
-    assert!(rt; reserved == InternalName::cedar(alloc)?);
-    let plain = Name::parse_unqualified_name(alloc, "foo")?;
-    assert!(rt; plain == name(&rt, "foo")? && plain.loc().is_none());
+    let plain = made(Name::parse_unqualified_name(rt.alloc(), "foo"))?;
+    assert!(rt; plain.loc().is_none());
+    assert!(rt; is_read_from(&rt, plain, "foo")?);
+    Ok(())
+}
+
+#[test]
+fn reads_the_reserved_identifier_as_a_name(rt: HostRuntime) -> Result<(), Fail> {
+    let reserved = made(InternalName::parse_unqualified_name(rt.alloc(), "__cedar"))?;
+    assert!(rt; is_equal(reserved, InternalName::cedar(rt.alloc()))?);
     Ok(())
 }
 
@@ -257,16 +296,21 @@ fn within(
 #[test]
 fn goes_within_a_namespace(rt: HostRuntime) -> Result<(), Fail> {
     let made = within(&rt, "C", "A::B", None)?;
-    assert_eq!(rt; made.to_string(rt.alloc())?.as_str(), "A::B::C");
+    assert_eq!(rt; shown(&rt, &made)?.as_str(), "A::B::C");
     Ok(())
+}
+
+// The name `A::B::C` at this place.
+fn placed(rt: &HostRuntime, place: &Loc) -> Result<InternalName, Fail> {
+    let given = made(Loc::clone_option(rt.alloc(), Some(place)))?;
+    within(rt, "C", "A::B", given)
 }
 
 #[test]
 fn keeps_the_place_given(rt: HostRuntime) -> Result<(), Fail> {
     let place = loc(&rt, 3, 5, "x = A")?;
-    let given = Loc::clone_option(rt.alloc(), Some(&place))?;
-    let made = within(&rt, "C", "A::B", given)?;
-    assert!(rt; made.clone(rt.alloc())?.loc() == Some(&place));
+    let copy = made(placed(&rt, &place)?.clone(rt.alloc()))?;
+    assert!(rt; copy.loc() == Some(&place));
     Ok(())
 }
 
@@ -282,28 +326,53 @@ fn orders_places(rt: HostRuntime) -> Result<(), Fail> {
     Ok(())
 }
 
-fn qualified(rt: &HostRuntime, s: &str, namespace: &str) -> Result<InternalName, Fail> {
+// Whether the name of this text, within the namespace, is the wanted one.
+fn is_qualified(rt: &HostRuntime, s: &str, namespace: &str, want: &str) -> Result<bool, Fail> {
     let name = InternalName::from_normalized_str(rt.alloc(), s);
     let (namespace, name) = beside(internal(rt, namespace)?, name)?;
-    made(name.qualify_with(rt.alloc(), Some(&namespace)))
+    is_named(rt, name.qualify_with(rt.alloc(), Some(&namespace)), want)
 }
 
-fn qualified_by_name(rt: &HostRuntime, s: &str, namespace: &str) -> Result<InternalName, Fail> {
+fn is_qualified_by_name(
+    rt: &HostRuntime,
+    s: &str,
+    namespace: &str,
+    want: &str,
+) -> Result<bool, Fail> {
     let plain = InternalName::from_normalized_str(rt.alloc(), s);
     let (namespace, name) = beside(name(rt, namespace)?, plain)?;
-    made(name.qualify_with_name(rt.alloc(), Some(&namespace)))
+    is_named(
+        rt,
+        name.qualify_with_name(rt.alloc(), Some(&namespace)),
+        want,
+    )
 }
 
-fn plain_qualified(rt: &HostRuntime, s: &str, namespace: &str) -> Result<InternalName, Fail> {
+fn is_plain_qualified(
+    rt: &HostRuntime,
+    s: &str,
+    namespace: &str,
+    want: &str,
+) -> Result<bool, Fail> {
     let name = Name::from_normalized_str(rt.alloc(), s);
     let (namespace, name) = beside(internal(rt, namespace)?, name)?;
-    made(name.qualify_with(rt.alloc(), Some(&namespace)))
+    is_named(rt, name.qualify_with(rt.alloc(), Some(&namespace)), want)
 }
 
 fn plain_qualified_by_name(rt: &HostRuntime, s: &str, namespace: &str) -> Result<Name, Fail> {
     let plain = Name::from_normalized_str(rt.alloc(), s);
     let (namespace, name) = beside(name(rt, namespace)?, plain)?;
     made(name.qualify_with_name(rt.alloc(), Some(&namespace)))
+}
+
+fn is_plain_qualified_by_name(
+    rt: &HostRuntime,
+    s: &str,
+    namespace: &str,
+    want: &str,
+) -> Result<bool, Fail> {
+    let made = plain_qualified_by_name(rt, s, namespace)?;
+    is_read_from(rt, InternalName::from(made), want)
 }
 
 #[test]
@@ -314,11 +383,10 @@ fn qualifies(rt: HostRuntime) -> Result<(), Fail> {
         ("D", "A::B::C", "A::B::C::D"),
         ("B::C::D", "A", "B::C::D"),
     ] {
-        let want = internal(&rt, want)?;
-        assert!(rt; qualified(&rt, s, namespace)? == want);
-        assert!(rt; qualified_by_name(&rt, s, namespace)? == want);
-        assert!(rt; plain_qualified(&rt, s, namespace)? == want);
-        assert!(rt; InternalName::from(plain_qualified_by_name(&rt, s, namespace)?) == want);
+        assert!(rt; is_qualified(&rt, s, namespace, want)?);
+        assert!(rt; is_qualified_by_name(&rt, s, namespace, want)?);
+        assert!(rt; is_plain_qualified(&rt, s, namespace, want)?);
+        assert!(rt; is_plain_qualified_by_name(&rt, s, namespace, want)?);
     }
     Ok(())
 }
@@ -337,16 +405,9 @@ fn qualifies_by_no_namespace(rt: HostRuntime) -> Result<(), Fail> {
 #[test]
 fn qualifies_plain_names_by_no_namespace(rt: HostRuntime) -> Result<(), Fail> {
     let plain = name(&rt, "A")?;
-    assert!(rt; plain.qualify_with(rt.alloc(), None)? == internal(&rt, "A")?);
-    assert!(rt; plain.qualify_with_name(rt.alloc(), None)? == plain);
-    Ok(())
-}
-
-#[test]
-fn qualifies_raw_names_by_no_namespace(rt: HostRuntime) -> Result<(), Fail> {
-    let raw = RawName::parse_unqualified_name(rt.alloc(), "A")?;
-    assert!(rt; raw.qualify_with(rt.alloc(), None)? == internal(&rt, "A")?);
-    assert!(rt; raw.qualify_with_name(rt.alloc(), None)? == internal(&rt, "A")?);
+    assert!(rt; is_named(&rt, plain.qualify_with(rt.alloc(), None), "A")?);
+    let whole = plain.qualify_with_name(rt.alloc(), None);
+    assert!(rt; is_equal(plain, whole)?);
     Ok(())
 }
 
@@ -354,20 +415,34 @@ fn namespace(rt: &HostRuntime, s: &str) -> Result<String, Fail> {
     Ok(internal(rt, s)?.namespace(rt.alloc())?)
 }
 
+fn is_reserved(rt: &HostRuntime, s: &str) -> Result<bool, Fail> {
+    Ok(internal(rt, s)?.is_reserved())
+}
+
 #[test]
 fn shows_namespaces(rt: HostRuntime) -> Result<(), Fail> {
-    for (s, want, reserved) in [
-        ("A::__cedar::B", "A::__cedar", true),
-        ("__cedar", "", true),
-        ("__cedar::A", "__cedar", true),
-        ("__cedar::A::B", "__cedar::A", true),
-        ("A::__cedar", "A", true),
-        ("__cedarr", "", false),
-        ("A::_cedar", "A", false),
-        ("A::___cedar::B", "A::___cedar", false),
+    for (s, want) in [
+        ("A::__cedar::B", "A::__cedar"),
+        ("__cedar", ""),
+        ("__cedar::A", "__cedar"),
+        ("__cedar::A::B", "__cedar::A"),
+        ("A::__cedar", "A"),
+        ("__cedarr", ""),
+        ("A::_cedar", "A"),
+        ("A::___cedar::B", "A::___cedar"),
     ] {
         assert_eq!(rt; namespace(&rt, s)?.as_str(), want);
-        assert_eq!(rt; internal(&rt, s)?.is_reserved(), reserved, "{s}");
+    }
+    Ok(())
+}
+
+#[test]
+fn tells_reserved_names(rt: HostRuntime) -> Result<(), Fail> {
+    for s in "A::__cedar::B|__cedar|__cedar::A|__cedar::A::B|A::__cedar".split('|') {
+        assert!(rt; is_reserved(&rt, s)?, "{s}");
+    }
+    for s in "__cedarr|A::_cedar|A::___cedar::B".split('|') {
+        assert!(rt; !is_reserved(&rt, s)?, "{s}");
     }
     Ok(())
 }
@@ -377,22 +452,22 @@ fn shows_basenames(rt: HostRuntime) -> Result<(), Fail> {
     let plain = name(&rt, "A::B")?;
     assert!(rt; !plain.is_unqualified());
     assert_eq!(rt; plain.basename_as_ref().as_str(), "B");
-    assert_eq!(rt; plain.basename(rt.alloc())?.as_str(), "B");
+    assert_eq!(rt; made(plain.basename(rt.alloc()))?.as_str(), "B");
     Ok(())
 }
 
 #[test]
 fn copies_names(rt: HostRuntime) -> Result<(), Fail> {
-    let copy = name(&rt, "A::B")?.clone(rt.alloc())?;
-    assert_eq!(rt; copy.to_string(rt.alloc())?.as_str(), "A::B");
+    let copy = made(name(&rt, "A::B")?.clone(rt.alloc()))?;
+    assert_eq!(rt; shown(&rt, &copy)?.as_str(), "A::B");
     Ok(())
 }
 
 #[test]
 fn shows_namespaces_by_parts(rt: HostRuntime) -> Result<(), Fail> {
-    let read = internal(&rt, "A::B")?;
+    let (read, first) = (internal(&rt, "A::B")?, id(&rt, "A")?);
     let mut parts = read.namespace_components();
-    assert!(rt; parts.next() == Some(&id(&rt, "A")?) && parts.next().is_none());
+    assert!(rt; parts.next() == Some(&first) && parts.next().is_none());
     Ok(())
 }
 
@@ -405,19 +480,27 @@ fn names_its_kinds(rt: HostRuntime) {
     assert_eq!(rt; Name::describe_self(), "Name");
 }
 
-fn unreserved(rt: &HostRuntime) -> Result<UnreservedId, Fail> {
-    Ok(UnreservedId::try_from(id(rt, "foo")?)?)
-}
-
 #[test]
 fn converts_identifiers(rt: HostRuntime) -> Result<(), Fail> {
     let unreserved = unreserved(&rt)?;
-    let borrowed: &Id = unreserved.as_ref();
-    assert!(rt; *borrowed == id(&rt, "foo")?.clone(rt.alloc())?);
     assert_eq!(rt; unreserved.as_str(), "foo");
-    let copy = unreserved.clone(rt.alloc())?;
-    assert_eq!(rt; copy.into_smolstr().as_str(), "foo");
     assert_eq!(rt; Id::from(unreserved).into_smolstr().as_str(), "foo");
+    Ok(())
+}
+
+#[test]
+fn copies_identifiers(rt: HostRuntime) -> Result<(), Fail> {
+    let copy = made(id(&rt, "foo")?.clone(rt.alloc()))?;
+    let unreserved = unreserved(&rt)?;
+    let borrowed: &Id = unreserved.as_ref();
+    assert!(rt; *borrowed == copy);
+    Ok(())
+}
+
+#[test]
+fn copies_unreserved_identifiers(rt: HostRuntime) -> Result<(), Fail> {
+    let copy = made(unreserved(&rt)?.clone(rt.alloc()))?;
+    assert_eq!(rt; copy.into_smolstr().as_str(), "foo");
     Ok(())
 }
 
@@ -436,22 +519,34 @@ fn converts_names_of_one_identifier(rt: HostRuntime) -> Result<(), Fail> {
     let plain = Name::from(unreserved(&rt)?);
     let borrowed: &InternalName = plain.as_ref();
     assert!(rt; *borrowed == internal(&rt, "foo")?);
-    assert!(rt; plain == Name::unqualified_name(unreserved(&rt)?));
-    assert!(rt; UnreservedId::try_from(plain)? == unreserved(&rt)?);
+    assert!(rt; is_equal(unreserved(&rt)?, UnreservedId::try_from(plain))?);
     Ok(())
 }
 
-// Whether the name has this text.
-fn is_named(rt: &HostRuntime, made: InternalName, text: &str) -> Result<bool, Fail> {
-    Ok(made == internal(rt, text)?)
+#[test]
+fn makes_names_of_one_identifier(rt: HostRuntime) -> Result<(), Fail> {
+    let plain = Name::unqualified_name(unreserved(&rt)?);
+    assert!(rt; Name::from(unreserved(&rt)?) == plain);
+    Ok(())
 }
 
 #[test]
 fn converts_names(rt: HostRuntime) -> Result<(), Fail> {
-    let plain = Name::try_from(internal(&rt, "A::B")?)?;
-    assert!(rt; is_named(&rt, InternalName::from(plain), "A::B")?);
-    assert!(rt; is_named(&rt, InternalName::from(id(&rt, "A")?), "A")?);
-    assert!(rt; Id::try_from(internal(&rt, "A")?)? == id(&rt, "A")?);
+    let plain = made(Name::try_from(internal(&rt, "A::B")?))?;
+    assert!(rt; is_read_from(&rt, InternalName::from(plain), "A::B")?);
+    Ok(())
+}
+
+#[test]
+fn converts_identifiers_to_names(rt: HostRuntime) -> Result<(), Fail> {
+    assert!(rt; is_read_from(&rt, InternalName::from(id(&rt, "A")?), "A")?);
+    Ok(())
+}
+
+#[test]
+fn converts_names_to_identifiers(rt: HostRuntime) -> Result<(), Fail> {
+    let converted = made(Id::try_from(internal(&rt, "A")?))?;
+    assert!(rt; is_read_from(&rt, converted, "A")?);
     Ok(())
 }
 
@@ -465,13 +560,17 @@ fn refuses_conversions(rt: HostRuntime) -> Result<(), Fail> {
 
 #[test]
 fn refuses_a_reserved_identifier(rt: HostRuntime) -> Result<(), Fail> {
-    let alloc = rt.alloc();
-    let refused = UnreservedId::try_from(id(&rt, "__cedar")?)
-        .err()
-        .ok_or("reserved")?;
-    assert!(rt; refused.clone(alloc)? == refused);
-    assert_eq!(rt; refused.name().to_string(alloc)?.as_str(), "__cedar");
-    assert_eq!(rt; ParseErrors::Memory.to_string(alloc)?.as_str(), "no memory");
+    let read = UnreservedId::try_from(id(&rt, "__cedar")?);
+    let refused = made(read.err().ok_or("reserved"))?;
+    assert_eq!(rt; shown(&rt, refused.name())?.as_str(), "__cedar");
+    let copy = refused.clone(rt.alloc());
+    assert!(rt; is_equal(refused, copy)?);
+    Ok(())
+}
+
+#[test]
+fn shows_want_of_memory(rt: HostRuntime) -> Result<(), Fail> {
+    assert_eq!(rt; shown(&rt, &ParseErrors::Memory)?.as_str(), "no memory");
     Ok(())
 }
 
@@ -482,8 +581,7 @@ fn is_below<T: FromNormalizedStr + PartialOrd + Drop>(
     high: &str,
 ) -> Result<bool, Fail> {
     let low = T::from_normalized_str(rt.alloc(), low)?;
-    let high = T::from_normalized_str(rt.alloc(), high)?;
-    Ok(low < high)
+    is_less(low, T::from_normalized_str(rt.alloc(), high))
 }
 
 #[test]
@@ -522,8 +620,8 @@ fn orders_without_places(rt: HostRuntime) -> Result<(), Fail> {
 #[test]
 fn has_two_slots(rt: HostRuntime) -> Result<(), Fail> {
     let (principal, resource) = (SlotId::principal(), SlotId::resource());
-    assert_eq!(rt; principal.to_string(rt.alloc())?.as_str(), "?principal");
-    assert_eq!(rt; resource.to_string(rt.alloc())?.as_str(), "?resource");
+    assert_eq!(rt; shown(&rt, &principal)?.as_str(), "?principal");
+    assert_eq!(rt; shown(&rt, &resource)?.as_str(), "?resource");
     assert!(rt; SlotId::from(PrincipalOrResource::Principal) == principal);
     assert!(rt; SlotId::from(PrincipalOrResource::Resource) == resource);
     assert!(rt; principal.is_principal() && !principal.is_resource());
@@ -590,178 +688,5 @@ fn hashes_lists_of_one_or_more(rt: HostRuntime) -> Result<(), Fail> {
     let alloc = rt.alloc();
     assert!(rt; finds(alloc, list(alloc, true)?, list(alloc, true))?);
     assert!(rt; !finds(alloc, list(alloc, true)?, list(alloc, false))?);
-    Ok(())
-}
-
-// The names by `|`, none for no text.
-fn names(rt: &HostRuntime, texts: &str) -> Result<BTreeSet<InternalName>, Fail> {
-    let mut made = BTreeSet::new(rt.alloc());
-    for s in texts.split('|') {
-        if !s.is_empty() {
-            made.insert(internal(rt, s)?)?;
-        }
-    }
-    Ok(made)
-}
-
-// The raw name where it stands in the namespace, none for no text.
-fn reference(
-    rt: &HostRuntime,
-    raw: &str,
-    ns: &str,
-    kind: ReferenceType,
-) -> Result<ConditionalName, Fail> {
-    let raw = made(RawName::from_normalized_str(rt.alloc(), raw))?;
-    if ns.is_empty() {
-        return made(raw.conditionally_qualify_with(rt.alloc(), None, kind));
-    }
-    let (raw, ns) = beside(raw, InternalName::from_normalized_str(rt.alloc(), ns))?;
-    made(raw.conditionally_qualify_with(rt.alloc(), Some(&ns), kind))
-}
-
-// The name that the reference stands for, printed, or the error's text.
-fn resolved(rt: &HostRuntime, name: ConditionalName, all_defs: &AllDefs) -> Result<String, Fail> {
-    match name.resolve(all_defs) {
-        Ok(name) => Ok(name.to_string(rt.alloc())?),
-        Err(e) => Ok(e.to_string(rt.alloc())?),
-    }
-}
-
-#[test]
-fn resolves_the_first_declared_possibility(rt: HostRuntime) -> Result<(), Fail> {
-    use ReferenceType::{Common, CommonOrEntity, Entity};
-    let rows = [
-        ("Foo", "NS", CommonOrEntity, "Foo", "NS::Foo", "NS::Foo"),
-        ("Foo", "NS", Entity, "Foo", "NS::Foo", "NS::Foo"),
-        ("Foo", "NS", Common, "Foo", "NS::Foo", "Foo"),
-        ("Foo", "NS", CommonOrEntity, "", "", "`Foo` is not declared"),
-        ("Foo", "NS", Common, "NS::Foo|Foo", "", "NS::Foo"),
-        (
-            "A::Foo",
-            "NS",
-            CommonOrEntity,
-            "",
-            "NS::A::Foo",
-            "`A::Foo` is not declared",
-        ),
-        ("Foo", "", Entity, "Foo", "", "`Foo` is not declared"),
-        (
-            "__cedar::String",
-            "NS",
-            Common,
-            "__cedar::String",
-            "",
-            "__cedar::String",
-        ),
-        ("Foo", "", CommonOrEntity, "", "Foo", "Foo"),
-    ];
-    for (raw, ns, kind, common, entity, want) in rows {
-        let all_defs = AllDefs::new(names(&rt, common)?, names(&rt, entity)?);
-        let name = reference(&rt, raw, ns, kind)?;
-        assert_eq!(rt; resolved(&rt, name, &all_defs)?.as_str(), want);
-    }
-    Ok(())
-}
-
-#[test]
-fn refuses_with_the_reference(rt: HostRuntime) -> Result<(), Fail> {
-    let all_defs = AllDefs::new(names(&rt, "B")?, names(&rt, "NS::A::Foo")?);
-    assert!(rt; all_defs.is_defined_as_common(&internal(&rt, "B")?));
-    assert!(rt; all_defs.is_defined_as_entity(&internal(&rt, "NS::A::Foo")?));
-    let name = reference(&rt, "A::Foo", "NS", ReferenceType::CommonOrEntity)?;
-    let copy = name.clone(rt.alloc())?;
-    let refused = name.resolve(&all_defs).err().ok_or("not declared")?;
-    assert!(rt; refused.undefined_types == copy);
-    Ok(())
-}
-
-// Whether the reference to `Foo` equals the one of common types in `NS`.
-fn is_common_in_ns(rt: &HostRuntime, ns: &str, kind: ReferenceType) -> Result<bool, Fail> {
-    let ns = internal(rt, ns)?;
-    let raw = made(RawName::from_normalized_str(rt.alloc(), "Foo"))?;
-    let there = raw.conditionally_qualify_with(rt.alloc(), Some(&ns), kind);
-    is_equal(reference(rt, "Foo", "NS", ReferenceType::Common)?, there)
-}
-
-#[test]
-fn compares_references(rt: HostRuntime) -> Result<(), Fail> {
-    assert!(rt; is_common_in_ns(&rt, "NS", ReferenceType::Common)?);
-    assert!(rt; !is_common_in_ns(&rt, "MS", ReferenceType::Common)?);
-    assert!(rt; !is_common_in_ns(&rt, "NS", ReferenceType::Entity)?);
-    Ok(())
-}
-
-// Whether the reference and its raw name have this place.
-fn is_at(here: &ConditionalName, whole: &Loc) -> bool {
-    here.loc() == Some(whole) && here.raw().loc() == Some(whole)
-}
-
-#[test]
-fn keeps_the_places_of_references(rt: HostRuntime) -> Result<(), Fail> {
-    let whole = loc(&rt, 0, 3, "Foo")?;
-    assert!(rt; is_at(&reference(&rt, "Foo", "NS", ReferenceType::Common)?, &whole));
-    Ok(())
-}
-
-#[test]
-fn stands_for_one_name(rt: HostRuntime) -> Result<(), Fail> {
-    let kind = ReferenceType::Entity;
-    let alone = ConditionalName::unconditional(rt.alloc(), internal(&rt, "A::Foo")?, kind)?;
-    assert!(rt; alone == reference(&rt, "A::Foo", "NS", kind)?);
-    let all_defs = AllDefs::new(names(&rt, "")?, names(&rt, "A::Foo")?);
-    assert_eq!(rt; resolved(&rt, alone, &all_defs)?.as_str(), "A::Foo");
-    Ok(())
-}
-
-#[test]
-fn makes_raw_names(rt: HostRuntime) -> Result<(), Fail> {
-    let raw = RawName::new(id(&rt, "foo")?, Some(loc(&rt, 0, 3, "foo")?));
-    assert!(rt; raw.is_unqualified());
-    assert!(rt; raw.clone(rt.alloc())?.loc() == raw.loc());
-    assert!(rt; raw == RawName::new_from_unreserved(unreserved(&rt)?, None));
-    Ok(())
-}
-
-#[test]
-fn compares_raw_names(rt: HostRuntime) -> Result<(), Fail> {
-    let raw = RawName::parse_unqualified_name(rt.alloc(), "foo")?;
-    assert!(rt; raw == RawName::new(id(&rt, "foo")?, None));
-    assert!(rt; raw == RawName::from_name(internal(&rt, "foo")?));
-    assert!(rt; raw < RawName::from_normalized_str(rt.alloc(), "A::foo")?);
-    Ok(())
-}
-
-fn raw_qualified(rt: &HostRuntime, namespace: &str) -> Result<InternalName, Fail> {
-    let raw = RawName::parse_unqualified_name(rt.alloc(), "foo");
-    let (namespace, raw) = beside(internal(rt, namespace)?, raw)?;
-    made(raw.qualify_with(rt.alloc(), Some(&namespace)))
-}
-
-fn raw_qualified_by_name(rt: &HostRuntime, namespace: &str) -> Result<InternalName, Fail> {
-    let raw = RawName::parse_unqualified_name(rt.alloc(), "foo");
-    let (namespace, raw) = beside(name(rt, namespace)?, raw)?;
-    made(raw.qualify_with_name(rt.alloc(), Some(&namespace)))
-}
-
-#[test]
-fn qualifies_raw_names(rt: HostRuntime) -> Result<(), Fail> {
-    assert!(rt; is_named(&rt, raw_qualified(&rt, "A")?, "A::foo")?);
-    assert!(rt; is_named(&rt, raw_qualified_by_name(&rt, "A")?, "A::foo")?);
-    Ok(())
-}
-
-#[test]
-fn shows_raw_names(rt: HostRuntime) -> Result<(), Fail> {
-    let raw = RawName::from_name(internal(&rt, "A::foo")?);
-    assert_eq!(rt; raw.to_string(rt.alloc())?.as_str(), "A::foo");
-    Ok(())
-}
-
-#[test]
-fn refuses_raw_names(rt: HostRuntime) -> Result<(), Fail> {
-    let refused = RawName::from_normalized_str(rt.alloc(), "a::if");
-    assert!(rt; is_refused(&rt, refused, "not a normalized internal name")?);
-    let refused = RawName::parse_unqualified_name(rt.alloc(), "a::b");
-    assert!(rt; is_refused(&rt, refused, "not a normalized Id")?);
     Ok(())
 }

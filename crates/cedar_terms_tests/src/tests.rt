@@ -1,13 +1,16 @@
 // Values from outside: texts, matching, orders, and each call once.
+mod patterns;
+
 use cedar_names::{FromNormalizedStr, Id, InternalName, Loc, Name, PrincipalOrResource};
 use cedar_terms::{
     BinaryOp, EntityType, EntityUID, Escaped, Literal, Pattern, PatternElem, SchemaType,
-    StaticallyTyped, Turns, Type, UnaryOp, Unknown, Var, try_splits,
+    StaticallyTyped, Type, UnaryOp, Unknown, Var,
 };
+use std::alloc::AllocFailed;
 use std::boxed::Box;
 use std::collections::{BTreeMap, HashSet};
 use std::convert::{AsStr, TryFrom};
-use std::fmt::Display;
+use std::fmt::{Debug, Display};
 use std::rc::{Rc, RcStr};
 use std::test::Fail;
 
@@ -22,6 +25,27 @@ fn check_text<T: Display>(rt: &HostRuntime, x: &T, want: &str) -> Result<(), Fai
         return Ok(());
     }
     Err(Fail::from(text))
+}
+
+// What was made. A `?` beside a value of a large type is dear to check, one in a generic function
+// is not, so answers go whole through these functions.
+fn made<T: Drop, E: Debug + Drop>(answer: Result<T, E>) -> Result<T, Fail> {
+    Ok(answer?)
+}
+
+fn check_made<T: Display + Drop, E: Debug + Drop>(
+    rt: &HostRuntime,
+    answer: Result<T, E>,
+    want: &str,
+) -> Result<(), Fail> {
+    check_text(rt, &made(answer)?, want)
+}
+
+fn is_equal<T: PartialEq + Drop, E: Debug + Drop>(
+    first: T,
+    second: Result<T, E>,
+) -> Result<bool, Fail> {
+    Ok(first == second?)
 }
 
 fn name(rt: &HostRuntime, text: &str) -> Result<Name, Fail> {
@@ -58,6 +82,12 @@ fn pattern(rt: &HostRuntime, text: &str) -> Result<Pattern, Fail> {
             PatternElem::Char(c)
         })?;
     }
+    Ok(Pattern::from_vec(rt.alloc(), elems)?)
+}
+
+// The pattern of this character alone, also where it is `*`.
+fn pattern_of_char(rt: &HostRuntime, c: char) -> Result<Pattern, Fail> {
+    let elems = Vec::from_array(rt.alloc(), [PatternElem::Char(c)])?;
     Ok(Pattern::from_vec(rt.alloc(), elems)?)
 }
 
@@ -134,9 +164,8 @@ fn check_escape(rt: &HostRuntime, c: char, want: &str) -> Result<(), Fail> {
     let mut one = String::new(rt.alloc());
     one.push(c)?;
     check_text(rt, &Escaped(one.as_str()), want)?;
-    let elems = Vec::from_array(rt.alloc(), [PatternElem::Char(c)])?;
-    let pattern = Pattern::from_vec(rt.alloc(), elems)?;
-    check_text(rt, &pattern, if c == '*' { "\\*" } else { want })
+    let star_or_want = if c == '*' { "\\*" } else { want };
+    check_text(rt, &pattern_of_char(rt, c)?, star_or_want)
 }
 
 #[test]
@@ -166,232 +195,25 @@ fn texts_of_patterns(rt: HostRuntime) -> Result<(), Fail> {
     Ok(())
 }
 
-// The word `example`, each letter with marks above and below it.
-const EXAMPLE: &str =
-    "e\u{336}\u{351}\u{35d}\u{330}x\u{336}\u{35b}\u{354}a\u{335}\u{35b}\u{330}\u{32f}m\u{334}\u{30b}\u{301}\u{349}p\u{337}\u{342}\u{320}l\u{335}\u{30d}\u{314}\u{347}e\u{336}\u{35d}\u{327}\u{323}";
-
-// Checks whether each pattern, by `|`, matches the text.
-fn check_matches(rt: &HostRuntime, patterns: &str, value: &str, want: bool) -> Result<(), Fail> {
-    for elems in patterns.split('|') {
-        if pattern(rt, elems)?.wildcard_match(value) != want {
-            return Err(Fail::from(format!(in rt.alloc(); "{elems} on {value}")?));
-        }
-    }
-    Ok(())
-}
-
-#[test]
-fn matches_of_wildcards(rt: HostRuntime) -> Result<(), Fail> {
-    let foo_bar = "f**r|foo*|*bar|*o b*|f* bar|*f***";
-    check_matches(&rt, foo_bar, "foo bar", true)?;
-    let others = "*bo*||*foo|bar*|f*br|*x***";
-    check_matches(&rt, others, "foo bar", false)?;
-    check_matches(&rt, "*ab", "aab", true)?;
-    check_matches(&rt, "|*", "", true)?;
-    check_matches(&rt, "foo bar", "", false)?;
-    check_matches(&rt, "*", "*", true)?;
-    check_matches(&rt, "\0|\\u{0000}", "*", false)?;
-    let star = Vec::from_array(rt.alloc(), [PatternElem::Char('*')])?;
-    assert!(rt; Pattern::from_vec(rt.alloc(), star)?.wildcard_match("*"));
-    Ok(())
-}
-
-#[test]
-fn matches_of_marks(rt: HostRuntime) -> Result<(), Fail> {
-    check_matches(&rt, "y*|y\u{306}", "y\u{306}", true)?;
-    check_matches(&rt, "*p*", "y\u{306}", false)?;
-    let inside = "*p*|*a\u{335}\u{35b}\u{330}\u{32f}m\u{334}\u{30b}\u{301}\u{349}*";
-    check_matches(&rt, inside, EXAMPLE, true)?;
-    check_matches(&rt, "y*", EXAMPLE, false)
-}
-
-// The count is set by each call, whatever it held before.
-#[test]
-fn turns_of_matches(rt: HostRuntime) -> Result<(), Fail> {
-    let mut turns = Turns::new();
-    assert_eq!(rt; turns.get(), 0);
-    for (elems, value, want, count, bound) in [
-        ("*ab", "aab", true, 5, 12),
-        ("*", "abc", true, 1, 6),
-        ("abc", "abc", true, 3, 12),
-        ("ab", "ac", false, 2, 6),
-        ("*a", "bb", false, 3, 6),
-        ("*a*b", "aaab", true, 6, 20),
-        ("", "foo bar", false, 0, 7),
-        ("*", "", true, 0, 0),
-        ("*a*a*b", "aaaa", false, 7, 28),
-        (
-            "********************b",
-            "aaaaaaaaaaaaaaaaaaaaaaaaaaaaaaaaaaaaaaaa",
-            false,
-            60,
-            880,
-        ),
-    ] {
-        let most = check_turns(&rt, elems, value, want, &mut turns)?;
-        assert_eq!(rt; (turns.get(), most), (count, bound), "{elems} on {value}");
-    }
-    Ok(())
-}
-
-// Checks the answer of both calls, sets the turns, and gives the bound: for each character of the
-// text one turn for each element, and one more.
-fn check_turns(
-    rt: &HostRuntime,
-    elems: &str,
-    value: &str,
-    want: bool,
-    turns: &mut Turns,
-) -> Result<usize, Fail> {
-    let p = pattern(rt, elems)?;
-    let answer = p.wildcard_match_counted(value, turns);
-    if answer != want || p.wildcard_match(value) != want {
-        return Err(Fail::from(format!(in rt.alloc(); "{elems} on {value}")?));
-    }
-    let turns_each = p.len().saturating_add(1);
-    Ok(value.chars().count().saturating_mul(turns_each))
-}
-
-// Where the loop goes back to the latest wildcard alone, trying every split takes more steps than
-// the bound has turns.
-#[test]
-fn turns_beside_every_split(rt: HostRuntime) -> Result<(), Fail> {
-    let p = pattern(&rt, "*a*a*b")?;
-    let (answer, steps) = try_splits(p.get_elems(), "aaaaaaaa");
-    let mut turns = Turns::new();
-    assert!(rt; !answer && !p.wildcard_match_counted("aaaaaaaa", &mut turns));
-    assert_eq!(rt; turns.get(), 11);
-    assert!(rt; steps > 56, "{steps}");
-    Ok(())
-}
-
-// Each character of the text takes one turn here, and each wildcard one.
-#[test]
-fn matches_of_long_texts(rt: HostRuntime) -> Result<(), Fail> {
-    let mut value = String::new(rt.alloc());
-    for _i in 0..1_000_000 {
-        value.push('a')?;
-    }
-    let itself = pattern(&rt, value.as_str())?;
-    assert!(rt; itself.wildcard_match(value.as_str()));
-    let mut turns = Turns::new();
-    for (elems, want, count) in [
-        ("*b", false, 1_000_001),
-        ("*a*", true, 3),
-        ("a*", true, 2),
-        ("*\u{306}", false, 1_000_001),
-        ("b", false, 1),
-    ] {
-        let p = pattern(&rt, elems)?;
-        let answer = p.wildcard_match_counted(value.as_str(), &mut turns);
-        assert_eq!(rt; answer, want, "{elems}");
-        assert_eq!(rt; turns.get(), count, "{elems}");
-    }
-    Ok(())
-}
-
-// Whether the elements match the text: after each element, the lengths of the beginnings of the
-// text that the elements so far match.
-fn matches_by_lengths(rt: &HostRuntime, elems: &[PatternElem], text: &str) -> Result<bool, Fail> {
-    let mut reached = Vec::from_array(rt.alloc(), [true])?;
-    for _c in text.chars() {
-        reached.push(false)?;
-    }
-    for elem in elems {
-        let mut next = Vec::new(rt.alloc());
-        let mut before = false;
-        let mut codes = text.chars();
-        for here in reached.as_slice() {
-            match elem {
-                PatternElem::Wildcard => {
-                    before = before || *here;
-                    next.push(before)?;
-                }
-                PatternElem::Char(c) => {
-                    next.push(before)?;
-                    let code = codes.next();
-                    before = *here && code == Some(*c);
-                }
-            }
-        }
-        reached = next;
-    }
-    Ok(reached.last() == Some(&true))
-}
-
-// The pattern of this length whose elements are the digits of the code in base 3.
-fn pattern_of_code(rt: &HostRuntime, length: u32, code: u32) -> Result<Pattern, Fail> {
-    let mut elems = Vec::new(rt.alloc());
-    let mut rest = code;
-    for _i in 0..length {
-        elems.push(match rest % 3 {
-            0 => PatternElem::Char('a'),
-            1 => PatternElem::Char('b'),
-            _ => PatternElem::Wildcard,
-        })?;
-        rest /= 3;
-    }
-    Ok(Pattern::from_vec(rt.alloc(), elems)?)
-}
-
-// How many short texts the pattern matches as it should.
-fn short_texts_in_agreement(rt: &HostRuntime, p: &Pattern) -> Result<u64, Fail> {
-    let mut count = 0u64;
-    for value in SHORT_TEXTS {
-        if p.wildcard_match(value) == matches_by_lengths(rt, p.get_elems(), value)? {
-            count = count.saturating_add(1);
-        }
-    }
-    Ok(count)
-}
-
-#[test]
-fn matches_of_short_patterns(rt: HostRuntime) -> Result<(), Fail> {
-    for (length, count) in [(0, 1), (1, 3), (2, 9), (3, 27), (4, 81)] {
-        for code in 0..count {
-            let p = pattern_of_code(&rt, length, code)?;
-            assert_eq!(rt; short_texts_in_agreement(&rt, &p)?, 31, "{p}");
-        }
-    }
-    Ok(())
-}
-
-const SHORT_TEXTS: [&str; 31] = [
-    "", "a", "b", "aa", "ab", "ba", "bb", "aaa", "aab", "aba", "abb", "baa", "bab", "bba", "bbb",
-    "aaaa", "aaab", "aaba", "aabb", "abaa", "abab", "abba", "abbb", "baaa", "baab", "baba", "babb",
-    "bbaa", "bbab", "bbba", "bbbb",
-];
-
-#[test]
-fn calls_of_patterns(rt: HostRuntime) -> Result<(), Fail> {
-    let p = pattern(&rt, "a*")?;
-    assert!(rt; p.len() == 2 && !p.is_empty());
-    assert!(rt; pattern(&rt, "")?.is_empty());
-    assert!(rt; Pattern::from_items(rt.alloc(), p.iter().copied())? == p);
-    assert!(rt; p.clone(rt.alloc())? == p);
-    let elems = Vec::from_array(rt.alloc(), [PatternElem::Char('a'), PatternElem::Wildcard])?;
-    assert!(rt; Pattern::from(Rc::new(rt.alloc(), elems)?) == p);
-    Ok(())
-}
-
-#[test]
-fn order_of_patterns(rt: HostRuntime) -> Result<(), Fail> {
-    let rising = ["", "a", "ab", "a*", "b", "\u{10ffff}", "*", "*a"];
-    for (elems, further) in rising.iter().zip(rising.iter().skip(1)) {
-        assert!(rt; pattern(&rt, elems)? < pattern(&rt, further)?, "{elems}");
-    }
-    Ok(())
-}
-
-#[test]
-fn texts_of_operators(rt: HostRuntime) -> Result<(), Fail> {
-    let unary = [UnaryOp::Not, UnaryOp::Neg, UnaryOp::IsEmpty];
+// The text of each, with a space after it.
+fn spaced<T: Display>(rt: &HostRuntime, items: &[T]) -> Result<String, Fail> {
     let mut shown = String::new(rt.alloc());
-    for op in unary {
-        shown.push_str(printed(&rt, &op)?.as_str())?;
+    for item in items {
+        shown.push_str(printed(rt, item)?.as_str())?;
         shown.push(' ')?;
     }
-    assert_eq!(rt; shown.as_str(), "! - isEmpty ");
+    Ok(shown)
+}
+
+#[test]
+fn texts_of_unary_operators(rt: HostRuntime) -> Result<(), Fail> {
+    let unary = [UnaryOp::Not, UnaryOp::Neg, UnaryOp::IsEmpty];
+    assert_eq!(rt; spaced(&rt, &unary)?.as_str(), "! - isEmpty ");
+    Ok(())
+}
+
+#[test]
+fn texts_of_binary_operators(rt: HostRuntime) -> Result<(), Fail> {
     let binary = [
         BinaryOp::Eq,
         BinaryOp::Less,
@@ -406,17 +228,16 @@ fn texts_of_operators(rt: HostRuntime) -> Result<(), Fail> {
         BinaryOp::GetTag,
         BinaryOp::HasTag,
     ];
-    let mut shown = String::new(rt.alloc());
-    for op in binary {
-        shown.push_str(printed(&rt, &op)?.as_str())?;
-        shown.push(' ')?;
-    }
     assert_eq!(rt;
-        shown.as_str(),
+        spaced(&rt, &binary)?.as_str(),
         "== < <= + - * in contains containsAll containsAny getTag hasTag "
     );
-    assert!(rt; BinaryOp::Eq < BinaryOp::Less && BinaryOp::GetTag < BinaryOp::HasTag);
     Ok(())
+}
+
+#[test]
+fn order_of_operators(rt: HostRuntime) {
+    assert!(rt; BinaryOp::Eq < BinaryOp::Less && BinaryOp::GetTag < BinaryOp::HasTag);
 }
 
 #[test]
@@ -428,30 +249,57 @@ fn variables(rt: HostRuntime) -> Result<(), Fail> {
         (Var::Context, "context"),
     ] {
         check_text(&rt, &var, want)?;
-        check_text(&rt, &var.to_id(rt.alloc())?, want)?;
-        check_text(&rt, &var.to_unreserved_id(rt.alloc())?, want)?;
+        check_made(&rt, var.to_id(rt.alloc()), want)?;
+        check_made(&rt, var.to_unreserved_id(rt.alloc()), want)?;
     }
+    Ok(())
+}
+
+#[test]
+fn variables_of_slots(rt: HostRuntime) -> Result<(), Fail> {
     assert!(rt; Var::from(PrincipalOrResource::Principal) == Var::Principal);
     assert!(rt; Var::from(PrincipalOrResource::Resource) == Var::Resource);
     Ok(())
 }
 
+// The entity `foo` of the type that `with_eid` gives.
+fn foo(rt: &HostRuntime) -> Result<EntityUID, Fail> {
+    Ok(EntityUID::with_eid(rt.alloc(), "foo")?)
+}
+
 #[test]
 fn entities(rt: HostRuntime) -> Result<(), Fail> {
-    let foo = EntityUID::with_eid(rt.alloc(), "foo")?;
+    let foo = foo(&rt)?;
     check_text(&rt, &foo, "test_entity_type::\"foo\"")?;
     assert_eq!(rt; foo.eid(), "foo");
     check_text(&rt, foo.entity_type(), "test_entity_type")?;
-    check_text(&rt, foo.entity_type().name(), "test_entity_type")?;
-    assert!(rt; foo.clone(rt.alloc())? == foo);
-    check_type(&rt, &foo, "(entity of type `test_entity_type`)")
+    check_text(&rt, foo.entity_type().name(), "test_entity_type")
+}
+
+#[test]
+fn copies_of_entities(rt: HostRuntime) -> Result<(), Fail> {
+    let foo = foo(&rt)?;
+    let copy = foo.clone(rt.alloc());
+    assert!(rt; is_equal(foo, copy)?);
+    Ok(())
+}
+
+#[test]
+fn types_of_entities(rt: HostRuntime) -> Result<(), Fail> {
+    check_type(&rt, &foo(&rt)?, "(entity of type `test_entity_type`)")
+}
+
+// Whether the first entity, a type and an identifier, is below the second.
+fn is_entity_below(rt: &HostRuntime, low: [&str; 2], high: [&str; 2]) -> Result<bool, Fail> {
+    let low = uid(rt, low[0], low[1])?;
+    Ok(low < uid(rt, high[0], high[1])?)
 }
 
 #[test]
 fn order_of_entities(rt: HostRuntime) -> Result<(), Fail> {
-    assert!(rt; uid(&rt, "A", "z")? < uid(&rt, "B", "a")?);
-    assert!(rt; uid(&rt, "Z::A", "z")? < uid(&rt, "A::B", "a")?);
-    assert!(rt; uid(&rt, "A", "y")? < uid(&rt, "A", "z")?);
+    assert!(rt; is_entity_below(&rt, ["A", "z"], ["B", "a"])?);
+    assert!(rt; is_entity_below(&rt, ["Z::A", "z"], ["A::B", "a"])?);
+    assert!(rt; is_entity_below(&rt, ["A", "y"], ["A", "z"])?);
     Ok(())
 }
 
@@ -460,13 +308,20 @@ fn places_of_entity_types(rt: HostRuntime) -> Result<(), Fail> {
     let here = EntityType::from(name(&rt, "A")?);
     let there = EntityType::from(name_elsewhere(&rt, "A")?);
     assert!(rt; here == there && here.cmp(&there).is_eq());
-    assert!(rt; there.clone(rt.alloc())?.name().loc() == there.name().loc());
+    Ok(())
+}
+
+#[test]
+fn copies_of_entity_types(rt: HostRuntime) -> Result<(), Fail> {
+    let there = EntityType::from(name_elsewhere(&rt, "A")?);
+    let copy = made(there.clone(rt.alloc()))?;
+    assert!(rt; copy.name().loc() == there.name().loc());
     Ok(())
 }
 
 // Checks the type's text, through the trait.
 fn check_type<T: StaticallyTyped>(rt: &HostRuntime, x: &T, want: &str) -> Result<(), Fail> {
-    check_text(rt, &x.type_of(rt.alloc())?, want)
+    check_made(rt, x.type_of(rt.alloc()), want)
 }
 
 // A literal of each kind and more, each above the one before, none of a shared entity type.
@@ -509,18 +364,35 @@ fn types_of_literals(rt: HostRuntime) -> Result<(), Fail> {
 fn order_of_literals(rt: HostRuntime) -> Result<(), Fail> {
     let rising = rising_literals(&rt)?;
     for (x, y) in rising.iter().zip(rising.iter().skip(1)) {
-        assert!(rt; x < y && x != y && x.clone(rt.alloc())? == *x);
+        assert!(rt; x < y && x != y);
     }
+    Ok(())
+}
+
+#[test]
+fn copies_of_literals(rt: HostRuntime) -> Result<(), Fail> {
+    for x in rising_literals(&rt)?.iter() {
+        assert!(rt; made(x.clone(rt.alloc()))? == *x);
+    }
+    Ok(())
+}
+
+#[test]
+fn literals_of_one_entity(rt: HostRuntime) -> Result<(), Fail> {
     let same = entity_elsewhere(&rt)?;
-    assert!(rt; same.clone(rt.alloc())? == same && same == entity(&rt, "A", "b")?);
+    let copy = same.clone(rt.alloc());
+    assert!(rt; is_equal(same, copy)?);
+    assert!(rt; entity_elsewhere(&rt)? == entity(&rt, "A", "b")?);
     Ok(())
 }
 
 #[test]
 fn sources_of_literals(rt: HostRuntime) -> Result<(), Fail> {
-    let z = text(&rt, "Z")?;
-    assert!(rt; Literal::from_string(rt.alloc(), String::from_str(rt.alloc(), "Z")?)? == z);
-    assert!(rt; Literal::from(RcStr::from_str(rt.alloc(), "Z")?) == z);
+    let z = String::from_str(rt.alloc(), "Z")?;
+    let of_string = made(Literal::from_string(rt.alloc(), z))?;
+    assert!(rt; is_equal(of_string, Literal::from_text(rt.alloc(), "Z"))?);
+    let z = RcStr::from_str(rt.alloc(), "Z")?;
+    assert!(rt; is_equal(Literal::from(z), Literal::from_text(rt.alloc(), "Z"))?);
     Ok(())
 }
 
@@ -573,7 +445,14 @@ fn texts_of_types(rt: HostRuntime) -> Result<(), Fail> {
     ];
     for (ty, want) in rising_types(&rt)?.iter().zip(texts) {
         check_text(&rt, ty, want)?;
-        assert!(rt; ty.clone(rt.alloc())? == *ty);
+    }
+    Ok(())
+}
+
+#[test]
+fn copies_of_types(rt: HostRuntime) -> Result<(), Fail> {
+    for ty in rising_types(&rt)?.iter() {
+        assert!(rt; made(ty.clone(rt.alloc()))? == *ty);
     }
     Ok(())
 }
@@ -597,20 +476,65 @@ fn sets_of_types(rt: HostRuntime) -> Result<(), Fail> {
     Ok(())
 }
 
+fn untyped(rt: &HostRuntime) -> Result<Unknown, Fail> {
+    Ok(Unknown::new_untyped(RcStr::from_str(rt.alloc(), "x")?))
+}
+
+fn typed(rt: &HostRuntime, ty: Type) -> Result<Unknown, Fail> {
+    let x = made(RcStr::from_str(rt.alloc(), "x"))?;
+    Ok(Unknown::new_with_type(x, ty))
+}
+
+fn entity_unknown(rt: &HostRuntime) -> Result<Unknown, Fail> {
+    typed(rt, Type::entity_type(name(rt, "A")?))
+}
+
+// The same with its type's name at another place.
+fn unknown_elsewhere(rt: &HostRuntime) -> Result<Unknown, Fail> {
+    typed(rt, Type::entity_type(name_elsewhere(rt, "A")?))
+}
+
+// Unknowns of one name: of no type, of type `long`, and of the entity type `A`.
+fn different_unknowns(rt: &HostRuntime) -> Result<Vec<Unknown>, Fail> {
+    let mut made = Vec::new(rt.alloc());
+    made.push(untyped(rt)?)?;
+    made.push(typed(rt, Type::Long)?)?;
+    made.push(entity_unknown(rt)?)?;
+    Ok(made)
+}
+
 #[test]
 fn unknowns(rt: HostRuntime) -> Result<(), Fail> {
-    let x = RcStr::from_str(rt.alloc(), "x")?;
-    let plain = Unknown::new_untyped(x.clone()?);
-    let long = Unknown::new_with_type(x.clone()?, Type::Long);
-    let here = Unknown::new_with_type(x.clone()?, Type::entity_type(name(&rt, "A")?));
-    let there = Unknown::new_with_type(x, Type::entity_type(name_elsewhere(&rt, "A")?));
-    assert!(rt; plain != long && long != here && here == there);
-    assert!(rt; plain.clone(rt.alloc())? == plain && there.clone(rt.alloc())? == here);
+    let different = different_unknowns(&rt)?;
+    for (x, y) in different.iter().zip(different.iter().skip(1)) {
+        assert!(rt; x != y);
+    }
+    assert!(rt; different.last() == Some(&unknown_elsewhere(&rt)?));
+    Ok(())
+}
+
+#[test]
+fn copies_of_unknowns(rt: HostRuntime) -> Result<(), Fail> {
+    let plain = untyped(&rt)?;
+    let copy = plain.clone(rt.alloc());
+    assert!(rt; is_equal(plain, copy)?);
+    Ok(())
+}
+
+#[test]
+fn copies_of_unknowns_with_a_type(rt: HostRuntime) -> Result<(), Fail> {
+    let copy = made(unknown_elsewhere(&rt)?.clone(rt.alloc()))?;
+    assert!(rt; copy == entity_unknown(&rt)?);
+    Ok(())
+}
+
+#[test]
+fn sets_of_unknowns(rt: HostRuntime) -> Result<(), Fail> {
     let mut set = HashSet::new(rt.alloc());
-    assert!(rt; set.insert(plain)?);
-    assert!(rt; set.insert(long)?);
-    assert!(rt; set.insert(here)?);
-    assert!(rt; !set.insert(there)?);
+    for x in different_unknowns(&rt)? {
+        assert!(rt; set.insert(x)?);
+    }
+    assert!(rt; !set.insert(unknown_elsewhere(&rt)?)?);
     Ok(())
 }
 
@@ -620,7 +544,7 @@ fn extension(rt: &HostRuntime, text: &str) -> Result<SchemaType, Fail> {
     })
 }
 
-fn set_of(rt: &HostRuntime, ty: SchemaType) -> Result<SchemaType, Fail> {
+fn set_of(rt: &HostRuntime, ty: SchemaType) -> Result<SchemaType, AllocFailed<SchemaType>> {
     Ok(SchemaType::Set {
         element_ty: Box::new(rt.alloc(), ty)?,
     })
@@ -634,21 +558,24 @@ fn record_type(rt: &HostRuntime) -> Result<SchemaType, Fail> {
     Ok(SchemaType::Record { attrs })
 }
 
+// The names of the extension types inside, each with a space after it.
+fn extension_types(rt: &HostRuntime, ty: &SchemaType) -> Result<String, Fail> {
+    let names = made(ty.contained_ext_types(rt.alloc()))?;
+    spaced(rt, names.as_slice())
+}
+
 #[test]
 fn extension_types_inside(rt: HostRuntime) -> Result<(), Fail> {
-    let mut found = String::new(rt.alloc());
-    for name in record_type(&rt)?.contained_ext_types(rt.alloc())? {
-        found.push_str(printed(&rt, &name)?.as_str())?;
-        found.push(' ')?;
-    }
+    let found = extension_types(&rt, &record_type(&rt)?)?;
     assert_eq!(rt; found.as_str(), "y x ");
     Ok(())
 }
 
 // Checks the text of the type that its values have, and a copy.
 fn check_schema_type(rt: &HostRuntime, ty: SchemaType, want: &str) -> Result<(), Fail> {
-    check_text(rt, &ty.to_type(rt.alloc())?, want)?;
-    if ty.clone(rt.alloc())? == ty {
+    check_made(rt, ty.to_type(rt.alloc()), want)?;
+    let copy = ty.clone(rt.alloc());
+    if is_equal(ty, copy)? {
         return Ok(());
     }
     Err(Fail::from("a copy that differs"))
@@ -659,9 +586,17 @@ fn schema_types(rt: HostRuntime) -> Result<(), Fail> {
     check_schema_type(&rt, SchemaType::Bool, "bool")?;
     check_schema_type(&rt, SchemaType::Long, "long")?;
     check_schema_type(&rt, SchemaType::String, "string")?;
+    check_schema_type(&rt, SchemaType::EmptySet, "set")
+}
+
+#[test]
+fn schema_types_with_types_inside(rt: HostRuntime) -> Result<(), Fail> {
     check_schema_type(&rt, set_of(&rt, SchemaType::Long)?, "set")?;
-    check_schema_type(&rt, SchemaType::EmptySet, "set")?;
-    check_schema_type(&rt, record_type(&rt)?, "record")?;
+    check_schema_type(&rt, record_type(&rt)?, "record")
+}
+
+#[test]
+fn schema_types_with_names(rt: HostRuntime) -> Result<(), Fail> {
     check_schema_type(&rt, extension(&rt, "x")?, "x")?;
     let ty = EntityType::from(name(&rt, "A")?);
     check_schema_type(&rt, SchemaType::Entity { ty }, "(entity of type `A`)")
@@ -669,7 +604,8 @@ fn schema_types(rt: HostRuntime) -> Result<(), Fail> {
 
 #[test]
 fn schema_types_differ(rt: HostRuntime) -> Result<(), Fail> {
-    assert!(rt; set_of(&rt, SchemaType::Long)? != set_of(&rt, SchemaType::Bool)?);
-    assert!(rt; set_of(&rt, SchemaType::Long)? != SchemaType::EmptySet);
+    let of_bools = set_of(&rt, SchemaType::Bool)?;
+    assert!(rt; !is_equal(of_bools, set_of(&rt, SchemaType::Long))?);
+    assert!(rt; !is_equal(SchemaType::EmptySet, set_of(&rt, SchemaType::Long))?);
     Ok(())
 }

@@ -52,7 +52,8 @@ fn are_both(
 
 // The expression is this node, and has no place.
 fn is_node(made: Expr<()>, kind: ExprKind<()>) -> bool {
-    made.source_loc().is_none() && made == node(kind)
+    let wanted = node(kind);
+    made.source_loc().is_none() && made == wanted
 }
 
 fn u(rt: &HostRuntime) -> Result<Unknown, Fail> {
@@ -179,16 +180,20 @@ fn operators_on_two_arguments(rt: HostRuntime) -> Result<(), Fail> {
 }
 
 #[test]
-fn operators_by_their_code(rt: HostRuntime) -> Result<(), Fail> {
-    let alloc = rt.alloc();
+fn unary_operators_by_their_code(rt: HostRuntime) -> Result<(), Fail> {
     let wanted = unary(&rt, UnaryOp::Neg, x())?;
-    let made = Expr::unary_app(alloc, UnaryOp::Neg, x())?;
-    let built = at(&rt, 1)?.unary_app(alloc, UnaryOp::Neg, x())?;
+    let made = Expr::unary_app(rt.alloc(), UnaryOp::Neg, x())?;
+    let built = at(&rt, 1)?.unary_app(rt.alloc(), UnaryOp::Neg, x())?;
     assert!(rt; are_both(&rt, &wanted, &made, &built)?);
+    Ok(())
+}
+
+#[test]
+fn binary_operators_by_their_code(rt: HostRuntime) -> Result<(), Fail> {
     let any = BinaryOp::ContainsAny;
     let wanted = binary(&rt, any)?;
-    let made = Expr::binary_app(alloc, any, x(), y())?;
-    let built = at(&rt, 1)?.binary_app(alloc, any, x(), y())?;
+    let made = Expr::binary_app(rt.alloc(), any, x(), y())?;
+    let built = at(&rt, 1)?.binary_app(rt.alloc(), any, x(), y())?;
     assert!(rt; are_both(&rt, &wanted, &made, &built)?);
     Ok(())
 }
@@ -217,33 +222,57 @@ pub fn negated_built<T: Default + Copy>(
     }
 }
 
-// The inner node has the builder's place too.
+// Both make this negation, and the inner node has the builder's place too.
+fn are_negations(
+    rt: &HostRuntime,
+    op: BinaryOp,
+    made: &Expr<()>,
+    built: &Expr<()>,
+) -> Result<bool, Fail> {
+    let wanted = unary(rt, UnaryOp::Not, binary(rt, op)?)?;
+    let inside = children_are_at(rt, made, None)? && children_are_at(rt, built, Some(1))?;
+    Ok(inside && are_both(rt, &wanted, made, built)?)
+}
+
 #[test]
 fn negated_operators(rt: HostRuntime) -> Result<(), Fail> {
     for op in [BinaryOp::Eq, BinaryOp::LessEq, BinaryOp::Less] {
-        let wanted = unary(&rt, UnaryOp::Not, binary(&rt, op)?)?;
         let made = negated_made(rt.alloc(), op)?;
         let built = negated_built(at(&rt, 1)?, rt.alloc(), op, x(), y())?;
-        assert!(rt; are_both(&rt, &wanted, &made, &built)?, "not {op}");
-        assert!(rt; children_are_at(&rt, &made, None)?, "not {op}");
-        assert!(rt; children_are_at(&rt, &built, Some(1))?, "not {op}");
+        assert!(rt; are_negations(&rt, op, &made, &built)?, "not {op}");
     }
+    Ok(())
+}
+
+// The integer 1, with data 7.
+fn one_with_data(alloc: Global) -> Result<Expr<u8>, AllocError> {
+    ExprBuilder::<u8>::with_data(7).val(alloc, Literal::Long(1))
+}
+
+// A negation with data 3.
+fn negation_with_data(alloc: Global) -> Result<Expr<u8>, AllocError> {
+    let (left, right) = (one_with_data(alloc)?, one_with_data(alloc)?);
+    ExprBuilder::<u8>::with_data(3).noteq(alloc, left, right)
+}
+
+#[test]
+fn nodes_carry_data(rt: HostRuntime) -> Result<(), Fail> {
+    assert!(rt; one_with_data(rt.alloc())?.into_data() == 7);
+    let mut e = negation_with_data(rt.alloc())?;
+    e.set_data(4);
+    assert!(rt; *e.data() == 4);
+    assert!(rt; e.into_data() == 4);
     Ok(())
 }
 
 // The node has the builder's data, the inner node of a negation that of a new builder.
 #[test]
-fn nodes_carry_data(rt: HostRuntime) -> Result<(), Fail> {
-    let alloc = rt.alloc();
-    let one = || ExprBuilder::<u8>::with_data(7).val(alloc, Literal::Long(1));
-    assert_eq!(rt; one()?.into_data(), 7);
-    let mut e = ExprBuilder::<u8>::with_data(3).noteq(alloc, one()?, one()?)?;
+fn inner_nodes_carry_new_data(rt: HostRuntime) -> Result<(), Fail> {
+    let e = negation_with_data(rt.alloc())?;
     match e.expr_kind() {
-        ExprKind::UnaryApp { arg, .. } => assert_eq!(rt; (*e.data(), *arg.data()), (3, 0)),
+        ExprKind::UnaryApp { arg, .. } => assert!(rt; *e.data() == 3 && *arg.data() == 0),
         _ => assert!(rt; false, "a negation"),
     }
-    e.set_data(4);
-    assert_eq!(rt; (*e.data(), e.into_data()), (4, 4));
     Ok(())
 }
 
@@ -254,14 +283,23 @@ fn is_and(rt: &HostRuntime, made: Expr<()>, left: Expr<()>, right: Expr<()>) -> 
     Ok(is_node(made, ExprKind::And { left, right }))
 }
 
+fn one() -> Expr<()> {
+    Expr::val(Literal::Long(1))
+}
+
+fn no() -> Expr<()> {
+    Expr::val(Literal::Bool(false))
+}
+
 #[test]
-fn connectives(rt: HostRuntime) -> Result<(), Fail> {
+fn conjunctions(rt: HostRuntime) -> Result<(), Fail> {
     assert!(rt; is_and(&rt, Expr::and(rt.alloc(), x(), y())?, x(), y())?);
-    let (one, no) = (
-        || Expr::val(Literal::Long(1)),
-        || Expr::val(Literal::Bool(false)),
-    );
     assert!(rt; is_and(&rt, Expr::and(rt.alloc(), one(), no())?, one(), no())?);
+    Ok(())
+}
+
+#[test]
+fn disjunctions(rt: HostRuntime) -> Result<(), Fail> {
     let (left, right) = (shared(&rt, x())?, shared(&rt, y())?);
     let made = Expr::or(rt.alloc(), x(), y())?;
     assert!(rt; is_node(made, ExprKind::Or { left, right }));
@@ -294,9 +332,19 @@ fn attributes(rt: HostRuntime) -> Result<(), Fail> {
     let made = Expr::get_attr(rt.alloc(), x(), text(&rt, "a")?)?;
     let (expr, attr) = (shared(&rt, x())?, text(&rt, "a")?);
     assert!(rt; is_node(made, ExprKind::GetAttr { expr, attr }));
+    Ok(())
+}
+
+// The test for the attribute `a` of x.
+fn has_a(rt: &HostRuntime) -> Result<ExprKind<()>, Fail> {
+    let (expr, attr) = (shared(rt, x())?, text(rt, "a")?);
+    Ok(ExprKind::HasAttr { expr, attr })
+}
+
+#[test]
+fn tests_for_attributes(rt: HostRuntime) -> Result<(), Fail> {
     let made = Expr::has_attr(rt.alloc(), x(), text(&rt, "a")?)?;
-    let (expr, attr) = (shared(&rt, x())?, text(&rt, "a")?);
-    assert!(rt; is_node(made, ExprKind::HasAttr { expr, attr }));
+    assert!(rt; is_node(made, has_a(&rt)?));
     Ok(())
 }
 
@@ -310,10 +358,14 @@ fn path(rt: &HostRuntime, further: Option<&str>) -> Result<NonEmpty<RcStr>, Fail
 }
 
 #[test]
-fn paths_of_attributes(rt: HostRuntime) -> Result<(), Fail> {
+fn paths_of_one_attribute(rt: HostRuntime) -> Result<(), Fail> {
     let made = Expr::extended_has_attr(rt.alloc(), x(), path(&rt, None)?)?;
-    let (expr, attr) = (shared(&rt, x())?, text(&rt, "a")?);
-    assert!(rt; is_node(made, ExprKind::HasAttr { expr, attr }));
+    assert!(rt; is_node(made, has_a(&rt)?));
+    Ok(())
+}
+
+#[test]
+fn paths_of_attributes(rt: HostRuntime) -> Result<(), Fail> {
     let made = Expr::extended_has_attr(rt.alloc(), x(), path(&rt, Some("b"))?)?;
     let (expr, attrs) = (shared(&rt, x())?, path(&rt, Some("b"))?);
     assert!(rt; is_node(made, ExprKind::ExtHasAttr { expr, attrs }));
@@ -321,24 +373,40 @@ fn paths_of_attributes(rt: HostRuntime) -> Result<(), Fail> {
 }
 
 #[test]
-fn patterns_and_types(rt: HostRuntime) -> Result<(), Fail> {
+fn patterns(rt: HostRuntime) -> Result<(), Fail> {
     let made = Expr::like(rt.alloc(), x(), anything(&rt)?)?;
     let (expr, pattern) = (shared(&rt, x())?, anything(&rt)?);
     assert!(rt; is_node(made, ExprKind::Like { expr, pattern }));
-    let entity_type = EntityType::from(name(&rt, "E")?);
-    let made = Expr::is_entity_type(rt.alloc(), x(), entity_type)?;
-    let entity_type = EntityType::from(name(&rt, "E")?);
-    let expr = shared(&rt, x())?;
+    Ok(())
+}
+
+fn entity_type(rt: &HostRuntime) -> Result<EntityType, Fail> {
+    Ok(EntityType::from(name(rt, "E")?))
+}
+
+#[test]
+fn tests_of_types(rt: HostRuntime) -> Result<(), Fail> {
+    let made = Expr::is_entity_type(rt.alloc(), x(), entity_type(&rt)?)?;
+    let (expr, entity_type) = (shared(&rt, x())?, entity_type(&rt)?);
     assert!(rt; is_node(made, ExprKind::Is { expr, entity_type }));
     Ok(())
 }
 
+fn shared_both(rt: &HostRuntime) -> Result<Rc<Vec<Expr<()>>>, Fail> {
+    Ok(Rc::new(rt.alloc(), both(rt)?)?)
+}
+
 #[test]
-fn sets_and_calls(rt: HostRuntime) -> Result<(), Fail> {
+fn sets(rt: HostRuntime) -> Result<(), Fail> {
     let made = Expr::set(rt.alloc(), both(&rt)?)?;
-    assert!(rt; is_node(made, ExprKind::Set(Rc::new(rt.alloc(), both(&rt)?)?)));
+    assert!(rt; is_node(made, ExprKind::Set(shared_both(&rt)?)));
+    Ok(())
+}
+
+#[test]
+fn calls(rt: HostRuntime) -> Result<(), Fail> {
     let made = Expr::call_extension_fn(rt.alloc(), name(&rt, "f")?, both(&rt)?)?;
-    let (fn_name, args) = (name(&rt, "f")?, Rc::new(rt.alloc(), both(&rt)?)?);
+    let (fn_name, args) = (name(&rt, "f")?, shared_both(&rt)?);
     assert!(rt; is_node(made, ExprKind::ExtensionFunctionApp { fn_name, args }));
     Ok(())
 }
@@ -353,23 +421,30 @@ fn records(rt: HostRuntime) -> Result<(), Fail> {
     Ok(())
 }
 
+// Each key with x.
+fn pairs_of(rt: &HostRuntime, keys: &[&str]) -> Result<Vec<(RcStr, Expr<()>)>, Fail> {
+    let mut pairs = Vec::new(rt.alloc());
+    for key in keys {
+        pairs.push((text(rt, key)?, x()))?;
+    }
+    Ok(pairs)
+}
+
+// The text with which a record of these keys is refused.
+fn refusal(rt: &HostRuntime, keys: &[&str]) -> Result<String, Fail> {
+    match Expr::record(rt.alloc(), pairs_of(rt, keys)?) {
+        Err(error) => Ok(error.to_string(rt.alloc())?),
+        Ok(_) => Err(Fail::from("a key stands twice")),
+    }
+}
+
 // The text names the first key that stood before.
 #[test]
 fn records_refuse_a_repeated_key(rt: HostRuntime) -> Result<(), Fail> {
-    let table = [
-        (["a", "b", "a", "c"], "duplicate key `a` in record literal"),
-        (["a", "b", "b", "a"], "duplicate key `b` in record literal"),
-    ];
-    for (keys, wanted) in table {
-        let mut pairs = Vec::new(rt.alloc());
-        for key in keys {
-            pairs.push((text(&rt, key)?, x()))?;
-        }
-        match Expr::record(rt.alloc(), pairs) {
-            Err(error) => assert_eq!(rt; error.to_string(rt.alloc())?.as_str(), wanted),
-            Ok(_) => assert!(rt; false, "a key stands twice"),
-        }
-    }
+    let of_a = "duplicate key `a` in record literal";
+    assert!(rt; refusal(&rt, &["a", "b", "a", "c"])?.as_str() == of_a);
+    let of_b = "duplicate key `b` in record literal";
+    assert!(rt; refusal(&rt, &["a", "b", "b", "a"])?.as_str() == of_b);
     Ok(())
 }
 

@@ -118,11 +118,23 @@ fn small_record(rt: &HostRuntime, n: i64) -> Result<Expr<()>, Fail> {
 
 // A row with fewer parts comes first, whatever these are.
 #[test]
-fn orders_by_count_first(rt: HostRuntime) -> Result<(), Fail> {
-    let (one, both) = (row(&rt, 2, 1)?, row(&rt, 1, 2)?);
-    assert!(rt; is_less(&Expr::set(rt.alloc(), one)?, &Expr::set(rt.alloc(), both)?));
-    let (one, both) = (row(&rt, 2, 1)?, row(&rt, 1, 2)?);
-    assert!(rt; is_less(&call(&rt, "f", one)?, &call(&rt, "f", both)?));
+fn orders_sets_by_count_first(rt: HostRuntime) -> Result<(), Fail> {
+    let one = Expr::set(rt.alloc(), row(&rt, 2, 1)?)?;
+    let both = Expr::set(rt.alloc(), row(&rt, 1, 2)?)?;
+    assert!(rt; is_less(&one, &both));
+    Ok(())
+}
+
+#[test]
+fn orders_calls_by_count_first(rt: HostRuntime) -> Result<(), Fail> {
+    let one = call(&rt, "f", row(&rt, 2, 1)?)?;
+    let both = call(&rt, "f", row(&rt, 1, 2)?)?;
+    assert!(rt; is_less(&one, &both));
+    Ok(())
+}
+
+#[test]
+fn orders_records_by_count_first(rt: HostRuntime) -> Result<(), Fail> {
     assert!(rt; is_less(&small_record(&rt, 9)?, &record(&rt, seven(), seven())?));
     Ok(())
 }
@@ -192,15 +204,19 @@ fn with_data(alloc: Global, var: Var) -> Result<Expr<u8>, AllocError> {
     ExprBuilder::<u8>::with_data(1).var(alloc, var)
 }
 
-#[test]
-fn shapes_have_no_data(rt: HostRuntime) -> Result<(), Fail> {
+// An expression of each kind by the builder with data 1, each child the integer 7.
+fn each_kind_with_data(rt: &HostRuntime) -> Result<Vec<Expr<u8>>, Fail> {
     let builder = ExprBuilder::<u8>::with_data(1);
     let child = ExprBuilder::<u8>::with_data(1).val(rt.alloc(), Literal::Long(7))?;
-    let others = each_kind_by(&rt, &builder, &child)?;
-    assert_eq!(rt; others.len(), 17);
-    for (a, b) in constructed(&rt)?.iter().zip(others.iter()) {
-        assert_eq!(rt; *b.data(), 1);
-        assert!(rt; are_alike(a, b), "{a:?}");
+    each_kind_by(rt, &builder, &child)
+}
+
+#[test]
+fn shapes_have_no_data(rt: HostRuntime) -> Result<(), Fail> {
+    let (all, others) = (constructed(&rt)?, each_kind_with_data(&rt)?);
+    assert!(rt; others.len() == 17);
+    for (a, b) in all.iter().zip(others.iter()) {
+        assert!(rt; *b.data() == 1 && are_alike(a, b), "{a:?}");
     }
     Ok(())
 }

@@ -13,7 +13,7 @@ use crate::tests::steps::{Step, expr, place};
 use cedar_exprs::{Expr, RestrictedExpr};
 use cedar_names::Loc;
 use cedar_terms::Var;
-use cedar_values::{ExtensionValue, NotValue, Value, ValueKind};
+use cedar_values::{ExtensionValue, NotValue, RepresentableExtensionValue, Value, ValueKind};
 use expr_samples::name;
 use std::alloc::Global;
 use std::test::Fail;
@@ -85,16 +85,19 @@ fn what_is_written_is_read_back(rt: HostRuntime) -> Result<(), Fail> {
     Ok(())
 }
 
+fn kind(rt: &HostRuntime, steps: &[Step]) -> Result<ValueKind<Point>, Fail> {
+    Ok(ValueKind::try_from_expr(rt.alloc(), expr(rt, steps)?)?)
+}
+
 // Kinds are read and written as values are.
 fn is_kind_written(rt: &HostRuntime, steps: &[Step]) -> Result<bool, Fail> {
-    let kind: ValueKind<Point> = ValueKind::try_from_expr(rt.alloc(), expr(rt, steps)?)?;
-    Ok(kind.to_expr(rt.alloc())? == expr(rt, steps)?)
+    let written = kind(rt, steps)?.to_expr(rt.alloc())?;
+    Ok(written == expr(rt, steps)?)
 }
 
 // The outermost place is not theirs.
 fn is_kind_placed(rt: &HostRuntime, steps: &[Step], wanted: &[Span]) -> Result<bool, Fail> {
-    let kind: ValueKind<Point> = ValueKind::try_from_expr(rt.alloc(), expr(rt, steps)?)?;
-    has_places(rt, &Value::new(kind, None), wanted)
+    has_places(rt, &Value::new(kind(rt, steps)?, None), wanted)
 }
 
 #[test]
@@ -197,32 +200,52 @@ fn is_call(rt: &HostRuntime, e: &Expr<()>, arg: Step, function: &str) -> Result<
     Ok(*e == expr(rt, &[arg, Call(function)])?)
 }
 
+fn is_canonical(rt: &HostRuntime, e: &Expr<()>) -> Result<bool, Fail> {
+    is_call(rt, e, Long(2), "point")
+}
+
+fn is_given(rt: &HostRuntime, e: &Expr<()>) -> Result<bool, Fail> {
+    is_call(rt, e, Unknown("z"), "f")
+}
+
+// What its value is written as.
+fn written(rt: &HostRuntime, point: RepresentableExtensionValue<Point>) -> Result<Expr<()>, Fail> {
+    Ok(extension(rt, point)?.to_expr(rt.alloc())?)
+}
+
 // Equal extension values are written as canonical calls, or as those that were given for them.
 #[test]
 fn a_canonical_call(rt: HostRuntime) -> Result<(), Fail> {
-    let written = extension(&rt, lazy(&rt, 2, 1)?)?.to_expr(rt.alloc())?;
-    assert!(rt; is_call(&rt, &written, Long(2), "point")?);
+    let written = written(&rt, lazy(&rt, 2, 1)?)?;
+    assert!(rt; is_canonical(&rt, &written)?);
     Ok(())
 }
 
 #[test]
 fn a_given_call(rt: HostRuntime) -> Result<(), Fail> {
-    let written = extension(&rt, given(&rt, 2, 1)?)?.to_expr(rt.alloc())?;
-    assert!(rt; is_call(&rt, &written, Unknown("z"), "f")?);
+    let written = written(&rt, given(&rt, 2, 1)?)?;
+    assert!(rt; is_given(&rt, &written)?);
     Ok(())
+}
+
+fn restricted(
+    rt: &HostRuntime,
+    point: RepresentableExtensionValue<Point>,
+) -> Result<RestrictedExpr, Fail> {
+    Ok(point.to_restricted_expr(rt.alloc())?)
 }
 
 #[test]
 fn a_restricted_canonical_call(rt: HostRuntime) -> Result<(), Fail> {
-    let written = lazy(&rt, 2, 1)?.to_restricted_expr(rt.alloc())?;
-    assert!(rt; is_call(&rt, written.as_expr(), Long(2), "point")?);
+    let written = restricted(&rt, lazy(&rt, 2, 1)?)?;
+    assert!(rt; is_canonical(&rt, written.as_expr())?);
     Ok(())
 }
 
 #[test]
 fn a_restricted_given_call(rt: HostRuntime) -> Result<(), Fail> {
-    let written = given(&rt, 2, 1)?.to_restricted_expr(rt.alloc())?;
-    assert!(rt; is_call(&rt, written.as_expr(), Unknown("z"), "f")?);
+    let written = restricted(&rt, given(&rt, 2, 1)?)?;
+    assert!(rt; is_given(&rt, written.as_expr())?);
     Ok(())
 }
 
@@ -230,7 +253,7 @@ fn a_restricted_given_call(rt: HostRuntime) -> Result<(), Fail> {
 fn a_restricted_call(rt: HostRuntime) -> Result<(), Fail> {
     let args = arguments(&rt, &[Unknown("z")])?;
     let call = RestrictedExpr::call_extension_fn(rt.alloc(), name(&rt, "f")?, args)?;
-    assert!(rt; is_call(&rt, call.as_expr(), Unknown("z"), "f")?);
+    assert!(rt; is_given(&rt, call.as_expr())?);
     Ok(())
 }
 
@@ -258,10 +281,14 @@ fn places_go_through_values(rt: HostRuntime) -> Result<(), Fail> {
     Ok(())
 }
 
+fn has_text(rt: &HostRuntime, fault: &NotValue, text: &str) -> Result<bool, Fail> {
+    Ok(fault.to_string(rt.alloc())?.as_str() == text)
+}
+
 #[test]
 fn texts_of_refusals(rt: HostRuntime) -> Result<(), Fail> {
     let fault = NotValue::NotValue { loc: None };
-    assert!(rt; fault.to_string(rt.alloc())?.as_str() == "not a value");
-    assert!(rt; NotValue::Memory.to_string(rt.alloc())?.as_str() == "no memory");
+    assert!(rt; has_text(&rt, &fault, "not a value")?);
+    assert!(rt; has_text(&rt, &NotValue::Memory, "no memory")?);
     Ok(())
 }

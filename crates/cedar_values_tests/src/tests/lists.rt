@@ -21,25 +21,28 @@ fn is_kind(rt: &HostRuntime, made: ValueKind<Point>, steps: &[Step]) -> Result<b
     Ok(made.is_well_formed() && is_value(rt, Value::new(made, None), steps)?)
 }
 
+fn numbers(rt: &HostRuntime) -> Result<Vec<Value<Point>>, Fail> {
+    values(rt, &[Long(2), Long(-3), Long(40)])
+}
+
+// Their set.
+const NUMBERS: [Step<'static>; 4] = [Long(40), Long(2), Long(-3), SetOf(3)];
+
 #[test]
 fn lists_become_sets(rt: HostRuntime) -> Result<(), Fail> {
-    let members = [Long(2), Long(-3), Long(40)];
-    let wanted = [Long(40), Long(2), Long(-3), SetOf(3)];
-    let made = Value::from_vec(rt.alloc(), values(&rt, &members)?)?;
-    assert!(rt; is_value(&rt, made, &wanted)?);
-    let made = Value::set(rt.alloc(), values(&rt, &members)?, None)?;
-    assert!(rt; is_value(&rt, made, &wanted)?);
+    let made = Value::from_vec(rt.alloc(), numbers(&rt)?)?;
+    assert!(rt; is_value(&rt, made, &NUMBERS)?);
+    let made = Value::set(rt.alloc(), numbers(&rt)?, None)?;
+    assert!(rt; is_value(&rt, made, &NUMBERS)?);
     Ok(())
 }
 
 #[test]
 fn lists_become_kinds(rt: HostRuntime) -> Result<(), Fail> {
-    let members = [Long(2), Long(-3), Long(40)];
-    let wanted = [Long(40), Long(2), Long(-3), SetOf(3)];
-    let made = ValueKind::from_vec(rt.alloc(), values(&rt, &members)?)?;
-    assert!(rt; is_kind(&rt, made, &wanted)?);
-    let made = ValueKind::set(rt.alloc(), values(&rt, &members)?)?;
-    assert!(rt; is_kind(&rt, made, &wanted)?);
+    let made = ValueKind::from_vec(rt.alloc(), numbers(&rt)?)?;
+    assert!(rt; is_kind(&rt, made, &NUMBERS)?);
+    let made = ValueKind::set(rt.alloc(), numbers(&rt)?)?;
+    assert!(rt; is_kind(&rt, made, &NUMBERS)?);
     Ok(())
 }
 
@@ -51,30 +54,37 @@ fn lits(rt: &HostRuntime) -> Result<Vec<Literal>, Fail> {
     Ok(lits)
 }
 
+// Their set.
+const LITS: [Step<'static>; 3] = [Text("eggs"), Bool(false), SetOf(2)];
+
 #[test]
 fn literals_become_sets(rt: HostRuntime) -> Result<(), Fail> {
-    let wanted = [Text("eggs"), Bool(false), SetOf(2)];
     let made = Value::set_of_lits(rt.alloc(), lits(&rt)?, None)?;
-    assert!(rt; is_value(&rt, made, &wanted)?);
-    let made = ValueKind::set_of_lits(rt.alloc(), lits(&rt)?)?;
-    assert!(rt; is_kind(&rt, made, &wanted)?);
-    let made = Set::from_lits(rt.alloc(), lits(&rt)?)?;
-    assert!(rt; is_kind(&rt, ValueKind::Set(made), &wanted)?);
+    assert!(rt; is_value(&rt, made, &LITS)?);
     Ok(())
 }
 
 #[test]
-fn empty_values(rt: HostRuntime) -> Result<(), Fail> {
+fn literals_become_kinds(rt: HostRuntime) -> Result<(), Fail> {
+    let made = ValueKind::set_of_lits(rt.alloc(), lits(&rt)?)?;
+    assert!(rt; is_kind(&rt, made, &LITS)?);
+    let made = Set::from_lits(rt.alloc(), lits(&rt)?)?;
+    assert!(rt; is_kind(&rt, ValueKind::Set(made), &LITS)?);
+    Ok(())
+}
+
+#[test]
+fn empty_sets(rt: HostRuntime) -> Result<(), Fail> {
     assert!(rt; is_value(&rt, Value::empty_set(rt.alloc(), None)?, &[SetOf(0)])?);
     assert!(rt; is_kind(&rt, ValueKind::empty_set(rt.alloc())?, &[SetOf(0)])?);
-    assert!(rt;
-        is_value(
-            &rt,
-            Value::empty_record(rt.alloc(), None)?,
-            &[RecordOf(&[])]
-        )?
-    );
-    assert!(rt; is_kind(&rt, ValueKind::empty_record(rt.alloc())?, &[RecordOf(&[])])?);
+    Ok(())
+}
+
+#[test]
+fn empty_records(rt: HostRuntime) -> Result<(), Fail> {
+    let wanted = [RecordOf(&[])];
+    assert!(rt; is_value(&rt, Value::empty_record(rt.alloc(), None)?, &wanted)?);
+    assert!(rt; is_kind(&rt, ValueKind::empty_record(rt.alloc())?, &wanted)?);
     Ok(())
 }
 

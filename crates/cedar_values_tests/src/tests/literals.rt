@@ -64,29 +64,50 @@ fn entities(rt: HostRuntime) -> Result<(), Fail> {
     Ok(())
 }
 
-fn type_of_entity(rt: &HostRuntime) -> Result<Type, Fail> {
-    let value: Value<Point> = Value::from(uid(rt)?);
-    Ok(value.type_of(rt.alloc())?)
+fn is_type_of(rt: &HostRuntime, ty: &Type, value: &Value<Point>) -> Result<bool, Fail> {
+    Ok(value.type_of(rt.alloc())? == *ty)
+}
+
+fn is_type_of_kind(rt: &HostRuntime, ty: &Type, kind: &ValueKind<Point>) -> Result<bool, Fail> {
+    Ok(kind.type_of(rt.alloc())? == *ty)
+}
+
+fn is_type_of_entity(rt: &HostRuntime, ty: &Type) -> Result<bool, Fail> {
+    is_type_of(rt, ty, &Value::from(uid(rt)?))
+}
+
+fn entity_has_type(rt: &HostRuntime, ty: Type) -> Result<bool, Fail> {
+    is_type_of_entity(rt, &ty)
+}
+
+fn entity_type(rt: &HostRuntime) -> Result<Type, Fail> {
+    Ok(Type::entity_type(name(rt, "test_entity_type")?))
 }
 
 #[test]
 fn the_type_of_an_entity(rt: HostRuntime) -> Result<(), Fail> {
-    let wanted = Type::entity_type(name(&rt, "test_entity_type")?);
-    assert!(rt; type_of_entity(&rt)? == wanted);
+    assert!(rt; entity_has_type(&rt, entity_type(&rt)?)?);
     Ok(())
 }
 
+fn is_type_of_both(rt: &HostRuntime, ty: &Type, value: &Value<Point>) -> Result<bool, Fail> {
+    Ok(is_type_of(rt, ty, value)? && is_type_of_kind(rt, ty, value.value_kind())?)
+}
+
 fn has_type(rt: &HostRuntime, steps: &[Step], ty: Type) -> Result<bool, Fail> {
-    let value = value(rt, steps)?;
-    let of_kind = value.value_kind().type_of(rt.alloc())?;
-    Ok(value.type_of(rt.alloc())? == ty && of_kind == ty)
+    is_type_of_both(rt, &ty, &value(rt, steps)?)
 }
 
 #[test]
-fn types(rt: HostRuntime) -> Result<(), Fail> {
+fn types_of_literals(rt: HostRuntime) -> Result<(), Fail> {
     assert!(rt; has_type(&rt, &[Bool(false)], Type::Bool)?);
     assert!(rt; has_type(&rt, &[Long(-47)], Type::Long)?);
     assert!(rt; has_type(&rt, &[Text("hello")], Type::String)?);
+    Ok(())
+}
+
+#[test]
+fn types_of_sets_and_records(rt: HostRuntime) -> Result<(), Fail> {
     assert!(rt; has_type(&rt, &[Long(2), Long(-3), SetOf(2)], Type::Set)?);
     assert!(rt; has_type(&rt, &[SetOf(0)], Type::Set)?);
     assert!(rt; has_type(&rt, &[RecordOf(&[])], Type::Record)?);

@@ -17,11 +17,16 @@ fn alike(rt: &HostRuntime, a: &[Step], b: &[Step]) -> Result<bool, Fail> {
 #[test]
 fn values_at_places(rt: HostRuntime) -> Result<(), Fail> {
     let here = [Long(1), At(4, 5)];
-    assert!(rt; alike(&rt, &here, &here)?);
-    assert!(rt; !alike(&rt, &here, &[Long(1), At(4, 6)])?);
-    assert!(rt; !alike(&rt, &here, &[Long(1)])?);
-    assert!(rt; !alike(&rt, &here, &[Long(2), At(4, 5)])?);
-    assert!(rt; alike(&rt, &[Long(1)], &[Long(1)])?);
+    let cases: [(&[Step], &[Step], bool); 5] = [
+        (&here, &here, true),
+        (&here, &[Long(1), At(4, 6)], false),
+        (&here, &[Long(1)], false),
+        (&here, &[Long(2), At(4, 5)], false),
+        (&[Long(1)], &[Long(1)], true),
+    ];
+    for (a, b, wanted) in &cases {
+        assert!(rt; alike(&rt, a, b)? == *wanted);
+    }
     Ok(())
 }
 

@@ -2,6 +2,7 @@
 use crate::tests::point::Point;
 use crate::tests::steps::{Step, expr, exprs};
 use cedar_exprs::{Expr, RestrictedExpr};
+use cedar_terms::Type;
 use cedar_values::{RepresentableExtensionValue, Set, Value, ValueKind};
 use expr_samples::name;
 use std::rc::Rc;
@@ -63,6 +64,19 @@ pub fn extension(
 ) -> Result<Value<Point>, Fail> {
     let point = Rc::new(rt.alloc(), point)?;
     Ok(Value::new(ValueKind::ExtensionValue(point), None))
+}
+
+fn is_type_of_points(rt: &HostRuntime, ty: &Type) -> Result<bool, Fail> {
+    Ok(
+        *ty == Type::Extension {
+            name: name(rt, "point")?,
+        },
+    )
+}
+
+// Whether it is the type of points.
+pub fn is_point(rt: &HostRuntime, ty: Type) -> Result<bool, Fail> {
+    is_type_of_points(rt, &ty)
 }
 
 pub fn same(a: &Value<Point>, b: &Value<Point>) -> bool {

@@ -27,11 +27,16 @@ fn a_set_of_literals_beside_a_mixed_one(rt: HostRuntime) -> Result<(), Fail> {
 
 #[test]
 fn sets_side_by_side(rt: HostRuntime) -> Result<(), Fail> {
-    assert!(rt; compared(&rt, &[], &[Long(1)])? == [true, true, false]);
-    assert!(rt; compared(&rt, &[Long(2), SetOf(1)], &[Long(1)])? == [false, true, false]);
-    assert!(rt; compared(&rt, &[Long(1), Long(2)], &[Long(2), Long(3)])? == [false, false, false]);
-    let twice = [Long(2), Long(1), Long(2)];
-    assert!(rt; compared(&rt, &twice, &[Long(1), Long(2)])? == [true, false, true]);
+    let both = [Long(1), Long(2)];
+    let cases: [(&[Step], &[Step], [bool; 3]); 4] = [
+        (&[], &[Long(1)], [true, true, false]),
+        (&[Long(2), SetOf(1)], &[Long(1)], [false, true, false]),
+        (&both, &[Long(2), Long(3)], [false, false, false]),
+        (&[Long(2), Long(1), Long(2)], &both, [true, false, true]),
+    ];
+    for (a, b, wanted) in &cases {
+        assert!(rt; compared(&rt, a, b)? == *wanted);
+    }
     Ok(())
 }
 
@@ -56,12 +61,11 @@ fn all_forms_beside_others(rt: HostRuntime) -> Result<(), Fail> {
     let several = [Long(1), Long(2), Text("a")];
     let mixed = [Long(1), Long(2), Text("a"), SetOf(0)];
     let sides: [&[Step]; 4] = [&[], &[Long(1)], &several, &mixed];
-    let sets = [Long(2), SetOf(1)];
-    let literals = [Long(4), Bool(true)];
     for a in &sides {
-        assert!(rt; compared(&rt, &sets, a)? == [false, true, false]);
-        assert!(rt; compared(&rt, &literals, a)? == [false, true, false]);
-        assert!(rt; compared(&rt, a, &sets)?[1] && compared(&rt, a, &literals)?[1]);
+        for b in [[Long(2), SetOf(1)], [Long(4), Bool(true)]] {
+            assert!(rt; compared(&rt, &b, a)? == [false, true, false]);
+            assert!(rt; compared(&rt, a, &b)?[1]);
+        }
     }
     Ok(())
 }
@@ -80,22 +84,27 @@ fn members_are_found(rt: HostRuntime) -> Result<(), Fail> {
     Ok(())
 }
 
-// A number, a text and a set, in sets of no, one and several literals, and of these beside a set.
+// Whether 1, "a", the empty set and "x" are among these members.
+fn found(rt: &HostRuntime, members: &[Step]) -> Result<[bool; 4], Fail> {
+    let number = has(rt, members, &[Long(1)])?;
+    let text = has(rt, members, &[Text("a")])?;
+    let empty = has(rt, members, &[SetOf(0)])?;
+    Ok([number, text, empty, has(rt, members, &[Text("x")])?])
+}
+
+// In sets of no, one and several literals, and of these beside a set.
 #[test]
 fn members_are_found_in_all_forms(rt: HostRuntime) -> Result<(), Fail> {
     let several = [Long(1), Long(2), Text("a")];
     let mixed = [Long(1), Long(2), Text("a"), SetOf(0)];
-    let cases: [(&[Step], [bool; 3]); 4] = [
-        (&[], [false, false, false]),
-        (&[Long(1)], [true, false, false]),
-        (&several, [true, true, false]),
-        (&mixed, [true, true, true]),
+    let cases: [(&[Step], [bool; 4]); 4] = [
+        (&[], [false, false, false, false]),
+        (&[Long(1)], [true, false, false, false]),
+        (&several, [true, true, false, false]),
+        (&mixed, [true, true, true, false]),
     ];
     for (members, wanted) in &cases {
-        assert!(rt; has(&rt, members, &[Long(1)])? == wanted[0]);
-        assert!(rt; has(&rt, members, &[Text("a")])? == wanted[1]);
-        assert!(rt; has(&rt, members, &[SetOf(0)])? == wanted[2]);
-        assert!(rt; !has(&rt, members, &[Text("x")])?);
+        assert!(rt; found(&rt, members)? == *wanted);
     }
     Ok(())
 }
@@ -120,18 +129,29 @@ fn literals_alone_are_kept_by_hash(rt: HostRuntime) -> Result<(), Fail> {
     Ok(())
 }
 
-// By each call that makes a set, and by a copy.
+fn of_lits(rt: &HostRuntime) -> Result<Set<Point>, Fail> {
+    let lits = vec![in rt.alloc(); Literal::from(2), Literal::from(1), Literal::from(2)]?;
+    Ok(Set::from_lits(rt.alloc(), lits)?)
+}
+
+// By the call for literals, and by a copy.
 #[test]
-fn each_maker_keeps_literals_by_hash(rt: HostRuntime) -> Result<(), Fail> {
-    let alloc = rt.alloc();
-    assert!(rt; hashed(&Set::empty(alloc)?) == Some(0));
-    let lits = vec![in alloc; Literal::from(2), Literal::from(1), Literal::from(2)]?;
-    let made: Set<Point> = Set::from_lits(alloc, lits)?;
-    assert!(rt; hashed(&made) == Some(2) && hashed(&made.clone(alloc)?) == Some(2));
-    let gathered = Set::from_values(alloc, values(&rt, &[Long(1), Long(3)])?)?;
-    assert!(rt; hashed(&gathered) == Some(2));
-    let mixed = Set::from_values(alloc, values(&rt, &[Long(1), SetOf(0)])?)?;
-    assert!(rt; hashed(&mixed).is_none() && made.is_well_formed() && mixed.is_well_formed());
+fn sets_of_literals_keep_them_by_hash(rt: HostRuntime) -> Result<(), Fail> {
+    let made = of_lits(&rt)?;
+    assert!(rt; hashed(&made) == Some(2) && made.is_well_formed());
+    assert!(rt; hashed(&made.clone(rt.alloc())?) == Some(2));
+    Ok(())
+}
+
+fn collected(rt: &HostRuntime, steps: &[Step]) -> Result<Set<Point>, Fail> {
+    Ok(Set::from_values(rt.alloc(), values(rt, steps)?)?)
+}
+
+#[test]
+fn collected_literals_are_kept_by_hash(rt: HostRuntime) -> Result<(), Fail> {
+    assert!(rt; hashed(&collected(&rt, &[Long(1), Long(3)])?) == Some(2));
+    let mixed = collected(&rt, &[Long(1), SetOf(0)])?;
+    assert!(rt; hashed(&mixed).is_none() && mixed.is_well_formed());
     Ok(())
 }
 
@@ -146,7 +166,7 @@ fn equal_values_are_one_member(rt: HostRuntime) -> Result<(), Fail> {
 #[test]
 fn an_empty_set(rt: HostRuntime) -> Result<(), Fail> {
     let empty: Set<Point> = Set::empty(rt.alloc())?;
-    assert!(rt; empty.is_empty() && empty.len() == 0);
+    assert!(rt; empty.is_empty() && empty.len() == 0 && hashed(&empty) == Some(0));
     assert!(rt; empty.iter().next().is_none() && empty.is_well_formed());
     Ok(())
 }
@@ -172,10 +192,9 @@ fn one_of_equal_values_is_kept(rt: HostRuntime) -> Result<(), Fail> {
 // Literals alone lose their places where `from_values` makes the set.
 #[test]
 fn literals_alone_lose_their_places(rt: HostRuntime) -> Result<(), Fail> {
-    let alone = Set::from_values(rt.alloc(), values(&rt, &[Long(1), At(4, 5)])?)?;
+    let alone = collected(&rt, &[Long(1), At(4, 5)])?;
     assert!(rt; alone.len() == 1 && first_place(&alone).is_none());
-    let beside = values(&rt, &[SetOf(0), Long(1), At(4, 5)])?;
-    let beside = Set::from_values(rt.alloc(), beside)?;
+    let beside = collected(&rt, &[SetOf(0), Long(1), At(4, 5)])?;
     assert!(rt; beside.len() == 2 && first_place(&beside) == Some(4));
     Ok(())
 }
@@ -215,7 +234,7 @@ fn nested_sets_in_all_orders(rt: HostRuntime) -> Result<(), Fail> {
 // One value in a set, and that set in another.
 #[test]
 fn sets_are_collected(rt: HostRuntime) -> Result<(), Fail> {
-    let inner = Set::from_values(rt.alloc(), values(&rt, &[Long(1)])?)?;
+    let inner = collected(&rt, &[Long(1)])?;
     assert!(rt; inner.len() == 1);
     let mut members = Vec::new(rt.alloc());
     members.push(Value::new(ValueKind::Set(inner), None))?;

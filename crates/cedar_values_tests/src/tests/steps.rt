@@ -3,6 +3,7 @@ use cedar_exprs::Expr;
 use cedar_names::Loc;
 use cedar_terms::{Literal, Var};
 use expr_samples::{name, text, unknown};
+use std::rc::RcStr;
 use std::test::Fail;
 
 // A step takes its parts from the end of what was made so far, and puts its own there.
@@ -55,13 +56,24 @@ fn set(rt: &HostRuntime, made: &mut Vec<Expr<()>>, count: usize) -> Result<Expr<
     Ok(Expr::set(rt.alloc(), lasts(made, count)?)?)
 }
 
-fn record(rt: &HostRuntime, made: &mut Vec<Expr<()>>, keys: &[&str]) -> Result<Expr<()>, Fail> {
-    let values = lasts(made, keys.len())?;
+type Pairs = Vec<(RcStr, Expr<()>)>;
+
+fn add(rt: &HostRuntime, pairs: &mut Pairs, key: &str, value: Expr<()>) -> Result<(), Fail> {
+    pairs.push((text(rt, key)?, value))?;
+    Ok(())
+}
+
+fn pairs(rt: &HostRuntime, keys: &[&str], values: Vec<Expr<()>>) -> Result<Pairs, Fail> {
     let mut pairs = Vec::new(rt.alloc());
     for (key, value) in keys.iter().zip(values) {
-        pairs.push((text(rt, key)?, value))?;
+        add(rt, &mut pairs, key, value)?;
     }
-    Ok(Expr::record(rt.alloc(), pairs)?)
+    Ok(pairs)
+}
+
+fn record(rt: &HostRuntime, made: &mut Vec<Expr<()>>, keys: &[&str]) -> Result<Expr<()>, Fail> {
+    let values = lasts(made, keys.len())?;
+    Ok(Expr::record(rt.alloc(), pairs(rt, keys, values)?)?)
 }
 
 fn at(rt: &HostRuntime, e: Expr<()>, start: usize, stop: usize) -> Result<Expr<()>, Fail> {

@@ -1,6 +1,6 @@
 // Values in place of unknowns.
 use crate::tests::point::Point;
-use crate::tests::samples::{extension, given, is_placed, value};
+use crate::tests::samples::{extension, given, is_placed, is_point, value};
 use crate::tests::steps::Step::{And, At, Bool, Call, Long, SetOf, Unknown};
 use crate::tests::steps::{Step, expr};
 use cedar_exprs::{Expr, ExprBuilder, SubstituteValue, TypedBuildFault};
@@ -8,7 +8,7 @@ use cedar_terms::{Type, Unknown as Term};
 use cedar_values::{
     ExtensionValue, Value, substitute_typed_values_into_expr, substitute_values_into_expr,
 };
-use expr_samples::{name, text};
+use expr_samples::text;
 use std::alloc::Global;
 use std::collections::HashMap;
 use std::rc::RcStr;
@@ -33,29 +33,43 @@ fn bound(rt: &HostRuntime, name: &str, value: Value<Point>) -> Result<Values, Fa
     Ok(values)
 }
 
+// The map that binds x to the value of these steps.
+fn x_is(rt: &HostRuntime, steps: &[Step]) -> Result<Values, Fail> {
+    bound(rt, "x", value(rt, steps)?)
+}
+
+// A point that f(z) made.
+fn point(rt: &HostRuntime) -> Result<Value<Point>, Fail> {
+    extension(rt, given(rt, 1, 2)?)
+}
+
+// The map that binds u to it.
+fn u_is_a_point(rt: &HostRuntime) -> Result<Values, Fail> {
+    bound(rt, "u", point(rt)?)
+}
+
+fn substituted(rt: &HostRuntime, values: &Values, steps: &[Step]) -> Result<Expr<()>, Fail> {
+    Ok(expr(rt, steps)?.substitute(rt.alloc(), values)?)
+}
+
 // Whether substitution makes the second expression of the first one.
 fn makes(rt: &HostRuntime, values: &Values, steps: &[Step], wanted: &[Step]) -> Result<bool, Fail> {
-    let made = expr(rt, steps)?.substitute(rt.alloc(), values)?;
-    Ok(made == expr(rt, wanted)?)
+    Ok(substituted(rt, values, steps)? == expr(rt, wanted)?)
 }
 
 // The set of 3, 1 and 3 in place of an unknown.
 #[test]
 fn a_set_in_place_of_an_unknown(rt: HostRuntime) -> Result<(), Fail> {
-    let values = bound(
-        &rt,
-        "x",
-        value(&rt, &[Long(3), Long(1), Long(3), SetOf(3)])?,
-    )?;
+    let values = x_is(&rt, &[Long(3), Long(1), Long(3), SetOf(3)])?;
     let wanted = [Long(1), Long(3), SetOf(2)];
     assert!(rt; makes(&rt, &values, &[Unknown("x")], &wanted)?);
     Ok(())
 }
 
-// u is a point that f(z) made, and z is 5: a bound value is not searched.
+// The value of u holds z, which is bound to 5: a bound value is not searched.
 #[test]
 fn bound_values_are_not_searched(rt: HostRuntime) -> Result<(), Fail> {
-    let mut values = bound(&rt, "u", extension(&rt, given(&rt, 1, 2)?)?)?;
+    let mut values = u_is_a_point(&rt)?;
     bind(&rt, &mut values, "z", Value::from(5))?;
     assert!(rt; makes(&rt, &values, &[Unknown("u")], &[Unknown("z"), Call("f")])?);
     Ok(())
@@ -64,10 +78,10 @@ fn bound_values_are_not_searched(rt: HostRuntime) -> Result<(), Fail> {
 // First u alone and then z alone.
 #[test]
 fn then_is_not_both(rt: HostRuntime) -> Result<(), Fail> {
-    let u = bound(&rt, "u", extension(&rt, given(&rt, 1, 2)?)?)?;
-    assert!(rt; makes(&rt, &u, &[Unknown("u")], &[Unknown("z"), Call("f")])?);
+    let call = [Unknown("z"), Call("f")];
+    assert!(rt; makes(&rt, &u_is_a_point(&rt)?, &[Unknown("u")], &call)?);
     let z = bound(&rt, "z", Value::from(5))?;
-    assert!(rt; makes(&rt, &z, &[Unknown("z"), Call("f")], &[Long(5), Call("f")])?);
+    assert!(rt; makes(&rt, &z, &call, &[Long(5), Call("f")])?);
     Ok(())
 }
 
@@ -75,41 +89,36 @@ fn then_is_not_both(rt: HostRuntime) -> Result<(), Fail> {
 // place, the literal keeps its own, and the conjunction has none.
 #[test]
 fn a_bound_value_brings_its_place(rt: HostRuntime) -> Result<(), Fail> {
-    let values = bound(&rt, "x", value(&rt, &[Long(2), At(9, 10)])?)?;
-    let e = expr(
-        &rt,
-        &[Long(1), At(0, 1), Unknown("x"), At(5, 6), And, At(0, 6)],
-    )?;
-    let made = e.substitute(rt.alloc(), &values)?;
+    let values = x_is(&rt, &[Long(2), At(9, 10)])?;
+    let steps = [Long(1), At(0, 1), Unknown("x"), At(5, 6), And, At(0, 6)];
+    let made = substituted(&rt, &values, &steps)?;
     assert!(rt; is_placed(&rt, &made, &[None, Some((9, 10)), Some((0, 1))])?);
     Ok(())
 }
 
 #[test]
-fn types_and_expressions_of_values(rt: HostRuntime) -> Result<(), Fail> {
-    let value = extension(&rt, given(&rt, 1, 2)?)?;
-    let ty = Type::Extension {
-        name: name(&rt, "point")?,
-    };
-    assert!(rt; value.value_type(rt.alloc())? == ty);
-    let written = value.value_expr(rt.alloc())?;
+fn types_of_values(rt: HostRuntime) -> Result<(), Fail> {
+    let point = point(&rt)?;
+    let ty = point.value_type(rt.alloc())?;
+    assert!(rt; is_point(&rt, ty)?);
+    Ok(())
+}
+
+#[test]
+fn expressions_of_values(rt: HostRuntime) -> Result<(), Fail> {
+    let written = point(&rt)?.value_expr(rt.alloc())?;
     assert!(rt; *written.as_expr() == expr(&rt, &[Unknown("z"), Call("f")])?);
     Ok(())
 }
 
-// What the struct's builder makes, if it makes something. The type of its data is a parameter here: at
-// a concrete one the check of the call's bound takes long.
+// What the struct's builder makes, if it makes something. The type of its data is a parameter
+// here: at a concrete one the check of the call's bound takes long.
 fn built<T: Default + Copy, X: ExtensionValue + Ord>(
     alloc: Global,
     e: &Expr<()>,
     values: &HashMap<RcStr, Value<X>>,
 ) -> Option<Expr<T>> {
     substitute_values_into_expr::<ExprBuilder<T>, X>(alloc, e, values).ok()
-}
-
-// The map that binds x to {1}.
-fn x_is_a_set(rt: &HostRuntime) -> Result<Values, Fail> {
-    bound(rt, "x", value(rt, &[Long(1), SetOf(1)])?)
 }
 
 fn builds(
@@ -124,29 +133,38 @@ fn builds(
 
 #[test]
 fn builders_get_values(rt: HostRuntime) -> Result<(), Fail> {
-    let values = x_is_a_set(&rt)?;
+    let values = x_is(&rt, &[Long(1), SetOf(1)])?;
     let wanted = [Long(1), SetOf(1), Bool(true), SetOf(2)];
     assert!(rt; builds(&rt, &values, &[Unknown("x"), Bool(true), SetOf(2)], &wanted)?);
     Ok(())
 }
 
-// The same by types, or the two types of the first clash.
+// Whether a set was refused where a Boolean was wanted.
+fn is_set_for_bool<E>(fault: &TypedBuildFault<E>) -> bool {
+    match fault {
+        TypedBuildFault::TypeError { expected, actual } => {
+            *expected == Type::Bool && *actual == Type::Set
+        }
+        _ => false,
+    }
+}
+
+// What it makes by types, or whether it refused a set for a Boolean.
 fn built_typed<T: Default + Copy, X: ExtensionValue + Ord>(
     alloc: Global,
     e: &Expr<()>,
     values: &HashMap<RcStr, Value<X>>,
-) -> Result<Expr<T>, Option<(Type, Type)>> {
+) -> Result<Expr<T>, bool> {
     match substitute_typed_values_into_expr::<ExprBuilder<T>, X>(alloc, e, values) {
         Ok(made) => Ok(made),
-        Err(TypedBuildFault::TypeError { expected, actual }) => Err(Some((expected, actual))),
-        Err(_fault) => Err(None),
+        Err(fault) => Err(is_set_for_bool(&fault)),
     }
 }
 
 // What is made of an unknown x of this type, which is bound to {1}.
-fn of_type(rt: &HostRuntime, ty: Type) -> Result<Result<Expr<()>, Option<(Type, Type)>>, Fail> {
+fn of_type(rt: &HostRuntime, ty: Type) -> Result<Result<Expr<()>, bool>, Fail> {
     let x = Expr::unknown(Term::new_with_type(text(rt, "x")?, ty));
-    Ok(built_typed(rt.alloc(), &x, &x_is_a_set(rt)?))
+    Ok(built_typed(rt.alloc(), &x, &x_is(rt, &[Long(1), SetOf(1)])?))
 }
 
 #[test]
@@ -158,6 +176,6 @@ fn builders_get_values_of_the_type(rt: HostRuntime) -> Result<(), Fail> {
 
 #[test]
 fn values_of_another_type_are_refused(rt: HostRuntime) -> Result<(), Fail> {
-    assert!(rt; of_type(&rt, Type::Bool)? == Err(Some((Type::Bool, Type::Set))));
+    assert!(rt; of_type(&rt, Type::Bool)? == Err(true));
     Ok(())
 }
