@@ -1,4 +1,5 @@
 //! What a case is, and the names of all cases.
+use bench_args::Wanted;
 use std::alloc::{AllocError, AllocFailed, Global};
 use std::io;
 use std::rc::RcStr;
@@ -104,9 +105,23 @@ impl Names {
         }
     }
 
-    /// Whether a name begins so.
-    pub fn has(&self, beginning: &str) -> bool {
+    // Whether a name begins so.
+    fn has(&self, beginning: &str) -> bool {
         self.names.iter().any(|name| name.starts_with(beginning))
+    }
+
+    /// Refuses the first argument that is no beginning of a name.
+    pub fn check(&self, alloc: Global, wanted: &Wanted) -> Result<(), BenchFault> {
+        match wanted
+            .beginnings()
+            .iter()
+            .find(|beginning| !self.has(beginning))
+        {
+            None => Ok(()),
+            Some(word) => Err(BenchFault::Unknown {
+                word: RcStr::from_str(alloc, word)?,
+            }),
+        }
     }
 
     /// Writes a name on each line.

@@ -2,8 +2,8 @@
 use crate::case::{BenchFault, CaseFault, Visit};
 use cedar_builders::ExpressionConstructionError;
 use cedar_exprs::{Expr, ExprBuilder, SubstitutionError};
-use cedar_script::Sketch;
 use cedar_terms::{Literal, Type, Unknown};
+use sketches::Sketch;
 use std::alloc::{AllocError, Global};
 use std::cmp::Ordering;
 use std::collections::HashMap;

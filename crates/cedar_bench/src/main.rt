@@ -5,7 +5,6 @@
 //! least time of a run in seconds.
 #![tactic(auto)]
 
-mod args;
 mod calls;
 mod case;
 mod count;
@@ -16,9 +15,9 @@ mod script;
 mod timing;
 mod values;
 
-use crate::args::Wanted;
 use crate::case::{BenchFault, Names, Visit};
 use crate::timing::Timing;
+use bench_args::Wanted;
 use std::env;
 use std::process::ExitCode;
 
@@ -42,7 +41,7 @@ fn work(rt: &HostRuntime) -> Result<(), BenchFault> {
         return names.print(rt);
     }
     let wanted = Wanted::read(rt.alloc(), arguments)?;
-    wanted.check(rt.alloc(), &names)?;
+    names.check(rt.alloc(), &wanted)?;
     all_cases(&mut Timing::new(rt, wanted))
 }
 

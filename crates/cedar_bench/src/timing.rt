@@ -1,6 +1,6 @@
 //! Runs cases by the clock.
-use crate::args::Wanted;
 use crate::case::{BenchFault, CaseFault, Visit};
+use bench_args::Wanted;
 use std::alloc::Global;
 use std::time::{Duration, Instant};
 

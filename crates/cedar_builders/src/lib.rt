@@ -11,6 +11,3 @@ mod substitution_error;
 pub use expr_builder::{BuildFault, ExprBuilder, ExprBuilderInfallibleBuild, LawfulExprBuilder};
 pub use expression_construction_errors::{DuplicateKeyError, ExpressionConstructionError};
 pub use substitution_error::SubstitutionError;
-
-#[cfg(test)]
-mod tests;

@@ -2,7 +2,7 @@
 use crate::fault::Fault;
 use cedar_exprs::Expr;
 use cedar_names::{FromNormalizedStr as _, Name};
-use cedar_script::Sketch;
+use sketches::Sketch;
 use std::alloc::Global;
 use std::fmt::Display;
 use std::rc::RcStr;

@@ -4,5 +4,4 @@ pub mod Words
 pub mod Patterns
 pub mod CommandWords
 pub mod Stack
-pub mod SketchTexts
 pub mod CommandEffects

@@ -1,11 +1,12 @@
 //! The lines of the script, read as commands.
-ghost use Rattle.std.specs.Prelude.{◌≡◌, ◌≢◌, ◌==◌, ◌⊎◌, ◌∷◌, IfOk, OnErr, IfErr, false, slice_index};
+ghost use Rattle.std.specs.Prelude.{◌≡◌, ◌≢◌, ◌==◌, ◌⊎◌, ◌∷◌, [], IfOk, OnErr, IfErr, false, slice_index};
 ghost use Rattle.std.specs.Result.{OkIff};
 ghost use Rattle.std.specs.Str.Parse.{digits_value, signed_digits_value};
 ghost use Rattle.cedar_names.specs.Names.{IsNameOf, has_reserved};
 ghost use Rattle.cedar_names.specs.PlainNames.{bare_name};
 ghost use Rattle.cedar_names.specs.Slots.{slot_text};
 ghost use Rattle.cedar_names.specs.declared.slot.SlotId.{SlotId};
+ghost use Rattle.cedar_terms.specs.Literals.{BoolLit, literal_text};
 ghost use Rattle.cedar_terms.specs.Ops.{binary_op_text, var_text};
 ghost use Rattle.cedar_terms.specs.Types.{bare_type, type_text};
 ghost use Rattle.cedar_terms.specs.declared.ops.BinaryOp.{BinaryOp};
@@ -105,38 +106,70 @@ fn parse_words<'a>(alloc: Global, words: &[&'a str]) -> Result<Command<'a>, Refu
     ensures refused { IfErr result (λ e. (e ≡ Refusal.BadLine) ⊎ (e ≡ Refusal.Memory)) }
 {
     match words {
-        ["bool", "true"] => Ok(Command::Bool(true)),
-        ["bool", "false"] => Ok(Command::Bool(false)),
-        ["long", number] => Ok(Command::Long(parse_long(number)?)),
-        ["string"] => Ok(Command::String("")),
-        ["var", name] => Ok(Command::Var(parse_var(name)?)),
-        ["slot", name] => Ok(Command::Slot(parse_slot(name)?)),
-        ["unknown", name] => Ok(Command::Unknown(name, None)),
-        ["unknown", name, ty] => Ok(Command::Unknown(name, Some(parse_type(ty)?))),
-        ["if"] => Ok(Command::If),
-        ["and"] => Ok(Command::And),
-        ["or"] => Ok(Command::Or),
-        ["raw-and"] => Ok(Command::RawAnd),
-        ["raw-or"] => Ok(Command::RawOr),
-        ["!"] => Ok(Command::Unary(UnaryOp::Not)),
-        ["neg"] => Ok(Command::Unary(UnaryOp::Neg)),
-        ["isEmpty"] => Ok(Command::Unary(UnaryOp::IsEmpty)),
-        ["call", name, number] => Ok(Command::Call(parse_name(alloc, name)?, parse_count(number)?)),
-        ["get", attribute] => Ok(Command::Get(attribute)),
-        ["has", attribute] => Ok(Command::Has(attribute)),
+        ["record", keys @ ..] => Ok(Command::Record(keys.to_vec(alloc)?)),
         ["exthas", first, later @ ..] => {
             let later = later.to_vec(alloc)?;
             Ok(Command::ExtHas(NonEmpty::new(*first, later)))
         }
-        ["like"] => Ok(Command::Like(Pattern::from_vec(alloc, Vec::new(alloc))?)),
-        ["is", name] => Ok(Command::Is(EntityType::from(parse_name(alloc, name)?))),
-        ["set", number] => Ok(Command::Set(parse_count(number)?)),
-        ["record", keys @ ..] => Ok(Command::Record(keys.to_vec(alloc)?)),
-        ["bind", name] => Ok(Command::Bind(name)),
-        ["substitute"] => Ok(Command::Substitute),
-        ["typed"] => Ok(Command::Typed),
-        ["show"] => Ok(Command::Show),
-        [operator] => Ok(Command::Binary(parse_binary_op(operator)?)),
+        [word] => parse_alone(alloc, word),
+        [first, word] => parse_with_one(alloc, first, word),
+        ["unknown", name, ty] => Ok(Command::Unknown(name, Some(parse_type(ty)?))),
+        ["call", name, number] => Ok(Command::Call(parse_name(alloc, name)?, parse_count(number)?)),
+        _ => Err(Refusal::BadLine),
+    }
+}
+
+// The command that a word alone spells.
+fn parse_alone<'a>(alloc: Global, word: &str) -> Result<Command<'a>, Refusal>
+    ensures spelled { IfOk result (λ command. Spells command (word.now ∷ [])) }
+    ensures refused { IfErr result (λ e. (e ≡ Refusal.BadLine) ⊎ (e ≡ Refusal.Memory)) }
+{
+    match word {
+        "string" => Ok(Command::String("")),
+        "if" => Ok(Command::If),
+        "and" => Ok(Command::And),
+        "or" => Ok(Command::Or),
+        "raw-and" => Ok(Command::RawAnd),
+        "raw-or" => Ok(Command::RawOr),
+        "!" => Ok(Command::Unary(UnaryOp::Not)),
+        "neg" => Ok(Command::Unary(UnaryOp::Neg)),
+        "isEmpty" => Ok(Command::Unary(UnaryOp::IsEmpty)),
+        "like" => Ok(Command::Like(Pattern::from_vec(alloc, Vec::new(alloc))?)),
+        "substitute" => Ok(Command::Substitute),
+        "typed" => Ok(Command::Typed),
+        "show" => Ok(Command::Show),
+        _ => Ok(Command::Binary(parse_binary_op(word)?)),
+    }
+}
+
+// The command that a first word and one more spell.
+fn parse_with_one<'a>(alloc: Global, first: &str, word: &'a str) -> Result<Command<'a>, Refusal>
+    ensures spelled { IfOk result (λ command. Spells command (first.now ∷ word.now ∷ [])) }
+    ensures refused { IfErr result (λ e. (e ≡ Refusal.BadLine) ⊎ (e ≡ Refusal.Memory)) }
+{
+    match first {
+        "bool" => Ok(Command::Bool(parse_bool(word)?)),
+        "long" => Ok(Command::Long(parse_long(word)?)),
+        "var" => Ok(Command::Var(parse_var(word)?)),
+        "slot" => Ok(Command::Slot(parse_slot(word)?)),
+        "unknown" => Ok(Command::Unknown(word, None)),
+        "get" => Ok(Command::Get(word)),
+        "has" => Ok(Command::Has(word)),
+        "is" => Ok(Command::Is(EntityType::from(parse_name(alloc, word)?))),
+        "set" => Ok(Command::Set(parse_count(word)?)),
+        "bind" => Ok(Command::Bind(word)),
+        _ => Err(Refusal::BadLine),
+    }
+}
+
+// The Boolean that a word names.
+fn parse_bool(word: &str) -> Result<bool, Refusal>
+    ensures named { IfOk result (λ b. word.now ≡ literal_text (BoolLit b)) }
+    ensures refused { IfErr result (λ e. e ≡ Refusal.BadLine) }
+{
+    match word {
+        "true" => Ok(true),
+        "false" => Ok(false),
         _ => Err(Refusal::BadLine),
     }
 }
