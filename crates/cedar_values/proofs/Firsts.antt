@@ -1,14 +1,15 @@
 -- The first values of each literal, as the literals by hash tell them apart.
 use Rattle.std.proofs.Common.{◌≡◌, Bool, true, false, ◌||◌, ◌++◌, List, [], ◌∷◌, map, Some, None, refl, sym, ap, subst, ◌∙◌, ⊎_elim}
 use Rattle.std.specs.Cmp.{IsTotalOrder}
-use Rattle.std.specs.List.{Contains}
+use Rattle.std.specs.List.{AllByRecursion, Contains, IsDistinct, list_all}
 use Rattle.std.specs.Ordering.{eq_by_cmp}
 use Rattle.std.specs.declared.cmp.Ordering.{Ordering}
 use Rattle.std.proofs.Math.Bool.{or-false, or-true}
 use Rattle.std.proofs.lemmas.List.{map_push}
 use Rattle.std.proofs.lemmas.List.Elements.{Contains-append_left, Contains-push, Contains-push_cases}
 use Rattle.std.proofs.lemmas.List.Folds.{list_any-append}
-use Rattle.cedar_terms.specs.LiteralOrder.{literal_eq}
+use Rattle.std.proofs.lemmas.Map.Keys.{IsDistinct-push}
+use Rattle.cedar_terms.specs.LiteralOrder.{literal_eq, literal_eq_equiv, literal_ties}
 use Rattle.cedar_terms.specs.Literals.{BareLiteral}
 use Rattle.rising.specs.Classes.{has_class}
 use Rattle.rising.specs.Images.{has_image}
@@ -17,7 +18,7 @@ use Rattle.value_trees.specs.BareValue.{BareValue, LitValue, SetValue, RecordVal
 use Rattle.value_trees.specs.ValueOrder.{value_cmp}
 use Rattle.cedar_values.specs.BareValues.{bare_value}
 use Rattle.cedar_values.specs.HashForms.{HasLiterals, LiteralSet, is_among, literals_in, literals_of}
-use Rattle.cedar_values.specs.Places.{literal_of}
+use Rattle.cedar_values.specs.Places.{is_lit_value, literal_of}
 use Rattle.cedar_values.specs.Sets.{HaveEachOf, by_tree}
 use Rattle.cedar_values.specs.declared.value.Value.{Value}
 use Rattle.cedar_values.proofs.HashForms.{known, literal_class}
@@ -26,24 +27,30 @@ use Rattle.cedar_values.proofs.HashForms.{known, literal_class}
 pub record AreFirsts {X : Type 0} (R : X → X → Ordering) (ms vs : List (Value X)) (h : LiteralSet) : Type 0 where
   pub each : HaveEachOf R ms vs
   pub hashed : HasLiterals (literals_in (map bare_value ms)) h
+  pub distinct : IsDistinct literal_eq (literals_in (map bare_value ms))
 
-turned : (a b c : Bool) → (a || (b || c)) ≡ (b || (a || c))
-turned true true c = refl
-turned true false c = refl
-turned false b c = refl
+unique : (ls : List BareLiteral) → [] ≡ ls → IsDistinct literal_eq ls
+unfolding IsDistinct
+unique ls h = subst (IsDistinct literal_eq) h tt
+
+last : (a b : Bool) → (b || a) ≡ (a || (b || false))
+last true true = refl
+last true false = refl
+last false true = refl
+last false false = refl
 
 module _ {X : Type 0} where
   -- ---- a value more among literals
 
-  lit_last : (ts : List (BareValue X)) (t : BareValue X) (l : BareLiteral) → literal_of t ≡ Some l → (m : BareLiteral) → (literal_eq m l || is_among (literals_in ts) m) ≡ is_among (literals_in (ts ++ t ∷ [])) m
-  lit_last [] (LitValue k) l h m = ap (λ o. elim o as (λ _. Bool) [ None ↦ false | Some x ↦ literal_eq m x || false ]) (sym h)
-  lit_last [] (SetValue us) l h m = cc
-  lit_last [] (RecordValue ps) l h m = cc
-  lit_last [] (ExtensionValue x g) l h m = cc
-  lit_last (LitValue k ∷ ts) t l h m = turned (literal_eq m l) (literal_eq m k) (is_among (literals_in ts) m) ∙ ap (λ b. literal_eq m k || b) (lit_last ts t l h m)
-  lit_last (SetValue us ∷ ts) t l h m = lit_last ts t l h m
-  lit_last (RecordValue ps ∷ ts) t l h m = lit_last ts t l h m
-  lit_last (ExtensionValue x g ∷ ts) t l h m = lit_last ts t l h m
+  lit_last : (ts : List (BareValue X)) (t : BareValue X) (l : BareLiteral) → literal_of t ≡ Some l → literals_in ts ++ l ∷ [] ≡ literals_in (ts ++ t ∷ [])
+  lit_last [] (LitValue k) l h = ap (λ o. elim o as (λ _. List BareLiteral) [ None ↦ [] | Some x ↦ x ∷ [] ]) (sym h)
+  lit_last [] (SetValue us) l h = cc
+  lit_last [] (RecordValue ps) l h = cc
+  lit_last [] (ExtensionValue x g) l h = cc
+  lit_last (LitValue k ∷ ts) t l h = ap (λ ls. k ∷ ls) (lit_last ts t l h)
+  lit_last (SetValue us ∷ ts) t l h = lit_last ts t l h
+  lit_last (RecordValue ps ∷ ts) t l h = lit_last ts t l h
+  lit_last (ExtensionValue x g ∷ ts) t l h = lit_last ts t l h
 
   none_last : (ts : List (BareValue X)) (t : BareValue X) → literal_of t ≡ None → literals_in ts ≡ literals_in (ts ++ t ∷ [])
   none_last [] (LitValue k) h = cc
@@ -76,26 +83,34 @@ module _ {X : Type 0} where
     none_yet h none = record {
       each = record { same = λ q. refl; kept = λ v there. there };
       hashed = λ m. ap (λ ks. is_among ks m) none;
+      distinct = unique [] refl;
     }
 
     module _ (ms vs : List (Value X)) (v : Value X) (h : LiteralSet) (firsts : AreFirsts R ms vs h) where
       -- it is no literal
       pub other : literal_of (bare_value v) ≡ None → AreFirsts R (ms ++ v ∷ []) (vs ++ v ∷ []) h
-      other none = record {
-        each = each_push ms vs v firsts.each;
-        hashed = λ m. firsts.hashed m ∙ ap (λ ls. is_among ls m) (none_last (map bare_value ms) (bare_value v) none ∙ ap literals_in (sym (map_push bare_value ms v)));
-      }
+      other none =
+          let same : literals_in (map bare_value ms) ≡ literals_in (map bare_value (ms ++ v ∷ [])) = none_last (map bare_value ms) (bare_value v) none ∙ ap literals_in (sym (map_push bare_value ms v)) in
+          record {
+            each = each_push ms vs v firsts.each;
+            hashed = λ m. firsts.hashed m ∙ ap (λ ls. is_among ls m) same;
+            distinct = subst (IsDistinct literal_eq) same firsts.distinct;
+          }
 
       module _ (n : LiteralSet) (l : BareLiteral) (is : literal_of (bare_value v) ≡ Some l) (adds : HasLiterals (l ∷ literals_of h) n) where
         -- it is the first of its class
-        pub first : AreFirsts R (ms ++ v ∷ []) (vs ++ v ∷ []) n
-        first = record {
-          each = each_push ms vs v firsts.each;
-          hashed = λ m.
-              adds m ∙ ap (λ b. literal_eq m l || b) (firsts.hashed m)
-              ∙ lit_last (map bare_value ms) (bare_value v) l is m
-              ∙ ap (λ ts. is_among (literals_in ts) m) (sym (map_push bare_value ms v));
-        }
+        pub first : is_among (literals_of h) l ≡ false → AreFirsts R (ms ++ v ∷ []) (vs ++ v ∷ []) n
+        first fresh =
+            let ls = literals_in (map bare_value ms) in
+            let same : ls ++ l ∷ [] ≡ literals_in (map bare_value (ms ++ v ∷ [])) = lit_last (map bare_value ms) (bare_value v) l is ∙ ap literals_in (sym (map_push bare_value ms v)) in
+            record {
+              each = each_push ms vs v firsts.each;
+              hashed = λ m.
+                  adds m ∙ ap (λ b. literal_eq m l || b) (firsts.hashed m)
+                  ∙ last (is_among ls m) (literal_eq m l) ∙ sym (list_any-append (literal_eq m) ls (l ∷ []))
+                  ∙ ap (λ ks. is_among ks m) same;
+              distinct = subst (IsDistinct literal_eq) same (IsDistinct-push literal_eq_equiv ls l firsts.distinct (sym (firsts.hashed l) ∙ fresh));
+            }
 
         -- there is one of its class
         pub later : IsTotalOrder (by_tree R) → is_among (literals_of h) l ≡ true → AreFirsts R ms (vs ++ v ∷ []) n
@@ -116,4 +131,36 @@ module _ {X : Type 0} where
                 kept = λ w one. Contains-append_left vs (v ∷ []) w (firsts.each.kept w one);
               };
               hashed = λ m. adds m ∙ sym (known (literals_of h) l there m) ∙ firsts.hashed m;
+              distinct = firsts.distinct;
             }
+
+    -- ---- literals of which no two are the same are of classes of their own
+
+    apart : (l : BareLiteral) (ts : List (BareValue X)) → list_all is_lit_value ts ≡ true → AllByRecursion (λ k. literal_eq l k ≡ false) (literals_in ts)
+        → AllByRecursion (λ t. eq_by_cmp (value_cmp R) (LitValue l) t ≡ false) ts
+    apart l [] all h = tt
+    apart l (LitValue k ∷ ts) all h = (sym (literal_ties l k) ∙ h.0, apart l ts all h.1)
+    apart l (SetValue us ∷ ts) all h = cc
+    apart l (RecordValue ps ∷ ts) all h = cc
+    apart l (ExtensionValue x g ∷ ts) all h = cc
+
+    distinct_trees : (ts : List (BareValue X)) → list_all is_lit_value ts ≡ true → IsDistinct literal_eq (literals_in ts) → IsDistinct (eq_by_cmp (value_cmp R)) ts
+    unfolding IsDistinct
+    distinct_trees [] all h = tt
+    distinct_trees (LitValue k ∷ ts) all h = (apart k ts all h.0, distinct_trees ts all h.1)
+    distinct_trees (SetValue us ∷ ts) all h = cc
+    distinct_trees (RecordValue ps ∷ ts) all h = cc
+    distinct_trees (ExtensionValue x g ∷ ts) all h = cc
+
+    apart_values : (t : BareValue X) (vs : List (Value X)) → AllByRecursion (λ u. eq_by_cmp (value_cmp R) t u ≡ false) (map bare_value vs)
+        → AllByRecursion (λ v. eq_by_cmp (value_cmp R) t (bare_value v) ≡ false) vs
+    apart_values t [] h = tt
+    apart_values t (v ∷ vs) h = (h.0, apart_values t vs h.1)
+
+    of_trees : (vs : List (Value X)) → IsDistinct (eq_by_cmp (value_cmp R)) (map bare_value vs) → IsDistinct (eq_by_cmp (by_tree R)) vs
+    unfolding IsDistinct
+    of_trees [] h = tt
+    of_trees (v ∷ vs) h = (apart_values (bare_value v) vs h.0, of_trees vs h.1)
+
+    pub distinct_values : (vs : List (Value X)) → list_all is_lit_value (map bare_value vs) ≡ true → IsDistinct literal_eq (literals_in (map bare_value vs)) → IsDistinct (eq_by_cmp (by_tree R)) vs
+    distinct_values vs all h = of_trees vs (distinct_trees (map bare_value vs) all h)

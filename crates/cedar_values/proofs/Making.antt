@@ -1,7 +1,6 @@
 -- What sets are made of.
 use Rattle.std.proofs.Common.{◌≡◌, true, false, ◌&&◌, ◌||◌, List, [], ◌∷◌, map, cond, Option, Some, refl, sym, ap, subst, ◌∙◌, IsTrue, Result, Ok, Err, IfOk}
 use Rattle.std.proofs.lemmas.Result.{IfOk-weaker}
-use Rattle.std.specs.Cmp.{IsTotalOrder}
 use Rattle.std.specs.List.{list_all}
 use Rattle.std.specs.Ordering.{is_eq}
 use Rattle.std.specs.declared.cmp.Ordering.{Ordering}
@@ -15,7 +14,6 @@ use Rattle.cedar_values.specs.Sets.{HaveEachOf, by_tree, hashed_literals, member
 use Rattle.cedar_values.specs.WellFormed.{set_well_formed, well_formed}
 use Rattle.cedar_values.specs.declared.set.Set.{Set}
 use Rattle.cedar_values.specs.declared.value.Value.{Value}
-use Rattle.cedar_values.proofs.HashForms.{kept_form}
 use Rattle.cedar_values.proofs.Levels.{unplaced_tree, unplaced_kept}
 use Rattle.cedar_values.proofs.WellFormedSets.{kept_of_classes, set_is}
 
@@ -56,12 +54,12 @@ module _ {X : Type 0} (R : X → X → Ordering) where
     kept = λ v there. each.kept v (h.kept v there);
   }
 
-  -- a set of the classes of values, with the hash form of these
-  pub made_well : IsTotalOrder (value_cmp R) → (s : Set X) (ms vs : List (Value X)) (f : Option (List BareLiteral)) → members s ≡ ms → hashed_literals s ≡ f → IsClassesOf (by_tree R) ms vs
-      → is_hash_form (map bare_value vs) f ≡ true → list_all (well_formed R) vs ≡ true → set_well_formed R s ≡ true
-  made_well o s ms vs f is hashed classes form all =
+  -- a set of the classes of values, with its hash form
+  pub made_well : (s : Set X) (ms vs : List (Value X)) (f : Option (List BareLiteral)) → members s ≡ ms → hashed_literals s ≡ f → IsClassesOf (by_tree R) ms vs
+      → is_hash_form (map bare_value ms) f ≡ true → list_all (well_formed R) vs ≡ true → set_well_formed R s ≡ true
+  made_well s ms vs f is hashed classes form all =
       kept_of_classes R s vs (subst (λ xs. IsClassesOf (by_tree R) xs vs) (sym is) classes)
-      ((λ i. is_hash_form (map bare_value (is i)) (hashed i)) ∙ kept_form R o ms vs classes f form) all
+      ((λ i. is_hash_form (map bare_value (is i)) (hashed i)) ∙ form) all
 
   -- a set that is made of the gathered values
   module _ {E : Type 0} (r : Result (Set X) E) (vs ws : List (Value X)) (is : gathered vs ≡ ws) where

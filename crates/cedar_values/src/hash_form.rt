@@ -1,6 +1,7 @@
 // The literals of a set by hash, which it keeps beside its members (`fast` of Cedar's `Set`).
 ghost use Rattle.std.specs.Prelude.{◌≡◌, ◌∷◌, IsTrue, IfOk, OnOk, map, not, option_map};
 ghost use Rattle.std.specs.List.{IsDistinct, list_all};
+ghost use Rattle.rising.specs.Classes.{IsClassesOf};
 ghost use Rattle.cedar_terms.specs.LiteralOrder.{literal_eq};
 ghost use Rattle.cedar_terms.specs.Literals.{bare_literal};
 ghost use Rattle.cedar_values.specs.BareValues.{bare_value};
@@ -12,8 +13,9 @@ ghost use Rattle.cedar_values.specs.HashForms.{
   literals_in,
   literals_of,
 };
-ghost use Rattle.cedar_values.specs.Sets.{HaveEachOf};
+ghost use Rattle.cedar_values.specs.Sets.{HaveEachOf, by_tree};
 
+use crate::laws::order_of_values;
 use crate::value::{Value, are_literals};
 use cedar_terms::Literal;
 use std::alloc::{AllocError, Global};
@@ -24,21 +26,25 @@ use value_trees::laws::values_are_ordered;
 // Room is made at first for so many literals at most: of many values few may be different.
 const FIRST_ROOM: usize = 128;
 
-// The values of which a set is made, and their hash form: of literals the first of each, else all.
-pub(crate) fn hash_form<X: Ord + Drop>(
+// The members of the set of some values, strictly rising, and where all of them are literals these
+// by hash, which tell at the same time which of the values are new.
+pub(crate) fn with_hash_form<X: Ord + Drop>(
     alloc: Global,
     values: Vec<Value<X>>,
 ) -> Result<(Vec<Value<X>>, Option<Rc<HashSet<Literal>>>), AllocError>
-    ensures each { IfOk result (λ made. HaveEachOf X.cmp made.0.items values.items) }
+    ensures classes { IfOk result (λ made.
+        IsClassesOf (by_tree X.cmp) made.0.items values.items) }
     ensures hashed { IfOk result (λ made. IsTrue (is_hash_form (map bare_value made.0.items)
         (option_map (λ h. literals_of h.value) made.1))) }
 {
+    order_of_values::<X>();
+    values_are_ordered::<X>();
     if !are_literals(&values) {
-        return Ok((values, None));
+        return Ok((rising::into_rising(values), None));
     }
     let (firsts, literals) = firsts_by_hash(alloc, values)?;
     let literals = Rc::new(alloc, literals)?;
-    Ok((firsts, Some(literals)))
+    Ok((rising::into_sorted(firsts), Some(literals)))
 }
 
 // The first value of each literal, every value that is none, and the literals by hash.
@@ -52,6 +58,8 @@ fn firsts_by_hash<X: Ord + Drop>(
     ensures each { IfOk result (λ made. HaveEachOf X.cmp made.0.items values.items) }
     ensures hashed { IfOk result (λ made.
         HasLiterals (literals_in (map bare_value made.0.items)) made.1) }
+    ensures distinct { IfOk result (λ made.
+        IsDistinct literal_eq (literals_in (map bare_value made.0.items))) }
 {
     values_are_ordered::<X>();
     let mut firsts = Vec::with_capacity(alloc, values.len())?;

@@ -28,7 +28,7 @@ ghost use Rattle.cedar_values.specs.Sets.{HoldsJust, by_tree, hashed_literals, m
 ghost use Rattle.cedar_values.specs.WellFormed.{set_well_formed, well_formed};
 
 use crate::extension_value::NoExtension;
-use crate::hash_form::{hash_form, is_among, is_hash_form, share};
+use crate::hash_form::{is_among, is_hash_form, share, with_hash_form};
 use crate::laws::order_of_values;
 use crate::value::{Value, are_literals, literal_values, without_places};
 use cedar_terms::Literal;
@@ -36,7 +36,6 @@ use std::alloc::{AllocError, Global};
 use std::collections::HashSet;
 use std::rc::Rc;
 use std::slice;
-use value_trees::laws::values_are_ordered;
 
 /// A set of values, as the strictly rising list of its members. Where all of them are literals, as
 /// those of the empty set are, they are kept by hash too.
@@ -147,10 +146,8 @@ impl<X: Ord + Drop> Set<X> {
         ensures well_formed { IfOk result (λ s. IsTrue (list_all (well_formed X.cmp) values.items)
             → IsTrue (set_well_formed X.cmp s)) }
     {
-        order_of_values::<X>();
-        values_are_ordered::<X>();
-        let (values, literals) = hash_form(alloc, values)?;
-        Set::of_members(alloc, rising::into_rising(values), literals)
+        let (members, literals) = with_hash_form(alloc, values)?;
+        Set::of_members(alloc, members, literals)
     }
 
     /// The set of some literals. Its members are at no place.

@@ -2,3 +2,4 @@ pub mod Halving
 pub mod FirstItems
 pub mod Neighbours
 pub mod Ends
+pub mod Distinct

@@ -5,7 +5,9 @@
 #![tactic(auto)]
 
 ghost use Rattle.std.specs.Prelude.{◌≡◌, ◌↔◌, IsTrue};
+ghost use Rattle.std.specs.List.{IsDistinct};
 ghost use Rattle.std.specs.List.Sorted.{IsStrictlySortedBy};
+ghost use Rattle.std.specs.Ordering.{eq_by_cmp};
 ghost use Rattle.rising.specs.Classes.{HaveNoneInCommon, IsClassesOf, IsPartOf, has_class, rises};
 
 pub mod laws;
@@ -28,6 +30,15 @@ pub fn into_rising<T: Ord + Drop>(mut items: Vec<T>) -> Vec<T>
     items.sort_unstable();
     items.dedup();
     items
+}
+
+/// Items of which no two are of one class, in their order. No memory is taken.
+pub fn into_sorted<T: Ord>(mut distinct: Vec<T>) -> Vec<T>
+    ensures { IsDistinct (eq_by_cmp T.cmp) distinct.items
+        → IsClassesOf T.cmp result.items distinct.items }
+{
+    distinct.sort_unstable();
+    distinct
 }
 
 /// Whether each item is less than the next.

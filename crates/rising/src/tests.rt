@@ -1,5 +1,5 @@
 use crate::laws::rising_lists_are_unique;
-use crate::{contains, into_rising, is_disjoint, is_rising, is_subset};
+use crate::{contains, into_rising, into_sorted, is_disjoint, is_rising, is_subset};
 use std::alloc::{AllocError, Global};
 
 fn numbers(alloc: Global, n: u64) -> Result<Vec<u64>, AllocError> {
@@ -12,6 +12,8 @@ fn one_of_each_class_is_kept(rt: HostRuntime) -> Result<(), AllocError> {
     rising_lists_are_unique::<u64>();
     let made = into_rising::<u64>(vec![in alloc; 3, 1, 3, 2, 1]?);
     assert!(rt; made.as_slice() == [1, 2, 3].as_slice());
+    let sorted = into_sorted::<u64>(vec![in alloc; 3, 1, 2]?);
+    assert!(rt; sorted.as_slice() == made.as_slice());
     assert!(rt; is_rising::<u64>(&made) && is_rising::<u64>(&[]));
     assert!(rt; !is_rising::<u64>(&[1, 1]) && !is_rising::<u64>(&[2, 1]));
     assert!(rt; contains::<u64>(&made, &3) && !contains::<u64>(&made, &4));

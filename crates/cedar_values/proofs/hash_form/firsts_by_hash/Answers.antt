@@ -8,7 +8,7 @@ use Rattle.cedar_terms.specs.Literals.{bare_literal}
 use Rattle.cedar_values.specs.BareValues.{bare_value}
 use Rattle.cedar_values.specs.Sets.{HaveEachOf}
 use Rattle.cedar_values.proofs.Firsts.{AreFirsts, first, later, none_yet, other}
-use Rattle.cedar_values.proofs.HashForms.{not_false}
+use Rattle.cedar_values.proofs.HashForms.{not_false, not_true}
 use Rattle.cedar_values.proofs.hash_form.firsts_by_hash.Goals as goal
 use Rattle.cedar_values.proofs.hash_form.firsts_by_hash.Goals.{in-Some-try_as_lit+in_ok-is_first-in-Some-try_as_lit, in-None-try_as_lit}
 
@@ -32,7 +32,8 @@ loop-value-preserved-in-Continue-branch-4 g c =
           subst (AreFirsts R (ms ++ v ∷ []) (vs ++ v ∷ [])) (sym w.literals-is)
           (first R ms vs v h inv w.add_literal.new.literals (bare_literal w.in-Some-try_as_lit.literal.now)
           (sym c.try_as_lit.ensures ∙ ap (option_map (λ l. bare_literal l.now)) w.in-Some-try_as_lit.is)
-          w.in_ok-is_first-in-Some-try_as_lit.ensures.literals)
+          w.in_ok-is_first-in-Some-try_as_lit.ensures.literals
+          (not_true _ (sym w.in_ok-is_first-in-Some-try_as_lit.ensures.is_new ∙ sym w.is_first-is ∙ c.if-is_first.true)))
       | in-None-try_as_lit w ↦
           subst (AreFirsts R (ms ++ v ∷ []) (vs ++ v ∷ [])) (sym w.literals-is)
           (other R ms vs v h inv (sym c.try_as_lit.ensures ∙ ap (option_map (λ l. bare_literal l.now)) w.in-None-try_as_lit.is))
