@@ -4,7 +4,7 @@ use Rattle.std.specs.Cmp.{IsTotalOrder}
 use Rattle.std.specs.List.{AllByRecursion, Contains, IsDistinct, list_all}
 use Rattle.std.specs.Ordering.{eq_by_cmp}
 use Rattle.std.specs.declared.cmp.Ordering.{Ordering}
-use Rattle.std.proofs.Math.Bool.{or-false, or-true}
+use Rattle.std.proofs.Math.Bool.{or-false, or-true, or_comm}
 use Rattle.std.proofs.lemmas.List.{map_push}
 use Rattle.std.proofs.lemmas.List.Elements.{Contains-append_left, Contains-push, Contains-push_cases}
 use Rattle.std.proofs.lemmas.List.Folds.{list_any-append}
@@ -23,21 +23,15 @@ use Rattle.cedar_values.specs.Sets.{HaveEachOf, by_tree}
 use Rattle.cedar_values.specs.declared.value.Value.{Value}
 use Rattle.cedar_values.proofs.HashForms.{known, literal_class}
 
--- of the values so far these are left, and their literals are kept by hash
+-- of the values so far these are left, and their literals, of which no two are the same, are kept by hash
 pub record AreFirsts {X : Type 0} (R : X → X → Ordering) (ms vs : List (Value X)) (h : LiteralSet) : Type 0 where
   pub each : HaveEachOf R ms vs
   pub hashed : HasLiterals (literals_in (map bare_value ms)) h
   pub distinct : IsDistinct literal_eq (literals_in (map bare_value ms))
 
-unique : (ls : List BareLiteral) → [] ≡ ls → IsDistinct literal_eq ls
+no_repeat : IsDistinct literal_eq []
 unfolding IsDistinct
-unique ls h = subst (IsDistinct literal_eq) h tt
-
-last : (a b : Bool) → (b || a) ≡ (a || (b || false))
-last true true = refl
-last true false = refl
-last false true = refl
-last false false = refl
+no_repeat = tt
 
 module _ {X : Type 0} where
   -- ---- a value more among literals
@@ -83,7 +77,7 @@ module _ {X : Type 0} where
     none_yet h none = record {
       each = record { same = λ q. refl; kept = λ v there. there };
       hashed = λ m. ap (λ ks. is_among ks m) none;
-      distinct = unique [] refl;
+      distinct = no_repeat;
     }
 
     module _ (ms vs : List (Value X)) (v : Value X) (h : LiteralSet) (firsts : AreFirsts R ms vs h) where
@@ -107,7 +101,8 @@ module _ {X : Type 0} where
               each = each_push ms vs v firsts.each;
               hashed = λ m.
                   adds m ∙ ap (λ b. literal_eq m l || b) (firsts.hashed m)
-                  ∙ last (is_among ls m) (literal_eq m l) ∙ sym (list_any-append (literal_eq m) ls (l ∷ []))
+                  ∙ or_comm (literal_eq m l) (is_among ls m) ∙ ap (λ b. is_among ls m || b) (sym (or-false (literal_eq m l)))
+                  ∙ sym (list_any-append (literal_eq m) ls (l ∷ []))
                   ∙ ap (λ ks. is_among ks m) same;
               distinct = subst (IsDistinct literal_eq) same (IsDistinct-push literal_eq_equiv ls l firsts.distinct (sym (firsts.hashed l) ∙ fresh));
             }

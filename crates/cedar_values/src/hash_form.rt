@@ -26,8 +26,8 @@ use value_trees::laws::values_are_ordered;
 // Room is made at first for so many literals at most: of many values few may be different.
 const FIRST_ROOM: usize = 128;
 
-// The members of the set of some values, strictly rising, and where all of them are literals these
-// by hash, which tell at the same time which of the values are new.
+// The members of the set of some values, strictly rising, and their hash form: of literals, which
+// are kept by hash as they come, the first of each is sorted, and no search for repeats follows.
 pub(crate) fn with_hash_form<X: Ord + Drop>(
     alloc: Global,
     values: Vec<Value<X>>,
