@@ -18,6 +18,4 @@
 #[cfg(test)]
 mod raw;
 #[cfg(test)]
-mod refuse_at;
-#[cfg(test)]
 mod tests;

@@ -1,10 +1,10 @@
 // A builder that refuses one call refuses the same before substitution and after.
-use crate::refuse_at::{RefuseAt, Refused};
 use cedar_builders::BuildFault;
 use cedar_exprs::Expr;
 use cedar_names::Name;
 use cedar_terms::Literal;
 use expr_samples::{bound, call, name, record, unknown};
+use refusing_builders::{RefuseAt, Refused};
 use std::test::Fail;
 
 pub fn x(rt: &HostRuntime) -> Result<Expr<()>, Fail> {

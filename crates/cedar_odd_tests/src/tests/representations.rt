@@ -1,11 +1,11 @@
 // A value with a representation in which unknowns stand that the same map binds.
-use crate::refuse_at::RefuseAt;
 use crate::tests::flip::{Flip, extension};
 use crate::tests::refusals::refused;
 use cedar_exprs::{Expr, RestrictedExpr};
 use cedar_terms::Literal;
 use cedar_values::{RepresentableExtensionValue, Value};
 use expr_samples::{call, name, text, two, unknown};
+use refusing_builders::RefuseAt;
 use std::collections::HashMap;
 use std::rc::RcStr;
 use std::test::Fail;

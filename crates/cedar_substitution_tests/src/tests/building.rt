@@ -1,13 +1,13 @@
 // What builders make of an expression, before substitution and after, and which refusal comes
 // first.
 use crate::raw::Raw;
-use crate::refuse_at::{RefuseAt, Refused};
 use crate::tests::stored::{Stored, bind, x_is_a_call};
 use cedar_builders::{BuildFault, ExprBuilder as Builder};
 use cedar_exprs::{Expr, ExprBuilder, ExprKind};
 use cedar_names::Name;
 use cedar_terms::{Literal, Var};
 use expr_samples::{at, bound, call, is_at, record, two, unknown};
+use refusing_builders::{RefuseCount, Refused};
 use std::alloc::{AllocError, Global};
 use std::collections::HashMap;
 use std::convert::AsStr;
@@ -86,12 +86,12 @@ fn is_refused(answer: Result<Expr<()>, BuildFault<Refused>>, first: &str) -> Res
 // Whether this call is refused first before substitution and after, also where x is 1.
 fn refuses_first(rt: &HostRuntime, e: Expr<()>, first: &str) -> Result<bool, Fail> {
     let alloc = rt.alloc();
-    let built = is_refused(e.try_into_expr::<RefuseAt<0>>(alloc), first)?;
+    let built = is_refused(e.try_into_expr::<RefuseCount<0>>(alloc), first)?;
     let values = bound(rt, &[])?;
-    let unbound = e.substitute_into_expr::<RefuseAt<0>, Literal>(alloc, &values);
+    let unbound = e.substitute_into_expr::<RefuseCount<0>, Literal>(alloc, &values);
     let unbound = is_refused(unbound, first)?;
     let values = bound(rt, &[("x", 1)])?;
-    let bound = e.substitute_into_expr::<RefuseAt<0>, Literal>(alloc, &values);
+    let bound = e.substitute_into_expr::<RefuseCount<0>, Literal>(alloc, &values);
     Ok(built && unbound && is_refused(bound, first)?)
 }
 
@@ -128,7 +128,7 @@ fn the_first_refusal_inside_answers(rt: HostRuntime) -> Result<(), Fail> {
 // Whether this is built where nothing is refused and x is 1.
 fn builds(rt: &HostRuntime, e: Expr<()>, wanted: Expr<()>) -> Result<bool, Fail> {
     let values = bound(rt, &[("x", 1), ("y", 2)])?;
-    match e.substitute_into_expr::<RefuseAt<0>, Literal>(rt.alloc(), &values) {
+    match e.substitute_into_expr::<RefuseCount<0>, Literal>(rt.alloc(), &values) {
         Ok(built) => Ok(built == wanted),
         Err(_) => Ok(false),
     }
@@ -220,7 +220,7 @@ fn set_of_the_values(rt: &HostRuntime) -> Result<Expr<()>, Fail> {
 fn builds_values_as_they_are(rt: HostRuntime) -> Result<(), Fail> {
     let (e, values) = (set_of_x_and_z(&rt)?, x_and_z(&rt)?);
     let wanted = set_of_the_values(&rt)?;
-    match e.substitute_into_expr::<RefuseAt<0>, Stored>(rt.alloc(), &values) {
+    match e.substitute_into_expr::<RefuseCount<0>, Stored>(rt.alloc(), &values) {
         Ok(built) => assert!(rt; built == wanted),
         Err(_) => assert!(rt; false, "nothing is refused"),
     }
@@ -231,7 +231,7 @@ fn builds_values_as_they_are(rt: HostRuntime) -> Result<(), Fail> {
 #[test]
 fn refuses_inside_values(rt: HostRuntime) -> Result<(), Fail> {
     let (e, values) = (set_of_x_and_z(&rt)?, x_and_z(&rt)?);
-    let answer = e.substitute_into_expr::<RefuseAt<1>, Stored>(rt.alloc(), &values);
+    let answer = e.substitute_into_expr::<RefuseCount<1>, Stored>(rt.alloc(), &values);
     assert!(rt; is_refused(answer, "f")?);
     Ok(())
 }

@@ -1,9 +1,9 @@
 // Which of two refusals in one node answers.
-use crate::refuse_at::RefuseAt;
 use crate::tests::building::{plain_call, refused};
 use cedar_exprs::Expr;
 use cedar_terms::{Literal, Var};
 use expr_samples::{bound, call, text};
+use refusing_builders::RefuseCount;
 use std::convert::AsStr;
 use std::test::Fail;
 
@@ -91,8 +91,8 @@ fn node_of_two(
 // Whether the call of `g` is refused first, as the node stands and after a substitution.
 fn refuses_g_first(rt: &HostRuntime, e: &Expr<()>) -> Result<bool, Fail> {
     let values = bound(rt, &[("x", 1)])?;
-    let built = refused(e.try_into_expr::<RefuseAt<0>>(rt.alloc()))?;
-    let after = e.substitute_into_expr::<RefuseAt<0>, Literal>(rt.alloc(), &values);
+    let built = refused(e.try_into_expr::<RefuseCount<0>>(rt.alloc()))?;
+    let after = e.substitute_into_expr::<RefuseCount<0>, Literal>(rt.alloc(), &values);
     let after = refused(after)?;
     Ok(built.basename_as_ref().as_str() == "g" && after.basename_as_ref().as_str() == "g")
 }

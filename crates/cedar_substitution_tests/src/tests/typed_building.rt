@@ -1,9 +1,9 @@
 // Building of what typed substitution gives: a clash comes before any refusal.
-use crate::refuse_at::{RefuseAt, Refused};
 use crate::tests::building::plain_call;
 use cedar_exprs::{Expr, TypedBuildFault};
 use cedar_terms::{Literal, Type, Unknown};
 use expr_samples::{bound, text};
+use refusing_builders::{RefuseCount, Refused};
 use std::convert::AsStr;
 use std::test::Fail;
 
@@ -14,7 +14,7 @@ fn built(
     name: &str,
 ) -> Result<Result<Expr<()>, TypedBuildFault<Refused>>, Fail> {
     let values = bound(rt, &[(name, 1)])?;
-    Ok(e.substitute_typed_into_expr::<RefuseAt<0>, Literal>(rt.alloc(), &values))
+    Ok(e.substitute_typed_into_expr::<RefuseCount<0>, Literal>(rt.alloc(), &values))
 }
 
 // The unknown x of this type.

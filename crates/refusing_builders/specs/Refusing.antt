@@ -1,18 +1,18 @@
--- The builder of trees that refuses one call.
-use Rattle.std.specs.Prelude.{ℕ, ◌++◌, codes, decimal, if◌then◌else◌, Ok, Err}
+-- The builder of trees that refuses some calls.
+use Rattle.std.specs.Prelude.{ℕ, Bool, ◌++◌, codes, decimal, length, if◌then◌else◌, Ok, Err}
 use Rattle.cedar_names.specs.Names.{BareName, unqualified}
-use Rattle.cedar_names.specs.NameOrder.{name_eq}
 use Rattle.cedar_builders.specs.BareExpr.{BareExpr, ExtensionFunctionApp, trees_of}
 use Rattle.cedar_builders.specs.Ops.{Ops}
 use Rattle.cedar_builders.specs.Trees.{tree_ops}
 
--- the name of the call that is refused: `f` and the number in decimal, without a namespace
-abbrev pub refused_call : ℕ → BareName
-refused_call k = unqualified (codes "f" ++ decimal k)
+-- the name `f` and the number in decimal, without a namespace
+abbrev pub numbered : ℕ → BareName
+numbered k = unqualified (codes "f" ++ decimal k)
 
--- its meanings are bare trees; that call is refused, and its name is the error
-abbrev pub refusing : ℕ → Ops BareExpr BareName
-refusing k = record {
+-- its meanings are bare trees; which calls are refused goes by their name and by how many arguments
+-- they have, and the name is the error
+abbrev pub refusing : (BareName → ℕ → Bool) → Ops BareExpr BareName
+refusing refuses = record {
   lit_of = tree_ops.lit_of;
   var_of = tree_ops.var_of;
   slot_of = tree_ops.slot_of;
@@ -23,7 +23,7 @@ refusing k = record {
   unary_of = tree_ops.unary_of;
   binary_of = tree_ops.binary_of;
   call_of = λ n es.
-      if name_eq n (refused_call k) then Err n else Ok (ExtensionFunctionApp n (trees_of es));
+      if refuses n (length es) then Err n else Ok (ExtensionFunctionApp n (trees_of es));
   get_of = tree_ops.get_of;
   has_of = tree_ops.has_of;
   ext_has_of = tree_ops.ext_has_of;

@@ -1,4 +1,4 @@
-// A builder of expressions that refuses the calls with a given count of arguments.
+//! The builder that refuses.
 ghost use Rattle.std.specs.Prelude.{◌≡◌, IfOk, IfErr, ⊤, refl, map};
 ghost use Rattle.cedar_names.specs.Names.{BareName};
 ghost use Rattle.cedar_names.specs.PlainNames.{bare_name};
@@ -10,8 +10,9 @@ ghost use Rattle.cedar_builders.specs.Trees.{tree_ops};
 ghost use Rattle.cedar_builders.specs.declared.expression_construction_errors.ExpressionConstructionError.TheVariants as error;
 ghost use Rattle.cedar_exprs.specs.BuiltNode.{builder_place};
 ghost use Rattle.cedar_exprs.specs.BareExpr.{bare_expr, bare_exprs};
-ghost use Rattle.cedar_substitution_tests.specs.Refusing.{refusing};
+ghost use Rattle.refusing_builders.specs.Refusing.{refusing};
 
+use crate::refusal::{Counted, Numbered, Refusal};
 use cedar_builders::{
     BuildFault, ExprBuilder as Builder, ExpressionConstructionError, LawfulExprBuilder,
 };
@@ -19,21 +20,30 @@ use cedar_exprs::{Expr, ExprBuilder};
 use cedar_names::{Loc, Name, NonEmpty, SlotId};
 use cedar_terms::{BinaryOp, EntityType, Literal, Pattern, UnaryOp, Unknown, Var};
 use std::alloc::{AllocError, Global};
+use std::marker::PhantomData;
 use std::rc::RcStr;
 
-/// Makes expressions without data, and refuses each call that has `COUNT` arguments.
+/// Makes expressions without data, as the struct does, but for the calls that are refused.
 #[derive(Drop)]
-pub struct RefuseAt<const COUNT: usize> {
+pub struct Refusing<R> {
     inner: ExprBuilder<()>,
+    refusal: PhantomData<R>,
 }
 
-/// The name of the call that was refused.
+/// Refuses the calls whose name is `f` and `K` in decimal.
+pub type RefuseAt<const K: usize> = Refusing<Numbered<K>>;
+
+/// Refuses the calls with `COUNT` arguments.
+pub type RefuseCount<const COUNT: usize> = Refusing<Counted<COUNT>>;
+
+/// Why a call was refused.
 #[derive(Debug, Drop)]
 pub struct Refused {
+    /// Its name.
     pub name: Name,
 }
 
-impl<const COUNT: usize> Builder for RefuseAt<COUNT> {
+impl<R: Refusal> Builder for Refusing<R> {
     type Expr = Expr<()>;
 
     type Data = ();
@@ -44,7 +54,7 @@ impl<const COUNT: usize> Builder for RefuseAt<COUNT> {
 
     ghost Fault = { BareName };
 
-    ghost ops = { refusing COUNT };
+    ghost ops = { refusing R.refuses };
 
     ghost meaning_of = { bare_expr };
 
@@ -60,15 +70,17 @@ impl<const COUNT: usize> Builder for RefuseAt<COUNT> {
 
     ghost makes_binary = { λ _ _ _ _ _. ⊤ };
 
-    fn new() -> RefuseAt<COUNT> {
-        RefuseAt {
+    fn new() -> Refusing<R> {
+        Refusing {
             inner: ExprBuilder::new(),
+            refusal: PhantomData,
         }
     }
 
-    fn with_data(data: ()) -> RefuseAt<COUNT> {
-        RefuseAt {
+    fn with_data(data: ()) -> Refusing<R> {
+        Refusing {
             inner: ExprBuilder::with_data(data),
+            refusal: PhantomData,
         }
     }
 
@@ -80,9 +92,10 @@ impl<const COUNT: usize> Builder for RefuseAt<COUNT> {
         self.inner.data()
     }
 
-    fn with_maybe_source_loc(self, source_loc: Option<Loc>) -> RefuseAt<COUNT> {
-        RefuseAt {
+    fn with_maybe_source_loc(self, source_loc: Option<Loc>) -> Refusing<R> {
+        Refusing {
             inner: self.inner.with_maybe_source_loc(source_loc),
+            refusal: PhantomData,
         }
     }
 
@@ -141,10 +154,10 @@ impl<const COUNT: usize> Builder for RefuseAt<COUNT> {
         args: Vec<Expr<()>>,
     ) -> Result<Expr<()>, BuildFault<Refused>>
         ensures { Gives bare_expr (λ e. bare_name e.name)
-            ((refusing COUNT).call_of (bare_name fn_name) (map bare_expr args.items))
+            ((refusing R.refuses).call_of (bare_name fn_name) (map bare_expr args.items))
             result }
     {
-        if args.len() == COUNT {
+        if R::is_refused(alloc, &fn_name, args.len())? {
             return Err(BuildFault::Build(Refused { name: fn_name }));
         }
         match self.inner.call_extension_fn(alloc, fn_name, args) {
@@ -204,7 +217,7 @@ impl<const COUNT: usize> Builder for RefuseAt<COUNT> {
     }
 }
 
-impl<const COUNT: usize> LawfulExprBuilder for RefuseAt<COUNT> {
+impl<R: Refusal> LawfulExprBuilder for Refusing<R> {
     ghost lawful = { record {
       and_of_literals = λ a b. refl;
       or_of_literals = λ a b. refl;
