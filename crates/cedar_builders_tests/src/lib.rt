@@ -4,7 +4,7 @@
 //! answer:
 //!
 //! - the default calls of the trait `ExprBuilder`: `unary_operators_make_their_nodes`,
-//!   `binary_operators_make_their_nodes`
+//!   `binary_operators_make_their_nodes`, `negated_comparisons_make_their_nodes`
 //! - `DuplicateKeyError::clone`: `copies_of_duplicate_keys`
 //! - `ExpressionConstructionError::clone`: `copies_of_construction_errors`
 //!

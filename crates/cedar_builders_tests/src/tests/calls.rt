@@ -107,7 +107,8 @@ impl ExprBuilder for Calls {
         Ok(false)
     }
 
-    fn unknown(self, _: Global, _: Unknown) -> Result<bool, AllocError> {
+    fn unknown(self, _: Global, unknown: Unknown) -> Result<bool, AllocError> {
+        drop(unknown);
         Ok(false)
     }
 
@@ -173,7 +174,13 @@ impl ExprBuilder for Calls {
         Ok(expr)
     }
 
-    fn is_entity_type(self, _: Global, expr: bool, _: EntityType) -> Result<bool, AllocError> {
+    fn is_entity_type(
+        self,
+        _: Global,
+        expr: bool,
+        entity_type: EntityType,
+    ) -> Result<bool, AllocError> {
+        drop(entity_type);
         Ok(expr)
     }
 

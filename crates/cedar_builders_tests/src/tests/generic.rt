@@ -8,6 +8,7 @@ use cedar_builders::{
     BuildFault, ExprBuilder, ExprBuilderInfallibleBuild, ExpressionConstructionError,
 };
 use cedar_names::Name;
+use cedar_terms::{BinaryOp, UnaryOp};
 use std::alloc::{AllocError, Global};
 use std::rc::RcStr;
 
@@ -69,43 +70,55 @@ pub fn call_in_memory<B: ExprBuilderInfallibleBuild>(
     }
 }
 
-// The named call on one argument.
+// The call of the operator on one argument.
 pub fn unary_call<B: ExprBuilder>(
     builder: B,
     alloc: Global,
-    call: &str,
+    op: UnaryOp,
     arg: B::Expr,
 ) -> Result<B::Expr, AllocError> {
-    match call {
-        "not" => builder.not(alloc, arg),
-        "neg" => builder.neg(alloc, arg),
-        _ => builder.is_empty(alloc, arg),
+    match op {
+        UnaryOp::Not => builder.not(alloc, arg),
+        UnaryOp::Neg => builder.neg(alloc, arg),
+        UnaryOp::IsEmpty => builder.is_empty(alloc, arg),
     }
 }
 
-// The named call on two arguments.
+// The call of the operator on two arguments.
 pub fn binary_call<B: ExprBuilder>(
     builder: B,
     alloc: Global,
-    call: &str,
+    op: BinaryOp,
     arg1: B::Expr,
     arg2: B::Expr,
 ) -> Result<B::Expr, AllocError> {
-    match call {
-        "is_eq" => builder.is_eq(alloc, arg1, arg2),
-        "less" => builder.less(alloc, arg1, arg2),
-        "lesseq" => builder.lesseq(alloc, arg1, arg2),
-        "add" => builder.add(alloc, arg1, arg2),
-        "sub" => builder.sub(alloc, arg1, arg2),
-        "mul" => builder.mul(alloc, arg1, arg2),
-        "is_in" => builder.is_in(alloc, arg1, arg2),
-        "contains" => builder.contains(alloc, arg1, arg2),
-        "contains_all" => builder.contains_all(alloc, arg1, arg2),
-        "contains_any" => builder.contains_any(alloc, arg1, arg2),
-        "get_tag" => builder.get_tag(alloc, arg1, arg2),
-        "has_tag" => builder.has_tag(alloc, arg1, arg2),
-        "noteq" => builder.noteq(alloc, arg1, arg2),
-        "greater" => builder.greater(alloc, arg1, arg2),
+    match op {
+        BinaryOp::Eq => builder.is_eq(alloc, arg1, arg2),
+        BinaryOp::Less => builder.less(alloc, arg1, arg2),
+        BinaryOp::LessEq => builder.lesseq(alloc, arg1, arg2),
+        BinaryOp::Add => builder.add(alloc, arg1, arg2),
+        BinaryOp::Sub => builder.sub(alloc, arg1, arg2),
+        BinaryOp::Mul => builder.mul(alloc, arg1, arg2),
+        BinaryOp::In => builder.is_in(alloc, arg1, arg2),
+        BinaryOp::Contains => builder.contains(alloc, arg1, arg2),
+        BinaryOp::ContainsAll => builder.contains_all(alloc, arg1, arg2),
+        BinaryOp::ContainsAny => builder.contains_any(alloc, arg1, arg2),
+        BinaryOp::GetTag => builder.get_tag(alloc, arg1, arg2),
+        BinaryOp::HasTag => builder.has_tag(alloc, arg1, arg2),
+    }
+}
+
+// The call of the negation of a comparison.
+pub fn negated_call<B: ExprBuilder>(
+    builder: B,
+    alloc: Global,
+    comparison: BinaryOp,
+    arg1: B::Expr,
+    arg2: B::Expr,
+) -> Result<B::Expr, AllocError> {
+    match comparison {
+        BinaryOp::Eq => builder.noteq(alloc, arg1, arg2),
+        BinaryOp::LessEq => builder.greater(alloc, arg1, arg2),
         _ => builder.greatereq(alloc, arg1, arg2),
     }
 }

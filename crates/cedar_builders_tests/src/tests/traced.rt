@@ -1,4 +1,5 @@
-// A builder that writes down what it is asked for: the name of each node, its place, if it has one, and its children.
+// A builder that writes down the name of each node that it is asked for, its place, if it has
+// one, and its children.
 ghost use Rattle.std.specs.Prelude.{◌≡◌, IfOk, IfErr, Ok, refl, ⊤};
 ghost use Rattle.cedar_builders.specs.Answers.{Gives};
 ghost use Rattle.cedar_builders.specs.Errors.{OnDuplicateKey};
@@ -12,6 +13,7 @@ use cedar_names::{Loc, Name, NonEmpty, SlotId};
 use cedar_terms::{BinaryOp, EntityType, Literal, Pattern, UnaryOp, Unknown, Var};
 use std::alloc::{AllocError, Global};
 use std::convert::Infallible;
+use std::fmt::Display;
 use std::rc::RcStr;
 
 // The data is written behind the name.
@@ -22,17 +24,28 @@ pub struct Traced {
 }
 
 impl Traced {
-    fn node(self, alloc: Global, name: &str, children: &[String]) -> Result<String, AllocError> {
-        let mut text = format!(in alloc; "{name}{}", self.data)?;
-        if let Some(loc) = &self.loc {
-            text.push_str(format!(in alloc; "@{}", loc.start)?.as_str())?;
-        }
+    fn node(
+        self,
+        alloc: Global,
+        name: impl Display + Drop,
+        children: &[String],
+    ) -> Result<String, AllocError> {
+        let mut text = self.without_children(alloc, name)?;
         for child in children {
-            text.push_str(" (")?;
-            text.push_str(child.as_str())?;
-            text.push_str(")")?;
+            write!(text, " ({child})")?;
         }
         Ok(text)
+    }
+
+    fn without_children(
+        &self,
+        alloc: Global,
+        name: impl Display + Drop,
+    ) -> Result<String, AllocError> {
+        match &self.loc {
+            Some(loc) => format!(in alloc; "{name}{}@{}", self.data, loc.start),
+            None => format!(in alloc; "{name}{}", self.data),
+        }
     }
 }
 
@@ -118,7 +131,8 @@ impl ExprBuilder for Traced {
     }
 
     fn unknown(self, alloc: Global, unknown: Unknown) -> Result<String, AllocError> {
-        format!(in alloc; "unknown {}", unknown.name)
+        drop(unknown);
+        self.node(alloc, "unknown", &[])
     }
 
     fn ite(
@@ -140,8 +154,7 @@ impl ExprBuilder for Traced {
     }
 
     fn unary_app(self, alloc: Global, op: UnaryOp, arg: String) -> Result<String, AllocError> {
-        let name = format!(in alloc; "{op}")?;
-        self.node(alloc, name.as_str(), &[arg])
+        self.node(alloc, op, &[arg])
     }
 
     fn binary_app(
@@ -151,8 +164,7 @@ impl ExprBuilder for Traced {
         arg1: String,
         arg2: String,
     ) -> Result<String, AllocError> {
-        let name = format!(in alloc; "{op}")?;
-        self.node(alloc, name.as_str(), &[arg1, arg2])
+        self.node(alloc, op, &[arg1, arg2])
     }
 
     fn call_extension_fn(
@@ -163,37 +175,28 @@ impl ExprBuilder for Traced {
     ) -> Result<String, BuildFault<Infallible>>
         ensures { Gives {M = Unit {0}} {F = ⊥} (λ e. tt) (λ e. elim e [ ]) (Ok tt) result }
     {
-        let name = format!(in alloc; "{fn_name}")?;
-        Ok(self.node(alloc, name.as_str(), &args)?)
+        Ok(self.node(alloc, fn_name, &args)?)
     }
 
-    fn get_attr(self, alloc: Global, expr: String, attr: RcStr) -> Result<String, AllocError> {
-        let name = format!(in alloc; ".{attr}")?;
-        self.node(alloc, name.as_str(), &[expr])
+    fn get_attr(self, alloc: Global, expr: String, _: RcStr) -> Result<String, AllocError> {
+        self.node(alloc, ".", &[expr])
     }
 
-    fn has_attr(self, alloc: Global, expr: String, attr: RcStr) -> Result<String, AllocError> {
-        let name = format!(in alloc; "has {attr}")?;
-        self.node(alloc, name.as_str(), &[expr])
+    fn has_attr(self, alloc: Global, expr: String, _: RcStr) -> Result<String, AllocError> {
+        self.node(alloc, "has", &[expr])
     }
 
     fn extended_has_attr(
         self,
         alloc: Global,
         expr: String,
-        attrs: NonEmpty<RcStr>,
+        _: NonEmpty<RcStr>,
     ) -> Result<String, AllocError> {
-        let mut name = format!(in alloc; "has {}", attrs.head)?;
-        for attr in &attrs.tail {
-            name.push_str(".")?;
-            name.push_str(attr.as_str())?;
-        }
-        self.node(alloc, name.as_str(), &[expr])
+        self.node(alloc, "has", &[expr])
     }
 
-    fn like(self, alloc: Global, expr: String, pattern: Pattern) -> Result<String, AllocError> {
-        let name = format!(in alloc; "like {pattern}")?;
-        self.node(alloc, name.as_str(), &[expr])
+    fn like(self, alloc: Global, expr: String, _: Pattern) -> Result<String, AllocError> {
+        self.node(alloc, "like", &[expr])
     }
 
     fn is_entity_type(
@@ -202,8 +205,8 @@ impl ExprBuilder for Traced {
         expr: String,
         entity_type: EntityType,
     ) -> Result<String, AllocError> {
-        let name = format!(in alloc; "is {entity_type}")?;
-        self.node(alloc, name.as_str(), &[expr])
+        drop(entity_type);
+        self.node(alloc, "is", &[expr])
     }
 
     fn set(self, alloc: Global, members: Vec<String>) -> Result<String, AllocError>
@@ -221,11 +224,11 @@ impl ExprBuilder for Traced {
         ensures accepts { IsRising (keys_of pairs.items) → IfErr result (λ e. e ≡ error.Memory) }
         ensures refuses { IfErr result (OnDuplicateKey (λ _. HasRepeat (keys_of pairs.items))) }
     {
-        let mut fields = Vec::new(alloc);
-        for (key, value) in pairs {
-            fields.push(format!(in alloc; "{key}: {value}")?)?;
+        let mut text = self.without_children(alloc, "record")?;
+        for (key, value) in &pairs {
+            write!(text, " ({key}: {value})")?;
         }
-        Ok(self.node(alloc, "record", &fields)?)
+        Ok(text)
     }
 }
 
