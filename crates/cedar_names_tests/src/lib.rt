@@ -10,7 +10,7 @@
 //! - `Name::parse_unqualified_name`: `reads_one_identifier_as_a_name`
 //! - `InternalName::parse_unqualified_name`, `InternalName::cedar`:
 //!   `reads_the_reserved_identifier_as_a_name`
-//! - `RawName::parse_unqualified_name`: `raw_names::reads_raw_names`
+//! - `RawName::parse_unqualified_name`: `raw_names::compares_raw_names`
 //! - `InternalName::type_in_namespace`: `goes_within_a_namespace`
 //! - `InternalName::namespace`: `shows_namespaces`
 //! - `Name::basename`: `shows_basenames`

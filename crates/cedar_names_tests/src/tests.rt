@@ -5,13 +5,12 @@ use cedar_names::{
     AnyId, FromNormalizedStr, Id, InternalName, Loc, Name, NonEmpty, ParseErrors,
     PrincipalOrResource, Slot, SlotId, UnreservedId, is_normalized_ident,
 };
-use std::alloc::{AllocError, Global};
 use std::collections::{BTreeMap, HashMap};
 use std::convert::{AsRef, AsStr, TryFrom};
 use std::fmt::{Debug, Display};
 use std::hash::Hash;
+use std::process::Abort;
 use std::rc::RcStr;
-use std::test::Fail;
 
 // Texts that are identifiers, by `|`.
 const IDENTIFIERS: &str = "Foo|_foo|foo1|___cedar|permit|_1|_";
@@ -22,153 +21,144 @@ const KEYWORDS: &str = "true|false|if|then|else|in|is|like|has";
 const NO_NAMES: &str =
     "|foo\n| foo|foo |::foo|foo::|foo::\"bar\"|foo//comment|1foo|fo o|foo-bar|foo:bar|foo :: bar|a:::b|\u{e9}";
 
-fn shown<T: Display>(rt: &HostRuntime, x: &T) -> Result<String, Fail> {
-    Ok(x.to_string(rt.alloc())?)
+// What was made; where nothing was, the test ends.
+fn made<T: Drop, E: Debug + Drop>(rt: &impl Abort, answer: Result<T, E>) -> T {
+    answer.expect(rt, "made")
 }
 
-// What was made, printed, or the error's text.
-fn text_of<T: Display + Drop, E: Display + Drop>(
-    rt: &HostRuntime,
+fn is_equal<T: PartialEq + Drop>(first: T, second: T) -> bool {
+    first == second
+}
+
+fn is_less<T: PartialOrd + Drop>(first: T, second: T) -> bool {
+    first < second
+}
+
+// Whether it holds this text.
+fn is_text<T: AsStr + Drop>(x: T, text: &str) -> bool {
+    x.as_str() == text
+}
+
+// Whether what it lends is the wanted value.
+fn lends<T: AsRef<U> + Drop, U: PartialEq + Drop>(x: T, want: U) -> bool {
+    *x.as_ref() == want
+}
+
+// Whether it is printed so.
+fn shows<T: Display + Drop>(rt: &(impl Abort + AllocGlobal), x: T, text: &str) -> bool {
+    made(rt, x.to_string(rt.alloc())).as_str() == text
+}
+
+// Whether what was made, or the error, is printed so.
+fn answers<T: Display + Drop, E: Display + Drop>(
+    rt: &(impl Abort + AllocGlobal),
     answer: Result<T, E>,
-) -> Result<String, Fail> {
+    text: &str,
+) -> bool {
     match answer {
-        Ok(made) => shown(rt, &made),
-        Err(e) => shown(rt, &e),
+        Ok(made) => shows(rt, made, text),
+        Err(e) => shows(rt, e, text),
     }
-}
-
-fn printed<T: FromNormalizedStr + Display + Drop>(
-    rt: &HostRuntime,
-    s: &str,
-) -> Result<String, Fail> {
-    text_of(rt, T::from_normalized_str(rt.alloc(), s))
 }
 
 // Whether each text, by `|`, is read and printed back.
 fn all_read<T: FromNormalizedStr + Display + Drop>(
-    rt: &HostRuntime,
+    rt: &(impl Abort + AllocGlobal),
     texts: &str,
-) -> Result<bool, Fail> {
+) -> bool {
     for s in texts.split('|') {
-        if printed::<T>(rt, s)?.as_str() != s {
-            return Ok(false);
+        if !answers(rt, T::from_normalized_str(rt.alloc(), s), s) {
+            return false;
         }
     }
-    Ok(true)
+    true
 }
 
 // Whether each text, by `|`, is refused with this error text.
 fn all_refused<T: FromNormalizedStr + Display + Drop>(
-    rt: &HostRuntime,
+    rt: &(impl Abort + AllocGlobal),
     texts: &str,
     error: &str,
-) -> Result<bool, Fail> {
+) -> bool {
     for s in texts.split('|') {
-        if printed::<T>(rt, s)?.as_str() != error {
-            return Ok(false);
+        if !answers(rt, T::from_normalized_str(rt.alloc(), s), error) {
+            return false;
         }
     }
-    Ok(true)
+    true
 }
 
-// What was made. A `?` beside a value of a large type is dear to check, one in a generic function
-// is not, so answers go whole through these functions.
-fn made<T: Drop, E: Debug + Drop>(answer: Result<T, E>) -> Result<T, Fail> {
-    Ok(answer?)
+fn read<T: FromNormalizedStr + Drop>(rt: &(impl Abort + AllocGlobal), s: &str) -> T {
+    made(rt, T::from_normalized_str(rt.alloc(), s))
 }
 
-fn beside<T: Drop, U: Drop, E: Debug + Drop>(
-    first: T,
-    second: Result<U, E>,
-) -> Result<(T, U), Fail> {
-    Ok((first, second?))
-}
-
-fn is_equal<T: PartialEq + Drop, E: Debug + Drop>(
-    first: T,
-    second: Result<T, E>,
-) -> Result<bool, Fail> {
-    Ok(first == second?)
-}
-
-fn is_less<T: PartialOrd + Drop, E: Debug + Drop>(
-    first: T,
-    second: Result<T, E>,
-) -> Result<bool, Fail> {
-    Ok(first < second?)
-}
-
-fn read<T: FromNormalizedStr + Drop>(rt: &HostRuntime, s: &str) -> Result<T, Fail> {
-    made(T::from_normalized_str(rt.alloc(), s))
-}
-
-fn id(rt: &HostRuntime, s: &str) -> Result<Id, Fail> {
+fn id(rt: &(impl Abort + AllocGlobal), s: &str) -> Id {
     read(rt, s)
 }
 
-fn unreserved(rt: &HostRuntime) -> Result<UnreservedId, Fail> {
-    made(UnreservedId::try_from(id(rt, "foo")?))
+fn unreserved(rt: &(impl Abort + AllocGlobal)) -> UnreservedId {
+    made(rt, UnreservedId::try_from(id(rt, "foo")))
 }
 
-fn internal(rt: &HostRuntime, s: &str) -> Result<InternalName, Fail> {
+// The keyword `if`.
+fn keyword(rt: &(impl Abort + AllocGlobal)) -> AnyId {
+    read(rt, "if")
+}
+
+fn internal(rt: &(impl Abort + AllocGlobal), s: &str) -> InternalName {
     read(rt, s)
 }
 
-fn name(rt: &HostRuntime, s: &str) -> Result<Name, Fail> {
+fn name(rt: &(impl Abort + AllocGlobal), s: &str) -> Name {
     read(rt, s)
 }
 
 // Whether it is what the text is read as.
 fn is_read_from<T: FromNormalizedStr + PartialEq + Drop>(
-    rt: &HostRuntime,
+    rt: &(impl Abort + AllocGlobal),
     x: T,
     text: &str,
-) -> Result<bool, Fail> {
-    is_equal(x, T::from_normalized_str(rt.alloc(), text))
+) -> bool {
+    x == read(rt, text)
 }
 
-// Whether what was made is this name.
-fn is_named<E: Debug + Drop>(
-    rt: &HostRuntime,
-    made: Result<InternalName, E>,
-    text: &str,
-) -> Result<bool, Fail> {
-    is_equal(internal(rt, text)?, made)
-}
-
-fn loc(rt: &HostRuntime, start: usize, stop: usize, s: &str) -> Result<Loc, Fail> {
-    Ok(Loc::new(start, stop, RcStr::from_str(rt.alloc(), s)?))
+fn loc(rt: &(impl Abort + AllocGlobal), start: usize, stop: usize, s: &str) -> Loc {
+    Loc::new(start, stop, made(rt, RcStr::from_str(rt.alloc(), s)))
 }
 
 #[test]
-fn reads_identifiers(rt: HostRuntime) -> Result<(), Fail> {
-    assert!(rt; all_read::<Id>(&rt, IDENTIFIERS)?);
-    assert!(rt; all_read::<UnreservedId>(&rt, IDENTIFIERS)?);
-    assert!(rt; all_read::<AnyId>(&rt, IDENTIFIERS)?);
-    assert!(rt; all_read::<AnyId>(&rt, KEYWORDS)?);
-    assert!(rt; all_read::<Id>(&rt, "__cedar")?);
-    assert!(rt; all_read::<AnyId>(&rt, "__cedar")?);
-    Ok(())
-}
-
-#[test]
-fn refuses_what_is_no_identifier(rt: HostRuntime) -> Result<(), Fail> {
-    assert!(rt; all_refused::<Id>(&rt, NO_NAMES, "not a normalized Id")?);
-    assert!(rt; all_refused::<Id>(&rt, KEYWORDS, "not a normalized Id")?);
-    assert!(rt; all_refused::<Id>(&rt, "foo::bar", "not a normalized Id")?);
-    assert!(rt; all_refused::<UnreservedId>(&rt, NO_NAMES, "not a normalized Unreserved Id")?);
-    assert!(rt; all_refused::<UnreservedId>(&rt, KEYWORDS, "not a normalized Unreserved Id")?);
-    assert!(rt; all_refused::<UnreservedId>(&rt, "A::__cedar", "not a normalized Unreserved Id")?);
-    assert!(rt; all_refused::<AnyId>(&rt, NO_NAMES, "not a normalized AnyId")?);
-    assert!(rt; all_refused::<AnyId>(&rt, "foo::bar", "not a normalized AnyId")?);
+fn reads_identifiers(rt: HostRuntime) {
     assert!(rt;
-        all_refused::<UnreservedId>(
-            &rt,
-            "__cedar",
-            "The name `__cedar` contains `__cedar`, which is reserved"
-        )?
+        all_read::<Id>(&rt, IDENTIFIERS)
+            && all_read::<UnreservedId>(&rt, IDENTIFIERS)
+            && all_read::<AnyId>(&rt, IDENTIFIERS)
+            && all_read::<AnyId>(&rt, KEYWORDS)
+            && all_read::<Id>(&rt, "__cedar")
+            && all_read::<AnyId>(&rt, "__cedar")
     );
-    Ok(())
+}
+
+#[test]
+fn refuses_what_is_no_identifier(rt: HostRuntime) {
+    assert!(rt;
+        all_refused::<Id>(&rt, NO_NAMES, "not a normalized Id")
+            && all_refused::<Id>(&rt, KEYWORDS, "not a normalized Id")
+            && all_refused::<Id>(&rt, "foo::bar", "not a normalized Id")
+            && all_refused::<AnyId>(&rt, NO_NAMES, "not a normalized AnyId")
+            && all_refused::<AnyId>(&rt, "foo::bar", "not a normalized AnyId")
+    );
+}
+
+#[test]
+fn refuses_what_is_no_unreserved_identifier(rt: HostRuntime) {
+    let error = "not a normalized Unreserved Id";
+    let reserved = "The name `__cedar` contains `__cedar`, which is reserved";
+    assert!(rt;
+        all_refused::<UnreservedId>(&rt, NO_NAMES, error)
+            && all_refused::<UnreservedId>(&rt, KEYWORDS, error)
+            && all_refused::<UnreservedId>(&rt, "A::__cedar", error)
+            && all_refused::<UnreservedId>(&rt, "__cedar", reserved)
+    );
 }
 
 #[test]
@@ -182,33 +172,32 @@ fn tells_normalized_identifiers(rt: HostRuntime) {
 }
 
 #[test]
-fn reads_names(rt: HostRuntime) -> Result<(), Fail> {
+fn reads_names(rt: HostRuntime) {
     let names = "foo|foo::bar::baz|___cedar::foo|permit::foo|A::_cedar";
-    assert!(rt; all_read::<InternalName>(&rt, names)?);
-    assert!(rt; all_read::<Name>(&rt, names)?);
-    assert!(rt; all_read::<InternalName>(&rt, "A::__cedar::B|__cedar|A::__cedar|__cedar::A")?);
+    let words =
+        "A::permit|A::forbid|A::when|A::unless|A::principal|A::action|A::resource|A::context";
     assert!(rt;
-        all_read::<Name>(
-            &rt,
-            "A::permit|A::forbid|A::when|A::unless|A::principal|A::action|A::resource|A::context"
-        )?
+        all_read::<InternalName>(&rt, names)
+            && all_read::<InternalName>(&rt, "A::__cedar::B|__cedar|A::__cedar|__cedar::A")
+            && all_read::<Name>(&rt, names)
+            && all_read::<Name>(&rt, words)
     );
-    Ok(())
 }
 
 #[test]
-fn refuses_what_is_no_name(rt: HostRuntime) -> Result<(), Fail> {
+fn refuses_what_is_no_name(rt: HostRuntime) {
     let no_names =
         "A::true|A::false|A::if|A::then|A::else|A::in|A::is|A::like|A::has|if::__cedar|if";
-    assert!(rt; all_refused::<InternalName>(&rt, NO_NAMES, "not a normalized internal name")?);
-    assert!(rt; all_refused::<InternalName>(&rt, no_names, "not a normalized internal name")?);
-    assert!(rt; all_refused::<Name>(&rt, NO_NAMES, "not a normalized Name")?);
-    assert!(rt; all_refused::<Name>(&rt, no_names, "not a normalized Name")?);
-    Ok(())
+    assert!(rt;
+        all_refused::<InternalName>(&rt, NO_NAMES, "not a normalized internal name")
+            && all_refused::<InternalName>(&rt, no_names, "not a normalized internal name")
+            && all_refused::<Name>(&rt, NO_NAMES, "not a normalized Name")
+            && all_refused::<Name>(&rt, no_names, "not a normalized Name")
+    );
 }
 
 #[test]
-fn refuses_reserved_names(rt: HostRuntime) -> Result<(), Fail> {
+fn refuses_reserved_names(rt: HostRuntime) {
     for (s, error) in [
         (
             "A::__cedar::B",
@@ -227,466 +216,431 @@ fn refuses_reserved_names(rt: HostRuntime) -> Result<(), Fail> {
             "The name `__cedar` contains `__cedar`, which is reserved",
         ),
     ] {
-        assert!(rt; all_refused::<Name>(&rt, s, error)?, "{s}");
+        assert!(rt; all_refused::<Name>(&rt, s, error), "{s}");
     }
-    Ok(())
-}
-
-// Whether the text was refused with this error text.
-fn is_refused<T: Display + Drop>(
-    rt: &HostRuntime,
-    read: Result<T, ParseErrors>,
-    error: &str,
-) -> Result<bool, Fail> {
-    Ok(text_of(rt, read)?.as_str() == error)
 }
 
 #[test]
-fn reads_one_identifier_as_a_name(rt: HostRuntime) -> Result<(), Fail> {
-    let plain = made(Name::parse_unqualified_name(rt.alloc(), "foo"))?;
+fn reads_one_identifier_as_a_name(rt: HostRuntime) {
+    let plain = made(&rt, Name::parse_unqualified_name(rt.alloc(), "foo"));
     assert!(rt; plain.loc().is_none());
-    assert!(rt; is_read_from(&rt, plain, "foo")?);
-    Ok(())
+    assert!(rt; is_read_from(&rt, plain, "foo"));
 }
 
 #[test]
-fn reads_the_reserved_identifier_as_a_name(rt: HostRuntime) -> Result<(), Fail> {
-    let reserved = made(InternalName::parse_unqualified_name(rt.alloc(), "__cedar"))?;
-    assert!(rt; is_equal(reserved, InternalName::cedar(rt.alloc()))?);
-    Ok(())
+fn reads_the_reserved_identifier_as_a_name(rt: HostRuntime) {
+    let reserved = made(
+        &rt,
+        InternalName::parse_unqualified_name(rt.alloc(), "__cedar"),
+    );
+    assert!(rt; is_equal(reserved, made(&rt, InternalName::cedar(rt.alloc()))));
+}
+
+// Whether the text is refused as a name of one identifier, reserved or not.
+fn is_no_identifier(rt: &(impl Abort + AllocGlobal), s: &str) -> bool {
+    let error = "not a normalized Id";
+    answers(
+        rt,
+        InternalName::parse_unqualified_name(rt.alloc(), s),
+        error,
+    ) && answers(rt, Name::parse_unqualified_name(rt.alloc(), s), error)
 }
 
 #[test]
-fn refuses_more_than_one_identifier(rt: HostRuntime) -> Result<(), Fail> {
+fn refuses_more_than_one_identifier(rt: HostRuntime) {
     for s in "a::b|a::__cedar|if|a b".split('|') {
-        let read = InternalName::parse_unqualified_name(rt.alloc(), s);
-        assert!(rt; is_refused(&rt, read, "not a normalized Id")?, "{s}");
-        let read = Name::parse_unqualified_name(rt.alloc(), s);
-        assert!(rt; is_refused(&rt, read, "not a normalized Id")?, "{s}");
+        assert!(rt; is_no_identifier(&rt, s), "{s}");
     }
     let read = Name::parse_unqualified_name(rt.alloc(), "__cedar");
     let error = "The name `__cedar` contains `__cedar`, which is reserved";
-    assert!(rt; is_refused(&rt, read, error)?);
-    Ok(())
+    assert!(rt; answers(&rt, read, error));
 }
 
-// Whether it is the place of all of `foo::bar`.
-fn is_whole(place: Option<&Loc>) -> bool {
-    place.is_some_and(|loc| loc.start == 0 && loc.stop == 8 && loc.src.as_str() == "foo::bar")
+// Whether it is the wanted place.
+fn is_at(place: Option<&Loc>, want: Loc) -> bool {
+    place == Some(&want)
 }
 
 #[test]
-fn keeps_the_place_of_a_text(rt: HostRuntime) -> Result<(), Fail> {
-    assert!(rt; is_whole(internal(&rt, "foo::bar")?.loc()));
-    assert!(rt; is_whole(name(&rt, "foo::bar")?.loc()));
-    Ok(())
+fn keeps_the_place_of_a_text(rt: HostRuntime) {
+    assert!(rt;
+        is_at(internal(&rt, "foo::bar").loc(), loc(&rt, 0, 8, "foo::bar"))
+            && is_at(name(&rt, "foo::bar").loc(), loc(&rt, 0, 8, "foo::bar"))
+    );
 }
 
 // The name within the namespace, at this place.
 fn within(
-    rt: &HostRuntime,
+    rt: &(impl Abort + AllocGlobal),
     basename: &str,
     namespace: &str,
     loc: Option<Loc>,
-) -> Result<InternalName, Fail> {
-    let (basename, namespace) = (id(rt, basename)?, internal(rt, namespace)?);
-    Ok(InternalName::type_in_namespace(rt.alloc(), basename, namespace, loc)?)
-}
-
-#[test]
-fn goes_within_a_namespace(rt: HostRuntime) -> Result<(), Fail> {
-    let made = within(&rt, "C", "A::B", None)?;
-    assert_eq!(rt; shown(&rt, &made)?.as_str(), "A::B::C");
-    Ok(())
-}
-
-// The name `A::B::C` at this place.
-fn placed(rt: &HostRuntime, place: &Loc) -> Result<InternalName, Fail> {
-    let given = made(Loc::clone_option(rt.alloc(), Some(place)))?;
-    within(rt, "C", "A::B", given)
-}
-
-#[test]
-fn keeps_the_place_given(rt: HostRuntime) -> Result<(), Fail> {
-    let place = loc(&rt, 3, 5, "x = A")?;
-    let copy = made(placed(&rt, &place)?.clone(rt.alloc()))?;
-    assert!(rt; copy.loc() == Some(&place));
-    Ok(())
-}
-
-#[test]
-fn orders_places(rt: HostRuntime) -> Result<(), Fail> {
-    for (start, stop, src) in [(2, 9, "z"), (3, 4, "z"), (3, 5, "a")] {
-        let before = loc(&rt, start, stop, src)?;
-        assert!(rt; before < loc(&rt, 3, 5, "b")?);
-    }
-    let place = loc(&rt, 3, 5, "b")?;
-    let copy = place.clone(rt.alloc());
-    assert!(rt; is_equal(place, copy)?);
-    Ok(())
-}
-
-// Whether the name of this text, within the namespace, is the wanted one.
-fn is_qualified(rt: &HostRuntime, s: &str, namespace: &str, want: &str) -> Result<bool, Fail> {
-    let name = InternalName::from_normalized_str(rt.alloc(), s);
-    let (namespace, name) = beside(internal(rt, namespace)?, name)?;
-    is_named(rt, name.qualify_with(rt.alloc(), Some(&namespace)), want)
-}
-
-fn is_qualified_by_name(
-    rt: &HostRuntime,
-    s: &str,
-    namespace: &str,
-    want: &str,
-) -> Result<bool, Fail> {
-    let plain = InternalName::from_normalized_str(rt.alloc(), s);
-    let (namespace, name) = beside(name(rt, namespace)?, plain)?;
-    is_named(
+) -> InternalName {
+    let (basename, namespace) = (id(rt, basename), internal(rt, namespace));
+    made(
         rt,
-        name.qualify_with_name(rt.alloc(), Some(&namespace)),
-        want,
+        InternalName::type_in_namespace(rt.alloc(), basename, namespace, loc),
     )
 }
 
-fn is_plain_qualified(
-    rt: &HostRuntime,
+#[test]
+fn goes_within_a_namespace(rt: HostRuntime) {
+    assert!(rt; shows(&rt, within(&rt, "C", "A::B", None), "A::B::C"));
+}
+
+// The name `A::B::C` at a place in `x = A`.
+fn placed(rt: &(impl Abort + AllocGlobal)) -> InternalName {
+    let given = Loc::clone_option(rt.alloc(), Some(&loc(rt, 3, 5, "x = A")));
+    within(rt, "C", "A::B", made(rt, given))
+}
+
+#[test]
+fn keeps_the_place_given(rt: HostRuntime) {
+    let placed = placed(&rt);
+    let copy = made(&rt, placed.clone(rt.alloc()));
+    assert!(rt; is_at(copy.loc(), loc(&rt, 3, 5, "x = A")));
+    assert!(rt; is_equal(placed, copy));
+}
+
+#[test]
+fn orders_places(rt: HostRuntime) {
+    assert!(rt;
+        is_less(loc(&rt, 2, 9, "z"), loc(&rt, 3, 5, "b"))
+            && is_less(loc(&rt, 3, 4, "z"), loc(&rt, 3, 5, "b"))
+            && is_less(loc(&rt, 3, 5, "a"), loc(&rt, 3, 5, "b"))
+    );
+    let place = loc(&rt, 3, 5, "b");
+    let copy = made(&rt, place.clone(rt.alloc()));
+    assert!(rt; is_equal(place, copy));
+}
+
+// The name of this text within the namespace.
+fn qualified(
+    rt: &(impl Abort + AllocGlobal),
+    s: &str,
+    namespace: Option<&InternalName>,
+) -> InternalName {
+    made(rt, internal(rt, s).qualify_with(rt.alloc(), namespace))
+}
+
+fn qualified_by_name(
+    rt: &(impl Abort + AllocGlobal),
+    s: &str,
+    namespace: Option<&Name>,
+) -> InternalName {
+    made(rt, internal(rt, s).qualify_with_name(rt.alloc(), namespace))
+}
+
+fn plain_qualified(
+    rt: &(impl Abort + AllocGlobal),
+    s: &str,
+    namespace: Option<&InternalName>,
+) -> InternalName {
+    made(rt, name(rt, s).qualify_with(rt.alloc(), namespace))
+}
+
+fn plain_qualified_by_name(
+    rt: &(impl Abort + AllocGlobal),
+    s: &str,
+    namespace: Option<&Name>,
+) -> Name {
+    made(rt, name(rt, s).qualify_with_name(rt.alloc(), namespace))
+}
+
+// Whether each way to put the name of this text within the namespace gives the wanted one.
+fn is_qualified(rt: &(impl Abort + AllocGlobal), s: &str, namespace: &str, want: &str) -> bool {
+    let (internal, plain) = (internal(rt, namespace), name(rt, namespace));
+    is_read_from(rt, qualified(rt, s, Some(&internal)), want)
+        && is_read_from(rt, qualified_by_name(rt, s, Some(&plain)), want)
+        && is_read_from(rt, plain_qualified(rt, s, Some(&internal)), want)
+        && is_read_from(
+            rt,
+            InternalName::from(plain_qualified_by_name(rt, s, Some(&plain))),
+            want,
+        )
+}
+
+#[test]
+fn qualifies(rt: HostRuntime) {
+    assert!(rt;
+        is_qualified(&rt, "baz", "foo::bar", "foo::bar::baz")
+            && is_qualified(&rt, "C::D", "A::B", "C::D")
+            && is_qualified(&rt, "D", "A::B::C", "A::B::C::D")
+            && is_qualified(&rt, "B::C::D", "A", "B::C::D")
+    );
+}
+
+#[test]
+fn qualifies_by_no_namespace(rt: HostRuntime) {
+    assert!(rt;
+        is_read_from(&rt, qualified(&rt, "A", None), "A")
+            && is_read_from(&rt, qualified_by_name(&rt, "A", None), "A")
+            && is_read_from(&rt, plain_qualified(&rt, "A", None), "A")
+            && is_read_from(&rt, plain_qualified_by_name(&rt, "A", None), "A")
+    );
+}
+
+// Whether the name of this text has this namespace, and whether it is reserved.
+fn has_namespace(
+    rt: &(impl Abort + AllocGlobal),
     s: &str,
     namespace: &str,
-    want: &str,
-) -> Result<bool, Fail> {
-    let name = Name::from_normalized_str(rt.alloc(), s);
-    let (namespace, name) = beside(internal(rt, namespace)?, name)?;
-    is_named(rt, name.qualify_with(rt.alloc(), Some(&namespace)), want)
-}
-
-fn plain_qualified_by_name(rt: &HostRuntime, s: &str, namespace: &str) -> Result<Name, Fail> {
-    let plain = Name::from_normalized_str(rt.alloc(), s);
-    let (namespace, name) = beside(name(rt, namespace)?, plain)?;
-    made(name.qualify_with_name(rt.alloc(), Some(&namespace)))
-}
-
-fn is_plain_qualified_by_name(
-    rt: &HostRuntime,
-    s: &str,
-    namespace: &str,
-    want: &str,
-) -> Result<bool, Fail> {
-    let made = plain_qualified_by_name(rt, s, namespace)?;
-    is_read_from(rt, InternalName::from(made), want)
+    is_reserved: bool,
+) -> bool {
+    let name = internal(rt, s);
+    name.is_reserved() == is_reserved && is_text(made(rt, name.namespace(rt.alloc())), namespace)
 }
 
 #[test]
-fn qualifies(rt: HostRuntime) -> Result<(), Fail> {
-    for (s, namespace, want) in [
-        ("baz", "foo::bar", "foo::bar::baz"),
-        ("C::D", "A::B", "C::D"),
-        ("D", "A::B::C", "A::B::C::D"),
-        ("B::C::D", "A", "B::C::D"),
+fn shows_namespaces(rt: HostRuntime) {
+    for (s, namespace, is_reserved) in [
+        ("A::__cedar::B", "A::__cedar", true),
+        ("__cedar", "", true),
+        ("__cedar::A", "__cedar", true),
+        ("__cedar::A::B", "__cedar::A", true),
+        ("A::__cedar", "A", true),
+        ("__cedarr", "", false),
+        ("A::_cedar", "A", false),
+        ("A::___cedar::B", "A::___cedar", false),
     ] {
-        assert!(rt; is_qualified(&rt, s, namespace, want)?);
-        assert!(rt; is_qualified_by_name(&rt, s, namespace, want)?);
-        assert!(rt; is_plain_qualified(&rt, s, namespace, want)?);
-        assert!(rt; is_plain_qualified_by_name(&rt, s, namespace, want)?);
+        assert!(rt; has_namespace(&rt, s, namespace, is_reserved), "{s}");
     }
-    Ok(())
 }
 
 #[test]
-fn qualifies_by_no_namespace(rt: HostRuntime) -> Result<(), Fail> {
-    let bare = internal(&rt, "A")?;
-    let whole = bare.qualify_with(rt.alloc(), None);
-    assert!(rt; is_equal(bare, whole)?);
-    let bare = internal(&rt, "A")?;
-    let whole = bare.qualify_with_name(rt.alloc(), None);
-    assert!(rt; is_equal(bare, whole)?);
-    Ok(())
+fn shows_basenames(rt: HostRuntime) {
+    let plain = name(&rt, "A::B");
+    assert!(rt; !plain.is_unqualified() && plain.basename_as_ref().as_str() == "B");
+    assert!(rt; is_text(made(&rt, plain.basename(rt.alloc())), "B"));
 }
 
 #[test]
-fn qualifies_plain_names_by_no_namespace(rt: HostRuntime) -> Result<(), Fail> {
-    let plain = name(&rt, "A")?;
-    assert!(rt; is_named(&rt, plain.qualify_with(rt.alloc(), None), "A")?);
-    let whole = plain.qualify_with_name(rt.alloc(), None);
-    assert!(rt; is_equal(plain, whole)?);
-    Ok(())
-}
-
-fn namespace(rt: &HostRuntime, s: &str) -> Result<String, Fail> {
-    Ok(internal(rt, s)?.namespace(rt.alloc())?)
-}
-
-fn is_reserved(rt: &HostRuntime, s: &str) -> Result<bool, Fail> {
-    Ok(internal(rt, s)?.is_reserved())
+fn copies_names(rt: HostRuntime) {
+    assert!(rt; shows(&rt, made(&rt, name(&rt, "A::B").clone(rt.alloc())), "A::B"));
 }
 
 #[test]
-fn shows_namespaces(rt: HostRuntime) -> Result<(), Fail> {
-    for (s, want) in [
-        ("A::__cedar::B", "A::__cedar"),
-        ("__cedar", ""),
-        ("__cedar::A", "__cedar"),
-        ("__cedar::A::B", "__cedar::A"),
-        ("A::__cedar", "A"),
-        ("__cedarr", ""),
-        ("A::_cedar", "A"),
-        ("A::___cedar::B", "A::___cedar"),
-    ] {
-        assert_eq!(rt; namespace(&rt, s)?.as_str(), want);
-    }
-    Ok(())
+fn shows_namespaces_by_parts(rt: HostRuntime) {
+    assert!(rt;
+        internal(&rt, "A::B")
+            .namespace_components()
+            .eq([id(&rt, "A")].iter())
+    );
 }
 
-#[test]
-fn tells_reserved_names(rt: HostRuntime) -> Result<(), Fail> {
-    for s in "A::__cedar::B|__cedar|__cedar::A|__cedar::A::B|A::__cedar".split('|') {
-        assert!(rt; is_reserved(&rt, s)?, "{s}");
-    }
-    for s in "__cedarr|A::_cedar|A::___cedar::B".split('|') {
-        assert!(rt; !is_reserved(&rt, s)?, "{s}");
-    }
-    Ok(())
-}
-
-#[test]
-fn shows_basenames(rt: HostRuntime) -> Result<(), Fail> {
-    let plain = name(&rt, "A::B")?;
-    assert!(rt; !plain.is_unqualified());
-    assert_eq!(rt; plain.basename_as_ref().as_str(), "B");
-    assert_eq!(rt; made(plain.basename(rt.alloc()))?.as_str(), "B");
-    Ok(())
-}
-
-#[test]
-fn copies_names(rt: HostRuntime) -> Result<(), Fail> {
-    let copy = made(name(&rt, "A::B")?.clone(rt.alloc()))?;
-    assert_eq!(rt; shown(&rt, &copy)?.as_str(), "A::B");
-    Ok(())
-}
-
-#[test]
-fn shows_namespaces_by_parts(rt: HostRuntime) -> Result<(), Fail> {
-    let (read, first) = (internal(&rt, "A::B")?, id(&rt, "A")?);
-    let mut parts = read.namespace_components();
-    assert!(rt; parts.next() == Some(&first) && parts.next().is_none());
-    Ok(())
+fn is_kind<T: FromNormalizedStr>(want: &str) -> bool {
+    T::describe_self() == want
 }
 
 #[test]
 fn names_its_kinds(rt: HostRuntime) {
-    assert_eq!(rt; Id::describe_self(), "Id");
-    assert_eq!(rt; UnreservedId::describe_self(), "Unreserved Id");
-    assert_eq!(rt; AnyId::describe_self(), "AnyId");
-    assert_eq!(rt; InternalName::describe_self(), "internal name");
-    assert_eq!(rt; Name::describe_self(), "Name");
+    assert!(rt;
+        is_kind::<Id>("Id")
+            && is_kind::<UnreservedId>("Unreserved Id")
+            && is_kind::<AnyId>("AnyId")
+            && is_kind::<InternalName>("internal name")
+            && is_kind::<Name>("Name")
+    );
 }
 
 #[test]
-fn converts_identifiers(rt: HostRuntime) -> Result<(), Fail> {
-    let unreserved = unreserved(&rt)?;
-    assert_eq!(rt; unreserved.as_str(), "foo");
-    assert_eq!(rt; Id::from(unreserved).into_smolstr().as_str(), "foo");
-    Ok(())
+fn converts_identifiers(rt: HostRuntime) {
+    assert!(rt;
+        is_text(unreserved(&rt), "foo") && is_text(Id::from(unreserved(&rt)).into_smolstr(), "foo")
+    );
 }
 
 #[test]
-fn copies_identifiers(rt: HostRuntime) -> Result<(), Fail> {
-    let copy = made(id(&rt, "foo")?.clone(rt.alloc()))?;
-    let unreserved = unreserved(&rt)?;
-    let borrowed: &Id = unreserved.as_ref();
-    assert!(rt; *borrowed == copy);
-    Ok(())
+fn copies_identifiers(rt: HostRuntime) {
+    assert!(rt; lends(unreserved(&rt), made(&rt, id(&rt, "foo").clone(rt.alloc()))));
 }
 
 #[test]
-fn copies_unreserved_identifiers(rt: HostRuntime) -> Result<(), Fail> {
-    let copy = made(unreserved(&rt)?.clone(rt.alloc()))?;
-    assert_eq!(rt; copy.into_smolstr().as_str(), "foo");
-    Ok(())
+fn copies_unreserved_identifiers(rt: HostRuntime) {
+    let copy = made(&rt, unreserved(&rt).clone(rt.alloc()));
+    assert!(rt; is_text(copy.into_smolstr(), "foo"));
 }
 
 #[test]
-fn converts_words(rt: HostRuntime) -> Result<(), Fail> {
-    let any = read::<AnyId>(&rt, "if")?;
-    assert_eq!(rt; any.as_str(), "if");
-    let copy = any.clone(rt.alloc());
-    assert!(rt; is_equal(any, copy)?);
-    assert_eq!(rt; read::<AnyId>(&rt, "if")?.into_smolstr().as_str(), "if");
-    Ok(())
+fn converts_words(rt: HostRuntime) {
+    assert!(rt; is_text(keyword(&rt), "if") && is_text(keyword(&rt).into_smolstr(), "if"));
+    let any = keyword(&rt);
+    let copy = made(&rt, any.clone(rt.alloc()));
+    assert!(rt; is_equal(any, copy));
 }
 
 #[test]
-fn converts_names_of_one_identifier(rt: HostRuntime) -> Result<(), Fail> {
-    let plain = Name::from(unreserved(&rt)?);
-    let borrowed: &InternalName = plain.as_ref();
-    assert!(rt; *borrowed == internal(&rt, "foo")?);
-    assert!(rt; is_equal(unreserved(&rt)?, UnreservedId::try_from(plain))?);
-    Ok(())
+fn converts_names_of_one_identifier(rt: HostRuntime) {
+    let converted = UnreservedId::try_from(Name::from(unreserved(&rt)));
+    assert!(rt;
+        is_equal(unreserved(&rt), made(&rt, converted))
+            && lends(Name::from(unreserved(&rt)), internal(&rt, "foo"))
+            && is_equal(
+                Name::from(unreserved(&rt)),
+                Name::unqualified_name(unreserved(&rt))
+            )
+    );
 }
 
 #[test]
-fn makes_names_of_one_identifier(rt: HostRuntime) -> Result<(), Fail> {
-    let plain = Name::unqualified_name(unreserved(&rt)?);
-    assert!(rt; Name::from(unreserved(&rt)?) == plain);
-    Ok(())
+fn converts_names(rt: HostRuntime) {
+    let plain = made(&rt, Name::try_from(internal(&rt, "A::B")));
+    assert!(rt;
+        is_read_from(&rt, InternalName::from(plain), "A::B")
+            && is_read_from(&rt, InternalName::from(id(&rt, "A")), "A")
+            && is_read_from(&rt, made(&rt, Id::try_from(internal(&rt, "A"))), "A")
+    );
+}
+
+// Whether nothing was made.
+fn is_refused<T: Drop, E: Drop>(answer: Result<T, E>) -> bool {
+    answer.is_err()
 }
 
 #[test]
-fn converts_names(rt: HostRuntime) -> Result<(), Fail> {
-    let plain = made(Name::try_from(internal(&rt, "A::B")?))?;
-    assert!(rt; is_read_from(&rt, InternalName::from(plain), "A::B")?);
-    Ok(())
+fn refuses_conversions(rt: HostRuntime) {
+    assert!(rt;
+        is_refused(Id::try_from(internal(&rt, "A::B")))
+            && is_refused(UnreservedId::try_from(name(&rt, "A::B")))
+            && is_refused(Name::try_from(internal(&rt, "A::__cedar")))
+    );
 }
 
 #[test]
-fn converts_identifiers_to_names(rt: HostRuntime) -> Result<(), Fail> {
-    assert!(rt; is_read_from(&rt, InternalName::from(id(&rt, "A")?), "A")?);
-    Ok(())
+fn refuses_a_reserved_identifier(rt: HostRuntime) {
+    let refused = UnreservedId::try_from(id(&rt, "__cedar")).expect_err(&rt, "reserved");
+    assert!(rt; shows(&rt, refused.name(), "__cedar"));
+    let copy = made(&rt, refused.clone(rt.alloc()));
+    assert!(rt; is_equal(refused, copy));
 }
 
 #[test]
-fn converts_names_to_identifiers(rt: HostRuntime) -> Result<(), Fail> {
-    let converted = made(Id::try_from(internal(&rt, "A")?))?;
-    assert!(rt; is_read_from(&rt, converted, "A")?);
-    Ok(())
-}
-
-#[test]
-fn refuses_conversions(rt: HostRuntime) -> Result<(), Fail> {
-    assert!(rt; Id::try_from(internal(&rt, "A::B")?).is_err());
-    assert!(rt; UnreservedId::try_from(name(&rt, "A::B")?).is_err());
-    assert!(rt; Name::try_from(internal(&rt, "A::__cedar")?).is_err());
-    Ok(())
-}
-
-#[test]
-fn refuses_a_reserved_identifier(rt: HostRuntime) -> Result<(), Fail> {
-    let read = UnreservedId::try_from(id(&rt, "__cedar")?);
-    let refused = made(read.err().ok_or("reserved"))?;
-    assert_eq!(rt; shown(&rt, refused.name())?.as_str(), "__cedar");
-    let copy = refused.clone(rt.alloc());
-    assert!(rt; is_equal(refused, copy)?);
-    Ok(())
-}
-
-#[test]
-fn shows_want_of_memory(rt: HostRuntime) -> Result<(), Fail> {
-    assert_eq!(rt; shown(&rt, &ParseErrors::Memory)?.as_str(), "no memory");
-    Ok(())
+fn shows_want_of_memory(rt: HostRuntime) {
+    assert!(rt; shows(&rt, ParseErrors::Memory, "no memory"));
 }
 
 // Whether the first text is below the second.
 fn is_below<T: FromNormalizedStr + PartialOrd + Drop>(
-    rt: &HostRuntime,
+    rt: &(impl Abort + AllocGlobal),
     low: &str,
     high: &str,
-) -> Result<bool, Fail> {
-    let low = T::from_normalized_str(rt.alloc(), low)?;
-    is_less(low, T::from_normalized_str(rt.alloc(), high))
+) -> bool {
+    is_less::<T>(read(rt, low), read(rt, high))
 }
 
 #[test]
-fn orders_names(rt: HostRuntime) -> Result<(), Fail> {
-    for (low, high) in [("B::A", "A::B"), ("B", "A::B"), ("A::B", "A::A::B")] {
-        assert!(rt; is_below::<InternalName>(&rt, low, high)?, "{low}");
-    }
-    assert!(rt; is_below::<Name>(&rt, "B::A", "A::B")?);
-    assert!(rt; is_below::<Id>(&rt, "Z", "_a")?);
-    assert!(rt; is_below::<Id>(&rt, "_a", "a")?);
-    Ok(())
+fn orders_names(rt: HostRuntime) {
+    assert!(rt;
+        is_below::<InternalName>(&rt, "B::A", "A::B")
+            && is_below::<InternalName>(&rt, "B", "A::B")
+            && is_below::<InternalName>(&rt, "A::B", "A::A::B")
+            && is_below::<Name>(&rt, "B::A", "A::B")
+            && is_below::<Id>(&rt, "Z", "_a")
+            && is_below::<Id>(&rt, "_a", "a")
+    );
 }
 
 // The name `A::B` with no place.
-fn unplaced(rt: &HostRuntime) -> Result<InternalName, Fail> {
+fn unplaced(rt: &(impl Abort + AllocGlobal)) -> InternalName {
     within(rt, "B", "A", None)
 }
 
 #[test]
-fn hashes_without_places(rt: HostRuntime) -> Result<(), Fail> {
-    let placed = InternalName::from_normalized_str(rt.alloc(), "A::B");
-    assert!(rt; finds(rt.alloc(), unplaced(&rt)?, placed)?);
-    Ok(())
+fn hashes_without_places(rt: HostRuntime) {
+    assert!(rt; finds(&rt, unplaced(&rt), internal(&rt, "A::B")));
 }
 
-#[test]
-fn orders_without_places(rt: HostRuntime) -> Result<(), Fail> {
+// Whether the second key takes the place of the first in a map, and the third finds it.
+fn is_one_key<K: Ord + Drop>(
+    rt: &(impl Abort + AllocGlobal),
+    first: K,
+    second: K,
+    third: K,
+) -> bool {
     let mut numbers = BTreeMap::new(rt.alloc());
-    numbers.insert(name(&rt, "A::B")?, 1u8)?;
-    numbers.insert(Name::try_from(unplaced(&rt)?)?, 2u8)?;
-    assert_eq!(rt; numbers.len(), 1);
-    assert!(rt; numbers.get(&name(&rt, "A::B")?) == Some(&2));
-    Ok(())
+    made(rt, numbers.insert(first, 1u8));
+    made(rt, numbers.insert(second, 2u8));
+    numbers.len() == 1 && numbers.get(&third) == Some(&2)
 }
 
 #[test]
-fn has_two_slots(rt: HostRuntime) -> Result<(), Fail> {
+fn orders_without_places(rt: HostRuntime) {
+    let second = made(&rt, Name::try_from(unplaced(&rt)));
+    assert!(rt; is_one_key(&rt, name(&rt, "A::B"), second, name(&rt, "A::B")));
+}
+
+#[test]
+fn has_two_slots(rt: HostRuntime) {
     let (principal, resource) = (SlotId::principal(), SlotId::resource());
-    assert_eq!(rt; shown(&rt, &principal)?.as_str(), "?principal");
-    assert_eq!(rt; shown(&rt, &resource)?.as_str(), "?resource");
-    assert!(rt; SlotId::from(PrincipalOrResource::Principal) == principal);
-    assert!(rt; SlotId::from(PrincipalOrResource::Resource) == resource);
-    assert!(rt; principal.is_principal() && !principal.is_resource());
-    assert!(rt; resource.is_resource() && !resource.is_principal());
-    assert!(rt; principal < resource);
-    Ok(())
+    assert!(rt; shows(&rt, principal, "?principal") && shows(&rt, resource, "?resource"));
+    assert!(rt;
+        SlotId::from(PrincipalOrResource::Principal) == principal
+            && SlotId::from(PrincipalOrResource::Resource) == resource
+            && principal < resource
+    );
+    assert!(rt;
+        principal.is_principal()
+            && !principal.is_resource()
+            && resource.is_resource()
+            && !resource.is_principal()
+    );
+}
+
+// The slot of the resource, at this place.
+fn slot(loc: Option<Loc>) -> Slot {
+    Slot {
+        id: SlotId::resource(),
+        loc,
+    }
 }
 
 #[test]
-fn compares_slots_without_places(rt: HostRuntime) -> Result<(), Fail> {
-    let id = SlotId::resource();
-    let placed = Slot {
-        id,
-        loc: Some(loc(&rt, 0, 1, "?")?),
-    };
-    assert!(rt; placed.clone(rt.alloc())?.loc == placed.loc);
-    assert!(rt; placed == Slot { id, loc: None });
-    Ok(())
+fn compares_slots_without_places(rt: HostRuntime) {
+    let placed = slot(Some(loc(&rt, 0, 1, "?")));
+    let copy = made(&rt, placed.clone(rt.alloc()));
+    assert!(rt; is_equal(copy.loc, Some(loc(&rt, 0, 1, "?"))));
+    assert!(rt; is_equal(placed, slot(None)));
 }
 
 // The list of `a`, and of `b` if it is long.
-fn list(alloc: Global, is_long: bool) -> Result<NonEmpty<RcStr>, AllocError> {
-    let mut tail = Vec::new(alloc);
+fn list(rt: &(impl Abort + AllocGlobal), is_long: bool) -> NonEmpty<RcStr> {
+    let mut tail = Vec::new(rt.alloc());
     if is_long {
-        tail.push(RcStr::from_str(alloc, "b")?)?;
+        made(rt, tail.push(made(rt, RcStr::from_str(rt.alloc(), "b"))));
     }
-    Ok(NonEmpty::new(RcStr::from_str(alloc, "a")?, tail))
+    NonEmpty::new(made(rt, RcStr::from_str(rt.alloc(), "a")), tail)
 }
 
 #[test]
-fn compares_lists_of_one_or_more(rt: HostRuntime) -> Result<(), Fail> {
-    let alloc = rt.alloc();
-    let (long, short) = beside(list(alloc, true)?, list(alloc, false))?;
-    assert!(rt; short < long && short != long);
-    let copy = long.clone(alloc);
-    assert!(rt; is_equal(long, copy)?);
-    Ok(())
+fn compares_lists_of_one_or_more(rt: HostRuntime) {
+    assert!(rt;
+        is_less(list(&rt, false), list(&rt, true)) && !is_equal(list(&rt, false), list(&rt, true))
+    );
+    let long = list(&rt, true);
+    let copy = made(&rt, long.clone(rt.alloc()));
+    assert!(rt; is_equal(long, copy));
 }
 
 #[test]
-fn gives_the_items_of_lists(rt: HostRuntime) -> Result<(), Fail> {
+fn gives_the_items_of_lists(rt: HostRuntime) {
     let mut seen = String::new(rt.alloc());
-    for text in list(rt.alloc(), true)?.iter() {
-        seen.push_str(text.as_str())?;
+    for text in list(&rt, true).iter() {
+        made(&rt, seen.push_str(text.as_str()));
     }
-    assert_eq!(rt; seen.as_str(), "ab");
-    Ok(())
+    assert!(rt; is_text(seen, "ab"));
 }
 
 // Whether the key is found in a map of the other alone.
-fn finds<K: Hash + Eq + Drop, E: Debug + Drop>(
-    alloc: Global,
-    held: K,
-    key: Result<K, E>,
-) -> Result<bool, Fail> {
-    let (held, key) = beside(held, key)?;
-    let mut hashed = HashMap::new(alloc);
-    hashed.insert(held, 1u8)?;
-    Ok(hashed.get(&key) == Some(&1))
+fn finds<K: Hash + Eq + Drop>(rt: &(impl Abort + AllocGlobal), held: K, key: K) -> bool {
+    let mut hashed = HashMap::new(rt.alloc());
+    made(rt, hashed.insert(held, 1u8));
+    hashed.get(&key) == Some(&1)
 }
 
 #[test]
-fn hashes_lists_of_one_or_more(rt: HostRuntime) -> Result<(), Fail> {
-    let alloc = rt.alloc();
-    assert!(rt; finds(alloc, list(alloc, true)?, list(alloc, true))?);
-    assert!(rt; !finds(alloc, list(alloc, true)?, list(alloc, false))?);
-    Ok(())
+fn hashes_lists_of_one_or_more(rt: HostRuntime) {
+    assert!(rt;
+        finds(&rt, list(&rt, true), list(&rt, true))
+            && !finds(&rt, list(&rt, true), list(&rt, false))
+    );
 }
