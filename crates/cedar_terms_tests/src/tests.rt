@@ -6,93 +6,163 @@ use cedar_terms::{
     BinaryOp, EntityType, EntityUID, Escaped, Literal, Pattern, PatternElem, SchemaType,
     StaticallyTyped, Type, UnaryOp, Unknown, Var,
 };
-use std::alloc::AllocFailed;
 use std::boxed::Box;
 use std::collections::{BTreeMap, HashSet};
 use std::convert::{AsStr, TryFrom};
 use std::fmt::{Debug, Display};
+use std::hash::Hash;
+use std::process::Abort;
 use std::rc::{Rc, RcStr};
-use std::test::Fail;
 
-fn printed<T: Display>(rt: &HostRuntime, x: &T) -> Result<String, Fail> {
-    Ok(x.to_string(rt.alloc())?)
+// What was made; where nothing was, the test ends.
+fn made<T: Drop, E: Debug + Drop>(rt: &impl Abort, answer: Result<T, E>) -> T {
+    answer.expect(rt, "made")
 }
 
-// Checks what `Display` writes.
-fn check_text<T: Display>(rt: &HostRuntime, x: &T, want: &str) -> Result<(), Fail> {
-    let text = x.to_string(rt.alloc())?;
-    if text.as_str() == want {
-        return Ok(());
+// Whether `Display` writes this text.
+fn shows<T: Display + Drop>(rt: &(impl Abort + AllocGlobal), x: T, want: &str) -> bool {
+    made(rt, x.to_string(rt.alloc())).as_str() == want
+}
+
+// Whether `Display` writes these texts, one for each item.
+fn all_show<T: Display + Drop>(
+    rt: &(impl Abort + AllocGlobal),
+    items: Vec<T>,
+    texts: &[&str],
+) -> bool {
+    for (x, want) in items.iter().zip(texts) {
+        if !shows(rt, x, want) {
+            return false;
+        }
     }
-    Err(Fail::from(text))
+    items.len() == texts.len()
 }
 
-// What was made. A `?` beside a value of a large type is dear to check, one in a generic function
-// is not, so answers go whole through these functions.
-fn made<T: Drop, E: Debug + Drop>(answer: Result<T, E>) -> Result<T, Fail> {
-    Ok(answer?)
+// Whether the type that the trait gives is written so.
+fn has_type<T: StaticallyTyped>(rt: &(impl Abort + AllocGlobal), x: &T, want: &str) -> bool {
+    shows(rt, made(rt, x.type_of(rt.alloc())), want)
 }
 
-fn check_made<T: Display + Drop, E: Debug + Drop>(
-    rt: &HostRuntime,
-    answer: Result<T, E>,
-    want: &str,
-) -> Result<(), Fail> {
-    check_text(rt, &made(answer)?, want)
-}
-
+// Whether what was made equals this.
 fn is_equal<T: PartialEq + Drop, E: Debug + Drop>(
-    first: T,
-    second: Result<T, E>,
-) -> Result<bool, Fail> {
-    Ok(first == second?)
+    rt: &impl Abort,
+    x: &T,
+    answer: Result<T, E>,
+) -> bool {
+    made(rt, answer) == *x
 }
 
-fn name(rt: &HostRuntime, text: &str) -> Result<Name, Fail> {
-    Ok(Name::from_normalized_str(rt.alloc(), text)?)
+fn are_equal<T: PartialEq + Drop>(x: T, y: T) -> bool {
+    x == y
+}
+
+fn differ<T: PartialEq + Drop>(x: T, y: T) -> bool {
+    x != y
+}
+
+fn is_below<T: PartialOrd + Drop>(low: T, high: T) -> bool {
+    low < high
+}
+
+// Whether they are equal and neither is below the other.
+fn are_tied<T: Ord + Drop>(x: T, y: T) -> bool {
+    x == y && x.cmp(&y).is_eq()
+}
+
+// Whether each item is above the one before.
+fn are_rising<T: PartialOrd + Drop>(items: Vec<T>) -> bool {
+    for (x, y) in items.iter().zip(items.iter().skip(1)) {
+        if !(x < y && x != y) {
+            return false;
+        }
+    }
+    true
+}
+
+// Whether a set takes each of the items, and then has this one.
+fn are_distinct_and_have<T: Eq + Hash + Drop>(
+    rt: &(impl Abort + AllocGlobal),
+    items: Vec<T>,
+    twin: T,
+) -> bool {
+    let count = items.len();
+    let mut set = HashSet::new(rt.alloc());
+    for x in items {
+        if !made(rt, set.insert(x)) {
+            return false;
+        }
+    }
+    !made(rt, set.insert(twin)) && set.len() == count
+}
+
+fn vec<T: Drop, const N: usize>(rt: &(impl Abort + AllocGlobal), items: [T; N]) -> Vec<T> {
+    made(rt, Vec::from_array(rt.alloc(), items))
+}
+
+fn shared(rt: &(impl Abort + AllocGlobal), text: &str) -> RcStr {
+    made(rt, RcStr::from_str(rt.alloc(), text))
+}
+
+fn string_of_char(rt: &(impl Abort + AllocGlobal), c: char) -> String {
+    let mut text = String::new(rt.alloc());
+    made(rt, text.push(c));
+    text
+}
+
+fn name(rt: &(impl Abort + AllocGlobal), text: &str) -> Name {
+    made(rt, Name::from_normalized_str(rt.alloc(), text))
+}
+
+fn elsewhere(rt: &(impl Abort + AllocGlobal)) -> Option<Loc> {
+    Some(Loc::new(3, 9, shared(rt, "elsewhere")))
 }
 
 // The same name at another place.
-fn name_elsewhere(rt: &HostRuntime, text: &str) -> Result<Name, Fail> {
-    let loc = Loc::new(3, 9, RcStr::from_str(rt.alloc(), "elsewhere")?);
-    let id = Id::from_normalized_str(rt.alloc(), text)?;
-    Ok(Name::try_from(InternalName::unqualified_name(id, Some(loc)))?)
+fn name_elsewhere(rt: &(impl Abort + AllocGlobal), text: &str) -> Name {
+    let id: Id = made(rt, Id::from_normalized_str(rt.alloc(), text));
+    made(
+        rt,
+        Name::try_from(InternalName::unqualified_name(id, elsewhere(rt))),
+    )
 }
 
-fn uid(rt: &HostRuntime, ty: &str, eid: &str) -> Result<EntityUID, Fail> {
-    let eid = RcStr::from_str(rt.alloc(), eid)?;
-    Ok(EntityUID::new(EntityType::from(name(rt, ty)?), eid))
+fn uid(rt: &(impl Abort + AllocGlobal), ty: &str, eid: &str) -> EntityUID {
+    EntityUID::new(EntityType::from(name(rt, ty)), shared(rt, eid))
 }
 
-fn entity(rt: &HostRuntime, ty: &str, eid: &str) -> Result<Literal, Fail> {
-    Ok(Literal::from_uid(rt.alloc(), uid(rt, ty, eid)?)?)
+fn entity(rt: &(impl Abort + AllocGlobal), ty: &str, eid: &str) -> Literal {
+    made(rt, Literal::from_uid(rt.alloc(), uid(rt, ty, eid)))
 }
 
-fn text(rt: &HostRuntime, text: &str) -> Result<Literal, Fail> {
-    Ok(Literal::from_text(rt.alloc(), text)?)
+fn text(rt: &(impl Abort + AllocGlobal), text: &str) -> Literal {
+    made(rt, Literal::from_text(rt.alloc(), text))
 }
 
-// The pattern in which `*` stands for a wildcard and any other character for itself.
-fn pattern(rt: &HostRuntime, text: &str) -> Result<Pattern, Fail> {
-    let mut elems = Vec::new(rt.alloc());
-    for c in text.chars() {
-        elems.push(if c == '*' {
-            PatternElem::Wildcard
-        } else {
-            PatternElem::Char(c)
-        })?;
+// The element in which `*` stands for a wildcard and any other character for itself.
+fn elem(c: char) -> PatternElem {
+    if c == '*' {
+        PatternElem::Wildcard
+    } else {
+        PatternElem::Char(c)
     }
-    Ok(Pattern::from_vec(rt.alloc(), elems)?)
+}
+
+// The pattern of such elements.
+fn pattern(rt: &(impl Abort + AllocGlobal), text: &str) -> Pattern {
+    let elems = made(rt, text.chars().map(elem).collect(rt.alloc()));
+    made(rt, Pattern::from_vec(rt.alloc(), elems))
 }
 
 // The pattern of this character alone, also where it is `*`.
-fn pattern_of_char(rt: &HostRuntime, c: char) -> Result<Pattern, Fail> {
-    let elems = Vec::from_array(rt.alloc(), [PatternElem::Char(c)])?;
-    Ok(Pattern::from_vec(rt.alloc(), elems)?)
+fn pattern_of_char(rt: &(impl Abort + AllocGlobal), c: char) -> Pattern {
+    made(
+        rt,
+        Pattern::from_vec(rt.alloc(), vec(rt, [PatternElem::Char(c)])),
+    )
 }
 
 #[test]
-fn texts_of_literals(rt: HostRuntime) -> Result<(), Fail> {
+fn texts_of_literals(rt: HostRuntime) {
     for (value, want) in [
         ("\0", "\"\\0\""),
         ("\u{1b}", "\"\\u{1b}\""),
@@ -103,85 +173,93 @@ fn texts_of_literals(rt: HostRuntime) -> Result<(), Fail> {
         ("", "\"\""),
         ("\u{1f408}", "\"\u{1f408}\""),
     ] {
-        check_text(&rt, &text(&rt, value)?, want)?;
+        assert!(rt; shows(&rt, text(&rt, value), want), "{want}");
     }
-    check_text(&rt, &entity(&rt, "A::B", "a\"b")?, "A::B::\"a\\\"b\"")
+    assert!(rt; shows(&rt, entity(&rt, "A::B", "a\"b"), "A::B::\"a\\\"b\""));
 }
 
 #[test]
-fn texts_of_integers_and_booleans(rt: HostRuntime) -> Result<(), Fail> {
+fn texts_of_integers_and_booleans(rt: HostRuntime) {
     for (value, want) in [
         (i64::MIN, "-9223372036854775808"),
         (-7, "-7"),
         (0, "0"),
         (i64::MAX, "9223372036854775807"),
     ] {
-        check_text(&rt, &Literal::from(value), want)?;
+        assert!(rt; shows(&rt, Literal::from(value), want), "{want}");
     }
-    check_text(&rt, &Literal::from(true), "true")?;
-    check_text(&rt, &Literal::from(false), "false")
+    assert!(rt;
+        shows(&rt, Literal::from(true), "true") && shows(&rt, Literal::from(false), "false")
+    );
 }
 
 // The hexadecimal digit of a number below 16.
-fn digit(n: u32) -> char {
-    "0123456789abcdef".chars().nth(n as usize).unwrap_or('?')
+fn digit(n: u8) -> char {
+    "0123456789abcdef"
+        .chars()
+        .nth(usize::from(n))
+        .unwrap_or('?')
+}
+
+// The letter after the backslash in the escape of a code, where it has one.
+fn letter(code: u8) -> Option<char> {
+    match code {
+        0 => Some('0'),
+        9 => Some('t'),
+        10 => Some('n'),
+        13 => Some('r'),
+        34 => Some('"'),
+        39 => Some('\''),
+        92 => Some('\\'),
+        _ => None,
+    }
 }
 
 // The escape of a code up to U+00FF by the rule, in a text of its own.
-fn escape_by_rule(rt: &HostRuntime, code: u8) -> Result<String, Fail> {
+fn escape_by_rule(rt: &(impl Abort + AllocGlobal), code: u8) -> String {
     let mut text = String::new(rt.alloc());
-    let named = [
-        (0, '0'),
-        (9, 't'),
-        (10, 'n'),
-        (13, 'r'),
-        (34, '"'),
-        (39, '\''),
-        (92, '\\'),
-    ];
-    for (k, letter) in named {
-        if code == k {
-            text.push('\\')?;
-            text.push(letter)?;
-            return Ok(text);
-        }
-    }
-    if code < 0x20 || code == 0x7f {
-        text.push_str("\\u{")?;
+    if let Some(letter) = letter(code) {
+        made(rt, text.push('\\'));
+        made(rt, text.push(letter));
+    } else if code < 0x20 || code == 0x7f {
+        made(rt, text.push_str("\\u{"));
         if code >= 16 {
-            text.push(digit(u32::from(code) / 16))?;
+            made(rt, text.push(digit(code / 16)));
         }
-        text.push(digit(u32::from(code) % 16))?;
-        text.push('}')?;
+        made(rt, text.push(digit(code % 16)));
+        made(rt, text.push('}'));
     } else {
-        text.push(char::from(code))?;
+        made(rt, text.push(char::from(code)));
     }
-    Ok(text)
+    text
 }
 
-// Checks the escape of a character, alone and as an element of a pattern, where `*` has its own.
-fn check_escape(rt: &HostRuntime, c: char, want: &str) -> Result<(), Fail> {
-    let mut one = String::new(rt.alloc());
-    one.push(c)?;
-    check_text(rt, &Escaped(one.as_str()), want)?;
+// Whether a character has this escape, alone and as an element of a pattern, where `*` has its own.
+fn is_escaped_as(rt: &(impl Abort + AllocGlobal), c: char, want: &str) -> bool {
     let star_or_want = if c == '*' { "\\*" } else { want };
-    check_text(rt, &pattern_of_char(rt, c)?, star_or_want)
+    shows(rt, Escaped(string_of_char(rt, c).as_str()), want)
+        && shows(rt, pattern_of_char(rt, c), star_or_want)
 }
 
 #[test]
-fn escapes_up_to_u00ff(rt: HostRuntime) -> Result<(), Fail> {
+fn escapes_up_to_u00ff(rt: HostRuntime) {
     for code in 0..=255u8 {
-        let want = escape_by_rule(&rt, code)?;
-        check_escape(&rt, char::from(code), want.as_str())?;
+        let want = escape_by_rule(&rt, code);
+        assert!(rt;
+            is_escaped_as(&rt, char::from(code), want.as_str()),
+            "{want}"
+        );
     }
-    Ok(())
 }
 
 #[test]
-fn texts_of_patterns(rt: HostRuntime) -> Result<(), Fail> {
+fn texts_of_patterns(rt: HostRuntime) {
     let backslash_star = [PatternElem::Char('\\'), PatternElem::Char('*')];
-    let p = Pattern::from_items(rt.alloc(), backslash_star.into_iter())?;
-    check_text(&rt, &p, "\\\\\\*")?;
+    let p = made(
+        &rt,
+        Pattern::from_items(rt.alloc(), backslash_star.into_iter()),
+    );
+    assert!(rt; shows(&rt, p, "\\\\\\*"));
     for (elems, want) in [
         ("\0", "\\0"),
         ("\\0", "\\\\0"),
@@ -190,30 +268,18 @@ fn texts_of_patterns(rt: HostRuntime) -> Result<(), Fail> {
         ("a*'\u{1b}", "a*\\'\\u{1b}"),
         ("y\u{306}", "y\u{306}"),
     ] {
-        check_text(&rt, &pattern(&rt, elems)?, want)?;
+        assert!(rt; shows(&rt, pattern(&rt, elems), want), "{want}");
     }
-    Ok(())
-}
-
-// The text of each, with a space after it.
-fn spaced<T: Display>(rt: &HostRuntime, items: &[T]) -> Result<String, Fail> {
-    let mut shown = String::new(rt.alloc());
-    for item in items {
-        shown.push_str(printed(rt, item)?.as_str())?;
-        shown.push(' ')?;
-    }
-    Ok(shown)
 }
 
 #[test]
-fn texts_of_unary_operators(rt: HostRuntime) -> Result<(), Fail> {
-    let unary = [UnaryOp::Not, UnaryOp::Neg, UnaryOp::IsEmpty];
-    assert_eq!(rt; spaced(&rt, &unary)?.as_str(), "! - isEmpty ");
-    Ok(())
+fn texts_of_unary_operators(rt: HostRuntime) {
+    let unary = vec(&rt, [UnaryOp::Not, UnaryOp::Neg, UnaryOp::IsEmpty]);
+    assert!(rt; all_show(&rt, unary, &["!", "-", "isEmpty"]));
 }
 
 #[test]
-fn texts_of_binary_operators(rt: HostRuntime) -> Result<(), Fail> {
+fn texts_of_binary_operators(rt: HostRuntime) {
     let binary = [
         BinaryOp::Eq,
         BinaryOp::Less,
@@ -228,11 +294,21 @@ fn texts_of_binary_operators(rt: HostRuntime) -> Result<(), Fail> {
         BinaryOp::GetTag,
         BinaryOp::HasTag,
     ];
-    assert_eq!(rt;
-        spaced(&rt, &binary)?.as_str(),
-        "== < <= + - * in contains containsAll containsAny getTag hasTag "
-    );
-    Ok(())
+    let texts = [
+        "==",
+        "<",
+        "<=",
+        "+",
+        "-",
+        "*",
+        "in",
+        "contains",
+        "containsAll",
+        "containsAny",
+        "getTag",
+        "hasTag",
+    ];
+    assert!(rt; all_show(&rt, vec(&rt, binary), &texts));
 }
 
 #[test]
@@ -240,199 +316,186 @@ fn order_of_operators(rt: HostRuntime) {
     assert!(rt; BinaryOp::Eq < BinaryOp::Less && BinaryOp::GetTag < BinaryOp::HasTag);
 }
 
-#[test]
-fn variables(rt: HostRuntime) -> Result<(), Fail> {
-    for (var, want) in [
-        (Var::Principal, "principal"),
-        (Var::Action, "action"),
-        (Var::Resource, "resource"),
-        (Var::Context, "context"),
-    ] {
-        check_text(&rt, &var, want)?;
-        check_made(&rt, var.to_id(rt.alloc()), want)?;
-        check_made(&rt, var.to_unreserved_id(rt.alloc()), want)?;
-    }
-    Ok(())
+// Whether the variable and its identifiers are written so.
+fn is_variable(rt: &(impl Abort + AllocGlobal), var: Var, want: &str) -> bool {
+    shows(rt, var, want)
+        && shows(rt, made(rt, var.to_id(rt.alloc())), want)
+        && shows(rt, made(rt, var.to_unreserved_id(rt.alloc())), want)
 }
 
 #[test]
-fn variables_of_slots(rt: HostRuntime) -> Result<(), Fail> {
+fn variables(rt: HostRuntime) {
+    assert!(rt;
+        is_variable(&rt, Var::Principal, "principal")
+            && is_variable(&rt, Var::Action, "action")
+            && is_variable(&rt, Var::Resource, "resource")
+            && is_variable(&rt, Var::Context, "context")
+    );
+}
+
+#[test]
+fn variables_of_slots(rt: HostRuntime) {
     assert!(rt; Var::from(PrincipalOrResource::Principal) == Var::Principal);
     assert!(rt; Var::from(PrincipalOrResource::Resource) == Var::Resource);
-    Ok(())
 }
 
 // The entity `foo` of the type that `with_eid` gives.
-fn foo(rt: &HostRuntime) -> Result<EntityUID, Fail> {
-    Ok(EntityUID::with_eid(rt.alloc(), "foo")?)
+fn foo(rt: &(impl Abort + AllocGlobal)) -> EntityUID {
+    made(rt, EntityUID::with_eid(rt.alloc(), "foo"))
+}
+
+// Whether it is that entity.
+fn is_foo(rt: &(impl Abort + AllocGlobal), uid: &EntityUID) -> bool {
+    uid.eid() == "foo"
+        && shows(rt, uid, "test_entity_type::\"foo\"")
+        && shows(rt, uid.entity_type(), "test_entity_type")
+        && shows(rt, uid.entity_type().name(), "test_entity_type")
 }
 
 #[test]
-fn entities(rt: HostRuntime) -> Result<(), Fail> {
-    let foo = foo(&rt)?;
-    check_text(&rt, &foo, "test_entity_type::\"foo\"")?;
-    assert_eq!(rt; foo.eid(), "foo");
-    check_text(&rt, foo.entity_type(), "test_entity_type")?;
-    check_text(&rt, foo.entity_type().name(), "test_entity_type")
+fn entities(rt: HostRuntime) {
+    assert!(rt; is_foo(&rt, &foo(&rt)));
 }
 
 #[test]
-fn copies_of_entities(rt: HostRuntime) -> Result<(), Fail> {
-    let foo = foo(&rt)?;
-    let copy = foo.clone(rt.alloc());
-    assert!(rt; is_equal(foo, copy)?);
-    Ok(())
+fn copies_of_entities(rt: HostRuntime) {
+    assert!(rt; are_equal(made(&rt, foo(&rt).clone(rt.alloc())), foo(&rt)));
 }
 
 #[test]
-fn types_of_entities(rt: HostRuntime) -> Result<(), Fail> {
-    check_type(&rt, &foo(&rt)?, "(entity of type `test_entity_type`)")
-}
-
-// Whether the first entity, a type and an identifier, is below the second.
-fn is_entity_below(rt: &HostRuntime, low: [&str; 2], high: [&str; 2]) -> Result<bool, Fail> {
-    let low = uid(rt, low[0], low[1])?;
-    Ok(low < uid(rt, high[0], high[1])?)
+fn types_of_entities(rt: HostRuntime) {
+    assert!(rt; has_type(&rt, &foo(&rt), "(entity of type `test_entity_type`)"));
 }
 
 #[test]
-fn order_of_entities(rt: HostRuntime) -> Result<(), Fail> {
-    assert!(rt; is_entity_below(&rt, ["A", "z"], ["B", "a"])?);
-    assert!(rt; is_entity_below(&rt, ["Z::A", "z"], ["A::B", "a"])?);
-    assert!(rt; is_entity_below(&rt, ["A", "y"], ["A", "z"])?);
-    Ok(())
+fn order_of_entities(rt: HostRuntime) {
+    assert!(rt;
+        is_below(uid(&rt, "A", "z"), uid(&rt, "B", "a"))
+            && is_below(uid(&rt, "Z::A", "z"), uid(&rt, "A::B", "a"))
+            && is_below(uid(&rt, "A", "y"), uid(&rt, "A", "z"))
+    );
+}
+
+// The type `A`, its name at another place.
+fn type_elsewhere(rt: &(impl Abort + AllocGlobal)) -> EntityType {
+    EntityType::from(name_elsewhere(rt, "A"))
 }
 
 #[test]
-fn places_of_entity_types(rt: HostRuntime) -> Result<(), Fail> {
-    let here = EntityType::from(name(&rt, "A")?);
-    let there = EntityType::from(name_elsewhere(&rt, "A")?);
-    assert!(rt; here == there && here.cmp(&there).is_eq());
-    Ok(())
+fn places_of_entity_types(rt: HostRuntime) {
+    assert!(rt; are_tied(EntityType::from(name(&rt, "A")), type_elsewhere(&rt)));
+}
+
+fn have_one_place(x: &EntityType, y: &EntityType) -> bool {
+    x.name().loc() == y.name().loc()
 }
 
 #[test]
-fn copies_of_entity_types(rt: HostRuntime) -> Result<(), Fail> {
-    let there = EntityType::from(name_elsewhere(&rt, "A")?);
-    let copy = made(there.clone(rt.alloc()))?;
-    assert!(rt; copy.name().loc() == there.name().loc());
-    Ok(())
-}
-
-// Checks the type's text, through the trait.
-fn check_type<T: StaticallyTyped>(rt: &HostRuntime, x: &T, want: &str) -> Result<(), Fail> {
-    check_made(rt, x.type_of(rt.alloc()), want)
+fn copies_of_entity_types(rt: HostRuntime) {
+    let there = type_elsewhere(&rt);
+    assert!(rt; have_one_place(&made(&rt, there.clone(rt.alloc())), &there));
 }
 
 // A literal of each kind and more, each above the one before, none of a shared entity type.
-fn rising_literals(rt: &HostRuntime) -> Result<Vec<Literal>, Fail> {
-    let mut rising = Vec::new(rt.alloc());
-    for b in [false, true] {
-        rising.push(Literal::from(b))?;
-    }
-    for n in [-9, 3] {
-        rising.push(Literal::from(n))?;
-    }
-    for s in ["", "Z", "a"] {
-        rising.push(text(rt, s)?)?;
-    }
-    rising.push(entity(rt, "A", "b")?)?;
-    rising.push(entity(rt, "B", "a")?)?;
-    Ok(rising)
+fn rising_literals(rt: &(impl Abort + AllocGlobal)) -> Vec<Literal> {
+    vec(
+        rt,
+        [
+            Literal::from(false),
+            Literal::from(true),
+            Literal::from(-9),
+            Literal::from(3),
+            text(rt, ""),
+            text(rt, "Z"),
+            text(rt, "a"),
+            entity(rt, "A", "b"),
+            entity(rt, "B", "a"),
+        ],
+    )
 }
 
 // The entity of type `A`, whose name is at another place.
-fn entity_elsewhere(rt: &HostRuntime) -> Result<Literal, Fail> {
-    let ty = EntityType::from(name_elsewhere(rt, "A")?);
-    let uid = EntityUID::new(ty, RcStr::from_str(rt.alloc(), "b")?);
-    Ok(Literal::from(Rc::new(rt.alloc(), uid)?))
+fn entity_elsewhere(rt: &(impl Abort + AllocGlobal)) -> Literal {
+    let uid = EntityUID::new(type_elsewhere(rt), shared(rt, "b"));
+    Literal::from(made(rt, Rc::new(rt.alloc(), uid)))
 }
 
 #[test]
-fn types_of_literals(rt: HostRuntime) -> Result<(), Fail> {
+fn types_of_literals(rt: HostRuntime) {
     let types = ["bool", "bool", "long", "long", "string", "string", "string"];
-    for (x, want) in rising_literals(&rt)?.iter().zip(types) {
-        check_type(&rt, x, want)?;
-        assert!(rt; !x.is_ref());
+    for (x, want) in rising_literals(&rt).iter().zip(types) {
+        assert!(rt; has_type(&rt, x, want) && !x.is_ref());
     }
-    let entity = entity_elsewhere(&rt)?;
-    assert!(rt; entity.is_ref());
-    check_type(&rt, &entity, "(entity of type `A`)")
+    let entity = entity_elsewhere(&rt);
+    assert!(rt; entity.is_ref() && has_type(&rt, &entity, "(entity of type `A`)"));
 }
 
 #[test]
-fn order_of_literals(rt: HostRuntime) -> Result<(), Fail> {
-    let rising = rising_literals(&rt)?;
-    for (x, y) in rising.iter().zip(rising.iter().skip(1)) {
-        assert!(rt; x < y && x != y);
+fn order_of_literals(rt: HostRuntime) {
+    assert!(rt; are_rising(rising_literals(&rt)));
+}
+
+#[test]
+fn copies_of_literals(rt: HostRuntime) {
+    for x in rising_literals(&rt).iter() {
+        assert!(rt; is_equal(&rt, x, x.clone(rt.alloc())));
     }
-    Ok(())
 }
 
 #[test]
-fn copies_of_literals(rt: HostRuntime) -> Result<(), Fail> {
-    for x in rising_literals(&rt)?.iter() {
-        assert!(rt; made(x.clone(rt.alloc()))? == *x);
-    }
-    Ok(())
+fn literals_of_one_entity(rt: HostRuntime) {
+    let copy = made(&rt, entity_elsewhere(&rt).clone(rt.alloc()));
+    assert!(rt;
+        are_equal(copy, entity_elsewhere(&rt))
+            && are_equal(entity_elsewhere(&rt), entity(&rt, "A", "b"))
+    );
 }
 
 #[test]
-fn literals_of_one_entity(rt: HostRuntime) -> Result<(), Fail> {
-    let same = entity_elsewhere(&rt)?;
-    let copy = same.clone(rt.alloc());
-    assert!(rt; is_equal(same, copy)?);
-    assert!(rt; entity_elsewhere(&rt)? == entity(&rt, "A", "b")?);
-    Ok(())
+fn sources_of_literals(rt: HostRuntime) {
+    let z = made(&rt, String::from_str(rt.alloc(), "Z"));
+    let of_string = made(&rt, Literal::from_string(rt.alloc(), z));
+    assert!(rt;
+        are_equal(of_string, text(&rt, "Z"))
+            && are_equal(Literal::from(shared(&rt, "Z")), text(&rt, "Z"))
+    );
 }
 
 #[test]
-fn sources_of_literals(rt: HostRuntime) -> Result<(), Fail> {
-    let z = String::from_str(rt.alloc(), "Z")?;
-    let of_string = made(Literal::from_string(rt.alloc(), z))?;
-    assert!(rt; is_equal(of_string, Literal::from_text(rt.alloc(), "Z"))?);
-    let z = RcStr::from_str(rt.alloc(), "Z")?;
-    assert!(rt; is_equal(Literal::from(z), Literal::from_text(rt.alloc(), "Z"))?);
-    Ok(())
+fn sets_of_literals(rt: HostRuntime) {
+    assert!(rt;
+        rising_literals(&rt).len() == 9
+            && are_distinct_and_have(&rt, rising_literals(&rt), entity_elsewhere(&rt))
+    );
 }
 
 #[test]
-fn sets_of_literals(rt: HostRuntime) -> Result<(), Fail> {
-    let mut set = HashSet::new(rt.alloc());
-    for x in rising_literals(&rt)? {
-        assert!(rt; set.insert(x)?);
-    }
-    assert!(rt; !set.insert(entity_elsewhere(&rt)?)?);
-    assert_eq!(rt; set.len(), 9);
-    Ok(())
-}
-
-#[test]
-fn sets_of_entities(rt: HostRuntime) -> Result<(), Fail> {
-    let mut uids = HashSet::new(rt.alloc());
-    assert!(rt; uids.insert(uid(&rt, "A", "b")?)?);
-    assert!(rt; !uids.insert(uid(&rt, "A", "b")?)?);
-    assert!(rt; uids.insert(uid(&rt, "A", "c")?)?);
-    Ok(())
+fn sets_of_entities(rt: HostRuntime) {
+    let uids = vec(&rt, [uid(&rt, "A", "b"), uid(&rt, "A", "c")]);
+    assert!(rt; are_distinct_and_have(&rt, uids, uid(&rt, "A", "b")));
 }
 
 // A type of each kind and each sort of name, each above the one before.
-fn rising_types(rt: &HostRuntime) -> Result<Vec<Type>, Fail> {
-    let mut rising = Vec::new(rt.alloc());
-    rising.push(Type::Bool)?;
-    rising.push(Type::Long)?;
-    rising.push(Type::String)?;
-    rising.push(Type::Set)?;
-    rising.push(Type::Record)?;
-    rising.push(Type::entity_type(name(rt, "B")?))?;
-    rising.push(Type::entity_type(name(rt, "A::C")?))?;
-    let name = name(rt, "A")?;
-    rising.push(Type::Extension { name })?;
-    Ok(rising)
+fn rising_types(rt: &(impl Abort + AllocGlobal)) -> Vec<Type> {
+    vec(
+        rt,
+        [
+            Type::Bool,
+            Type::Long,
+            Type::String,
+            Type::Set,
+            Type::Record,
+            Type::entity_type(name(rt, "B")),
+            Type::entity_type(name(rt, "A::C")),
+            Type::Extension {
+                name: name(rt, "A"),
+            },
+        ],
+    )
 }
 
 #[test]
-fn texts_of_types(rt: HostRuntime) -> Result<(), Fail> {
+fn texts_of_types(rt: HostRuntime) {
     let texts = [
         "bool",
         "long",
@@ -443,169 +506,146 @@ fn texts_of_types(rt: HostRuntime) -> Result<(), Fail> {
         "(entity of type `A::C`)",
         "A",
     ];
-    for (ty, want) in rising_types(&rt)?.iter().zip(texts) {
-        check_text(&rt, ty, want)?;
-    }
-    Ok(())
+    assert!(rt; all_show(&rt, rising_types(&rt), &texts));
 }
 
 #[test]
-fn copies_of_types(rt: HostRuntime) -> Result<(), Fail> {
-    for ty in rising_types(&rt)?.iter() {
-        assert!(rt; made(ty.clone(rt.alloc()))? == *ty);
+fn copies_of_types(rt: HostRuntime) {
+    for ty in rising_types(&rt).iter() {
+        assert!(rt; is_equal(&rt, ty, ty.clone(rt.alloc())));
     }
-    Ok(())
 }
 
 #[test]
-fn order_of_types(rt: HostRuntime) -> Result<(), Fail> {
-    let rising = rising_types(&rt)?;
-    for (s, t) in rising.iter().zip(rising.iter().skip(1)) {
-        assert!(rt; s < t && s != t);
-    }
-    Ok(())
+fn order_of_types(rt: HostRuntime) {
+    assert!(rt; are_rising(rising_types(&rt)));
 }
 
 #[test]
-fn sets_of_types(rt: HostRuntime) -> Result<(), Fail> {
-    let mut set = HashSet::new(rt.alloc());
-    for ty in rising_types(&rt)? {
-        assert!(rt; set.insert(ty)?);
-    }
-    assert!(rt; !set.insert(Type::entity_type(name_elsewhere(&rt, "B")?))?);
-    Ok(())
+fn sets_of_types(rt: HostRuntime) {
+    let twin = Type::entity_type(name_elsewhere(&rt, "B"));
+    assert!(rt; are_distinct_and_have(&rt, rising_types(&rt), twin));
 }
 
-fn untyped(rt: &HostRuntime) -> Result<Unknown, Fail> {
-    Ok(Unknown::new_untyped(RcStr::from_str(rt.alloc(), "x")?))
+fn untyped(rt: &(impl Abort + AllocGlobal)) -> Unknown {
+    Unknown::new_untyped(shared(rt, "x"))
 }
 
-fn typed(rt: &HostRuntime, ty: Type) -> Result<Unknown, Fail> {
-    let x = made(RcStr::from_str(rt.alloc(), "x"))?;
-    Ok(Unknown::new_with_type(x, ty))
+fn typed(rt: &(impl Abort + AllocGlobal), ty: Type) -> Unknown {
+    Unknown::new_with_type(shared(rt, "x"), ty)
 }
 
-fn entity_unknown(rt: &HostRuntime) -> Result<Unknown, Fail> {
-    typed(rt, Type::entity_type(name(rt, "A")?))
+fn entity_unknown(rt: &(impl Abort + AllocGlobal)) -> Unknown {
+    typed(rt, Type::entity_type(name(rt, "A")))
 }
 
 // The same with its type's name at another place.
-fn unknown_elsewhere(rt: &HostRuntime) -> Result<Unknown, Fail> {
-    typed(rt, Type::entity_type(name_elsewhere(rt, "A")?))
+fn unknown_elsewhere(rt: &(impl Abort + AllocGlobal)) -> Unknown {
+    typed(rt, Type::entity_type(name_elsewhere(rt, "A")))
 }
 
 // Unknowns of one name: of no type, of type `long`, and of the entity type `A`.
-fn different_unknowns(rt: &HostRuntime) -> Result<Vec<Unknown>, Fail> {
-    let mut made = Vec::new(rt.alloc());
-    made.push(untyped(rt)?)?;
-    made.push(typed(rt, Type::Long)?)?;
-    made.push(entity_unknown(rt)?)?;
-    Ok(made)
+fn different_unknowns(rt: &(impl Abort + AllocGlobal)) -> Vec<Unknown> {
+    vec(rt, [untyped(rt), typed(rt, Type::Long), entity_unknown(rt)])
 }
 
 #[test]
-fn unknowns(rt: HostRuntime) -> Result<(), Fail> {
-    let different = different_unknowns(&rt)?;
-    for (x, y) in different.iter().zip(different.iter().skip(1)) {
-        assert!(rt; x != y);
+fn unknowns(rt: HostRuntime) {
+    assert!(rt;
+        differ(untyped(&rt), typed(&rt, Type::Long))
+            && differ(typed(&rt, Type::Long), entity_unknown(&rt))
+            && are_equal(entity_unknown(&rt), unknown_elsewhere(&rt))
+    );
+}
+
+fn copy_of_unknown(rt: &(impl Abort + AllocGlobal), x: Unknown) -> Unknown {
+    made(rt, x.clone(rt.alloc()))
+}
+
+#[test]
+fn copies_of_unknowns(rt: HostRuntime) {
+    assert!(rt; are_equal(copy_of_unknown(&rt, untyped(&rt)), untyped(&rt)));
+}
+
+#[test]
+fn copies_of_unknowns_with_a_type(rt: HostRuntime) {
+    assert!(rt;
+        are_equal(
+            copy_of_unknown(&rt, unknown_elsewhere(&rt)),
+            entity_unknown(&rt)
+        )
+    );
+}
+
+#[test]
+fn sets_of_unknowns(rt: HostRuntime) {
+    assert!(rt; are_distinct_and_have(&rt, different_unknowns(&rt), unknown_elsewhere(&rt)));
+}
+
+fn extension(rt: &(impl Abort + AllocGlobal), text: &str) -> SchemaType {
+    SchemaType::Extension {
+        name: name(rt, text),
     }
-    assert!(rt; different.last() == Some(&unknown_elsewhere(&rt)?));
-    Ok(())
 }
 
-#[test]
-fn copies_of_unknowns(rt: HostRuntime) -> Result<(), Fail> {
-    let plain = untyped(&rt)?;
-    let copy = plain.clone(rt.alloc());
-    assert!(rt; is_equal(plain, copy)?);
-    Ok(())
-}
-
-#[test]
-fn copies_of_unknowns_with_a_type(rt: HostRuntime) -> Result<(), Fail> {
-    let copy = made(unknown_elsewhere(&rt)?.clone(rt.alloc()))?;
-    assert!(rt; copy == entity_unknown(&rt)?);
-    Ok(())
-}
-
-#[test]
-fn sets_of_unknowns(rt: HostRuntime) -> Result<(), Fail> {
-    let mut set = HashSet::new(rt.alloc());
-    for x in different_unknowns(&rt)? {
-        assert!(rt; set.insert(x)?);
+fn set_of(rt: &(impl Abort + AllocGlobal), ty: SchemaType) -> SchemaType {
+    SchemaType::Set {
+        element_ty: made(rt, Box::new(rt.alloc(), ty)),
     }
-    assert!(rt; !set.insert(unknown_elsewhere(&rt)?)?);
-    Ok(())
 }
 
-fn extension(rt: &HostRuntime, text: &str) -> Result<SchemaType, Fail> {
-    Ok(SchemaType::Extension {
-        name: name(rt, text)?,
-    })
-}
-
-fn set_of(rt: &HostRuntime, ty: SchemaType) -> Result<SchemaType, AllocFailed<SchemaType>> {
-    Ok(SchemaType::Set {
-        element_ty: Box::new(rt.alloc(), ty)?,
-    })
-}
-
-fn record_type(rt: &HostRuntime) -> Result<SchemaType, Fail> {
-    let mut attrs = BTreeMap::new(rt.alloc());
-    let set = set_of(rt, extension(rt, "x")?)?;
-    drop(attrs.insert(RcStr::from_str(rt.alloc(), "b")?, set)?);
-    drop(attrs.insert(RcStr::from_str(rt.alloc(), "a")?, extension(rt, "y")?)?);
-    Ok(SchemaType::Record { attrs })
-}
-
-// The names of the extension types inside, each with a space after it.
-fn extension_types(rt: &HostRuntime, ty: &SchemaType) -> Result<String, Fail> {
-    let names = made(ty.contained_ext_types(rt.alloc()))?;
-    spaced(rt, names.as_slice())
-}
-
-#[test]
-fn extension_types_inside(rt: HostRuntime) -> Result<(), Fail> {
-    let found = extension_types(&rt, &record_type(&rt)?)?;
-    assert_eq!(rt; found.as_str(), "y x ");
-    Ok(())
-}
-
-// Checks the text of the type that its values have, and a copy.
-fn check_schema_type(rt: &HostRuntime, ty: SchemaType, want: &str) -> Result<(), Fail> {
-    check_made(rt, ty.to_type(rt.alloc()), want)?;
-    let copy = ty.clone(rt.alloc());
-    if is_equal(ty, copy)? {
-        return Ok(());
+fn record_type(rt: &(impl Abort + AllocGlobal)) -> SchemaType {
+    let attrs = [
+        (shared(rt, "b"), set_of(rt, extension(rt, "x"))),
+        (shared(rt, "a"), extension(rt, "y")),
+    ];
+    SchemaType::Record {
+        attrs: made(rt, BTreeMap::from_array(rt.alloc(), attrs)),
     }
-    Err(Fail::from("a copy that differs"))
 }
 
 #[test]
-fn schema_types(rt: HostRuntime) -> Result<(), Fail> {
-    check_schema_type(&rt, SchemaType::Bool, "bool")?;
-    check_schema_type(&rt, SchemaType::Long, "long")?;
-    check_schema_type(&rt, SchemaType::String, "string")?;
-    check_schema_type(&rt, SchemaType::EmptySet, "set")
+fn extension_types_inside(rt: HostRuntime) {
+    let names = made(&rt, record_type(&rt).contained_ext_types(rt.alloc()));
+    assert!(rt; all_show(&rt, names, &["y", "x"]));
+}
+
+// Whether the type that its values have is written so, and a copy equals it.
+fn is_schema_type(rt: &(impl Abort + AllocGlobal), ty: SchemaType, want: &str) -> bool {
+    shows(rt, made(rt, ty.to_type(rt.alloc())), want) && is_equal(rt, &ty, ty.clone(rt.alloc()))
 }
 
 #[test]
-fn schema_types_with_types_inside(rt: HostRuntime) -> Result<(), Fail> {
-    check_schema_type(&rt, set_of(&rt, SchemaType::Long)?, "set")?;
-    check_schema_type(&rt, record_type(&rt)?, "record")
+fn schema_types(rt: HostRuntime) {
+    assert!(rt;
+        is_schema_type(&rt, SchemaType::Bool, "bool")
+            && is_schema_type(&rt, SchemaType::Long, "long")
+            && is_schema_type(&rt, SchemaType::String, "string")
+            && is_schema_type(&rt, SchemaType::EmptySet, "set")
+    );
 }
 
 #[test]
-fn schema_types_with_names(rt: HostRuntime) -> Result<(), Fail> {
-    check_schema_type(&rt, extension(&rt, "x")?, "x")?;
-    let ty = EntityType::from(name(&rt, "A")?);
-    check_schema_type(&rt, SchemaType::Entity { ty }, "(entity of type `A`)")
+fn schema_types_with_types_inside(rt: HostRuntime) {
+    assert!(rt;
+        is_schema_type(&rt, set_of(&rt, SchemaType::Long), "set")
+            && is_schema_type(&rt, record_type(&rt), "record")
+    );
 }
 
 #[test]
-fn schema_types_differ(rt: HostRuntime) -> Result<(), Fail> {
-    let of_bools = set_of(&rt, SchemaType::Bool)?;
-    assert!(rt; !is_equal(of_bools, set_of(&rt, SchemaType::Long))?);
-    assert!(rt; !is_equal(SchemaType::EmptySet, set_of(&rt, SchemaType::Long))?);
-    Ok(())
+fn schema_types_with_names(rt: HostRuntime) {
+    let ty = EntityType::from(name(&rt, "A"));
+    assert!(rt;
+        is_schema_type(&rt, extension(&rt, "x"), "x")
+            && is_schema_type(&rt, SchemaType::Entity { ty }, "(entity of type `A`)")
+    );
+}
+
+#[test]
+fn schema_types_differ(rt: HostRuntime) {
+    assert!(rt;
+        differ(set_of(&rt, SchemaType::Bool), set_of(&rt, SchemaType::Long))
+            && differ(SchemaType::EmptySet, set_of(&rt, SchemaType::Long))
+    );
 }

@@ -1,156 +1,154 @@
 // Matches of patterns, and each of their calls.
-use crate::tests::{is_equal, made, pattern, pattern_of_char};
+use crate::tests::{are_equal, is_below, is_equal, made, pattern, pattern_of_char, vec};
 use cedar_terms::{Pattern, PatternElem, Turns, try_splits};
+use std::process::Abort;
 use std::rc::Rc;
-use std::test::Fail;
 
 // The word `example`, each letter with marks above and below it.
 const EXAMPLE: &str =
     "e\u{336}\u{351}\u{35d}\u{330}x\u{336}\u{35b}\u{354}a\u{335}\u{35b}\u{330}\u{32f}m\u{334}\u{30b}\u{301}\u{349}p\u{337}\u{342}\u{320}l\u{335}\u{30d}\u{314}\u{347}e\u{336}\u{35d}\u{327}\u{323}";
 
-// Checks whether each pattern, by `|`, matches the text.
-fn check_matches(rt: &HostRuntime, patterns: &str, value: &str, want: bool) -> Result<(), Fail> {
+// Whether the pattern matches the text.
+fn matches(rt: &(impl Abort + AllocGlobal), elems: &str, value: &str) -> bool {
+    pattern(rt, elems).wildcard_match(value)
+}
+
+// Asserts that each pattern, by `|`, matches the text, or that each does not.
+fn check_matches(rt: &(impl Abort + AllocGlobal), patterns: &str, value: &str, want: bool) {
     for elems in patterns.split('|') {
-        if pattern(rt, elems)?.wildcard_match(value) != want {
-            return Err(Fail::from(format!(in rt.alloc(); "{elems} on {value}")?));
-        }
+        assert!(rt; matches(rt, elems, value) == want, "{elems} on {value}");
     }
-    Ok(())
 }
 
 #[test]
-fn matches_of_wildcards(rt: HostRuntime) -> Result<(), Fail> {
-    let foo_bar = "f**r|foo*|*bar|*o b*|f* bar|*f***";
-    check_matches(&rt, foo_bar, "foo bar", true)?;
-    let others = "*bo*||*foo|bar*|f*br|*x***";
-    check_matches(&rt, others, "foo bar", false)?;
-    check_matches(&rt, "*ab", "aab", true)?;
-    check_matches(&rt, "|*", "", true)?;
-    check_matches(&rt, "foo bar", "", false)?;
-    check_matches(&rt, "*", "*", true)?;
-    check_matches(&rt, "\0|\\u{0000}", "*", false)?;
-    assert!(rt; pattern_of_char(&rt, '*')?.wildcard_match("*"));
-    Ok(())
+fn matches_of_wildcards(rt: HostRuntime) {
+    check_matches(&rt, "f**r|foo*|*bar|*o b*|f* bar|*f***", "foo bar", true);
+    check_matches(&rt, "*bo*||*foo|bar*|f*br|*x***", "foo bar", false);
+    check_matches(&rt, "*ab", "aab", true);
+    check_matches(&rt, "|*", "", true);
+    check_matches(&rt, "foo bar", "", false);
+    check_matches(&rt, "*", "*", true);
+    check_matches(&rt, "\0|\\u{0000}", "*", false);
+    assert!(rt; pattern_of_char(&rt, '*').wildcard_match("*"));
 }
 
 #[test]
-fn matches_of_marks(rt: HostRuntime) -> Result<(), Fail> {
-    check_matches(&rt, "y*|y\u{306}", "y\u{306}", true)?;
-    check_matches(&rt, "*p*", "y\u{306}", false)?;
+fn matches_of_marks(rt: HostRuntime) {
+    check_matches(&rt, "y*|y\u{306}", "y\u{306}", true);
+    check_matches(&rt, "*p*", "y\u{306}", false);
     let inside = "*p*|*a\u{335}\u{35b}\u{330}\u{32f}m\u{334}\u{30b}\u{301}\u{349}*";
-    check_matches(&rt, inside, EXAMPLE, true)?;
-    check_matches(&rt, "y*", EXAMPLE, false)
+    check_matches(&rt, inside, EXAMPLE, true);
+    check_matches(&rt, "y*", EXAMPLE, false);
+}
+
+// Whether the call that counts answers so, in as many turns.
+fn is_counted(
+    rt: &(impl Abort + AllocGlobal),
+    turns: &mut Turns,
+    elems: &str,
+    value: &str,
+    want: (bool, u128),
+) -> bool {
+    let answer = pattern(rt, elems).wildcard_match_counted(value, turns);
+    (answer, turns.get()) == want
+}
+
+// The bound: for each character of the text one turn for each element, and one more.
+fn most_turns(rt: &(impl Abort + AllocGlobal), elems: &str, value: &str) -> usize {
+    let turns_each = pattern(rt, elems).len().saturating_add(1);
+    value.chars().count().saturating_mul(turns_each)
+}
+
+// Asserts the answer of both calls, the turns and their bound.
+fn check_turns(
+    rt: &(impl Abort + AllocGlobal),
+    turns: &mut Turns,
+    elems: &str,
+    value: &str,
+    want: (bool, u128, usize),
+) {
+    let (answer, count, bound) = want;
+    check_matches(rt, elems, value, answer);
+    assert!(rt;
+        is_counted(rt, turns, elems, value, (answer, count)),
+        "{elems} on {value}"
+    );
+    assert!(rt; most_turns(rt, elems, value) == bound, "{elems} on {value}");
 }
 
 // The count is set by each call, whatever it held before.
 #[test]
-fn turns_of_matches(rt: HostRuntime) -> Result<(), Fail> {
+fn turns_of_matches(rt: HostRuntime) {
     let mut turns = Turns::new();
-    assert_eq!(rt; turns.get(), 0);
-    for (elems, value, want, count, bound) in [
-        ("*ab", "aab", true, 5, 12),
-        ("*", "abc", true, 1, 6),
-        ("abc", "abc", true, 3, 12),
-        ("ab", "ac", false, 2, 6),
-        ("*a", "bb", false, 3, 6),
-        ("*a*b", "aaab", true, 6, 20),
-        ("", "foo bar", false, 0, 7),
-        ("*", "", true, 0, 0),
-        ("*a*a*b", "aaaa", false, 7, 28),
-        (
-            "********************b",
-            "aaaaaaaaaaaaaaaaaaaaaaaaaaaaaaaaaaaaaaaa",
-            false,
-            60,
-            880,
-        ),
-    ] {
-        let most = check_turns(&rt, elems, value, want, &mut turns)?;
-        assert_eq!(rt; (turns.get(), most), (count, bound), "{elems} on {value}");
-    }
-    Ok(())
-}
-
-// Checks the answer of both calls, sets the turns, and gives the bound: for each character of the
-// text one turn for each element, and one more.
-fn check_turns(
-    rt: &HostRuntime,
-    elems: &str,
-    value: &str,
-    want: bool,
-    turns: &mut Turns,
-) -> Result<usize, Fail> {
-    let p = pattern(rt, elems)?;
-    let answer = p.wildcard_match_counted(value, turns);
-    if answer != want || p.wildcard_match(value) != want {
-        return Err(Fail::from(format!(in rt.alloc(); "{elems} on {value}")?));
-    }
-    let turns_each = p.len().saturating_add(1);
-    Ok(value.chars().count().saturating_mul(turns_each))
+    assert!(rt; turns.get() == 0);
+    check_turns(&rt, &mut turns, "*ab", "aab", (true, 5, 12));
+    check_turns(&rt, &mut turns, "*", "abc", (true, 1, 6));
+    check_turns(&rt, &mut turns, "abc", "abc", (true, 3, 12));
+    check_turns(&rt, &mut turns, "ab", "ac", (false, 2, 6));
+    check_turns(&rt, &mut turns, "*a", "bb", (false, 3, 6));
+    check_turns(&rt, &mut turns, "*a*b", "aaab", (true, 6, 20));
+    check_turns(&rt, &mut turns, "", "foo bar", (false, 0, 7));
+    check_turns(&rt, &mut turns, "*", "", (true, 0, 0));
+    check_turns(&rt, &mut turns, "*a*a*b", "aaaa", (false, 7, 28));
+    let forty = "aaaaaaaaaaaaaaaaaaaaaaaaaaaaaaaaaaaaaaaa";
+    check_turns(
+        &rt,
+        &mut turns,
+        "********************b",
+        forty,
+        (false, 60, 880),
+    );
 }
 
 // Where the loop goes back to the latest wildcard alone, trying every split takes more steps than
 // the bound has turns.
 #[test]
-fn turns_beside_every_split(rt: HostRuntime) -> Result<(), Fail> {
-    let p = pattern(&rt, "*a*a*b")?;
-    let (answer, steps) = try_splits(p.get_elems(), "aaaaaaaa");
-    let mut turns = Turns::new();
-    assert!(rt; !answer && !p.wildcard_match_counted("aaaaaaaa", &mut turns));
-    assert_eq!(rt; turns.get(), 11);
-    assert!(rt; steps > 56, "{steps}");
-    Ok(())
+fn turns_beside_every_split(rt: HostRuntime) {
+    check_turns(
+        &rt,
+        &mut Turns::new(),
+        "*a*a*b",
+        "aaaaaaaa",
+        (false, 11, 56),
+    );
+    let (answer, steps) = try_splits(pattern(&rt, "*a*a*b").get_elems(), "aaaaaaaa");
+    assert!(rt; !answer && steps > 56, "{steps}");
 }
 
 // The text of a million `a`.
-fn long_text(rt: &HostRuntime) -> Result<String, Fail> {
-    let mut text = String::new(rt.alloc());
-    for _i in 0..1_000_000 {
-        text.push('a')?;
-    }
-    Ok(text)
+fn long_text(rt: &(impl Abort + AllocGlobal)) -> String {
+    made(rt, "a".repeat(rt.alloc(), 1_000_000))
 }
 
 #[test]
-fn a_long_text_matches_itself(rt: HostRuntime) -> Result<(), Fail> {
-    let value = long_text(&rt)?;
-    let itself = pattern(&rt, value.as_str())?;
-    assert!(rt; itself.wildcard_match(value.as_str()));
-    Ok(())
-}
-
-// Whether the pattern matches the text, with its turns.
-fn counted(rt: &HostRuntime, elems: &str, value: &str, turns: &mut Turns) -> Result<bool, Fail> {
-    Ok(pattern(rt, elems)?.wildcard_match_counted(value, turns))
+fn a_long_text_matches_itself(rt: HostRuntime) {
+    let value = long_text(&rt);
+    assert!(rt; matches(&rt, value.as_str(), value.as_str()));
 }
 
 // Each character of the text takes one turn here, and each wildcard one.
 #[test]
-fn matches_of_long_texts(rt: HostRuntime) -> Result<(), Fail> {
-    let value = long_text(&rt)?;
+fn matches_of_long_texts(rt: HostRuntime) {
+    let value = long_text(&rt);
+    let text = value.as_str();
     let mut turns = Turns::new();
-    for (elems, want, count) in [
-        ("*b", false, 1_000_001),
-        ("*a*", true, 3),
-        ("a*", true, 2),
-        ("*\u{306}", false, 1_000_001),
-        ("b", false, 1),
-    ] {
-        let answer = counted(&rt, elems, value.as_str(), &mut turns)?;
-        assert_eq!(rt; answer, want, "{elems}");
-        assert_eq!(rt; turns.get(), count, "{elems}");
-    }
-    Ok(())
+    assert!(rt;
+        is_counted(&rt, &mut turns, "*b", text, (false, 1_000_001))
+            && is_counted(&rt, &mut turns, "*a*", text, (true, 3))
+            && is_counted(&rt, &mut turns, "a*", text, (true, 2))
+            && is_counted(&rt, &mut turns, "*\u{306}", text, (false, 1_000_001))
+            && is_counted(&rt, &mut turns, "b", text, (false, 1))
+    );
 }
 
 // From the lengths of the beginnings of the text that some elements match, those that they match
 // with this element after them.
 fn reached_after(
-    rt: &HostRuntime,
+    rt: &(impl Abort + AllocGlobal),
     reached: &[bool],
     elem: PatternElem,
     text: &str,
-) -> Result<Vec<bool>, Fail> {
+) -> Vec<bool> {
     let mut next = Vec::new(rt.alloc());
     let mut before = false;
     let mut codes = text.chars();
@@ -158,117 +156,113 @@ fn reached_after(
         match elem {
             PatternElem::Wildcard => {
                 before = before || *here;
-                next.push(before)?;
+                made(rt, next.push(before));
             }
             PatternElem::Char(c) => {
-                next.push(before)?;
+                made(rt, next.push(before));
                 let code = codes.next();
                 before = *here && code == Some(c);
             }
         }
     }
-    Ok(next)
+    next
+}
+
+// The same before any element: the empty beginning alone is reached.
+fn reached_at_first(rt: &(impl Abort + AllocGlobal), text: &str) -> Vec<bool> {
+    let mut reached = vec(rt, [true]);
+    for _c in text.chars() {
+        made(rt, reached.push(false));
+    }
+    reached
 }
 
 // Whether the elements match the text, by the lengths that are reached after each element.
-fn matches_by_lengths(rt: &HostRuntime, elems: &[PatternElem], text: &str) -> Result<bool, Fail> {
-    let mut reached = Vec::from_array(rt.alloc(), [true])?;
-    for _c in text.chars() {
-        reached.push(false)?;
-    }
+fn matches_by_lengths(rt: &(impl Abort + AllocGlobal), elems: &[PatternElem], text: &str) -> bool {
+    let mut reached = reached_at_first(rt, text);
     for elem in elems {
-        reached = reached_after(rt, reached.as_slice(), *elem, text)?;
+        reached = reached_after(rt, reached.as_slice(), *elem, text);
     }
-    Ok(reached.last() == Some(&true))
+    reached.last() == Some(&true)
 }
 
 // The pattern of this length whose elements are the digits of the code in base 3.
-fn pattern_of_code(rt: &HostRuntime, length: u32, code: u32) -> Result<Pattern, Fail> {
+fn pattern_of_code(rt: &(impl Abort + AllocGlobal), length: u32, code: u32) -> Pattern {
     let mut elems = Vec::new(rt.alloc());
     let mut rest = code;
     for _i in 0..length {
-        elems.push(match rest % 3 {
-            0 => PatternElem::Char('a'),
-            1 => PatternElem::Char('b'),
-            _ => PatternElem::Wildcard,
-        })?;
+        made(
+            rt,
+            elems.push(match rest % 3 {
+                0 => PatternElem::Char('a'),
+                1 => PatternElem::Char('b'),
+                _ => PatternElem::Wildcard,
+            }),
+        );
         rest /= 3;
     }
-    Ok(Pattern::from_vec(rt.alloc(), elems)?)
+    made(rt, Pattern::from_vec(rt.alloc(), elems))
 }
 
-// How many short texts the pattern matches as it should.
-fn short_texts_in_agreement(rt: &HostRuntime, p: &Pattern) -> Result<u64, Fail> {
-    let mut count = 0u64;
+// Whether the pattern matches each short text as it should.
+fn agrees_on_short_texts(rt: &(impl Abort + AllocGlobal), p: &Pattern) -> bool {
     for value in SHORT_TEXTS {
-        if p.wildcard_match(value) == matches_by_lengths(rt, p.get_elems(), value)? {
-            count = count.saturating_add(1);
+        if p.wildcard_match(value) != matches_by_lengths(rt, p.get_elems(), value) {
+            return false;
         }
     }
-    Ok(count)
+    true
 }
 
 #[test]
-fn matches_of_short_patterns(rt: HostRuntime) -> Result<(), Fail> {
+fn matches_of_short_patterns(rt: HostRuntime) {
     for (length, count) in [(0, 1), (1, 3), (2, 9), (3, 27), (4, 81)] {
         for code in 0..count {
-            let p = pattern_of_code(&rt, length, code)?;
-            assert_eq!(rt; short_texts_in_agreement(&rt, &p)?, 31, "{p}");
+            let p = pattern_of_code(&rt, length, code);
+            assert!(rt; agrees_on_short_texts(&rt, &p), "{p}");
         }
     }
-    Ok(())
 }
 
-const SHORT_TEXTS: [&str; 31] = [
+const SHORT_TEXTS: &[&str] = &[
     "", "a", "b", "aa", "ab", "ba", "bb", "aaa", "aab", "aba", "abb", "baa", "bab", "bba", "bbb",
     "aaaa", "aaab", "aaba", "aabb", "abaa", "abab", "abba", "abbb", "baaa", "baab", "baba", "babb",
     "bbaa", "bbab", "bbba", "bbbb",
 ];
 
 #[test]
-fn lengths_of_patterns(rt: HostRuntime) -> Result<(), Fail> {
-    let p = pattern(&rt, "a*")?;
-    assert!(rt; p.len() == 2 && !p.is_empty());
-    assert!(rt; pattern(&rt, "")?.is_empty());
-    Ok(())
+fn lengths_of_patterns(rt: HostRuntime) {
+    let p = pattern(&rt, "a*");
+    assert!(rt; p.len() == 2 && !p.is_empty() && pattern(&rt, "").is_empty());
 }
 
 #[test]
-fn items_of_patterns(rt: HostRuntime) -> Result<(), Fail> {
-    let p = pattern(&rt, "a*")?;
-    let of_items = Pattern::from_items(rt.alloc(), p.iter().copied());
-    assert!(rt; is_equal(p, of_items)?);
-    Ok(())
+fn items_of_patterns(rt: HostRuntime) {
+    let p = pattern(&rt, "a*");
+    assert!(rt; is_equal(&rt, &p, Pattern::from_items(rt.alloc(), p.iter().copied())));
 }
 
 #[test]
-fn copies_of_patterns(rt: HostRuntime) -> Result<(), Fail> {
-    let p = pattern(&rt, "a*")?;
-    let copy = p.clone(rt.alloc());
-    assert!(rt; is_equal(p, copy)?);
-    Ok(())
+fn copies_of_patterns(rt: HostRuntime) {
+    let p = pattern(&rt, "a*");
+    assert!(rt; is_equal(&rt, &p, p.clone(rt.alloc())));
 }
 
 #[test]
-fn patterns_of_shared_elements(rt: HostRuntime) -> Result<(), Fail> {
-    let elems = Vec::from_array(rt.alloc(), [PatternElem::Char('a'), PatternElem::Wildcard])?;
-    let p = Pattern::from(made(Rc::new(rt.alloc(), elems))?);
-    assert!(rt; p == pattern(&rt, "a*")?);
-    Ok(())
-}
-
-// Whether the first pattern is below the second.
-fn is_pattern_below(rt: &HostRuntime, low: &str, high: &str) -> Result<bool, Fail> {
-    let low = pattern(rt, low)?;
-    Ok(low < pattern(rt, high)?)
+fn patterns_of_shared_elements(rt: HostRuntime) {
+    let elems = vec(&rt, [PatternElem::Char('a'), PatternElem::Wildcard]);
+    let shared = made(&rt, Rc::new(rt.alloc(), elems));
+    assert!(rt; are_equal(Pattern::from(shared), pattern(&rt, "a*")));
 }
 
 #[test]
-fn order_of_patterns(rt: HostRuntime) -> Result<(), Fail> {
+fn order_of_patterns(rt: HostRuntime) {
     let mut before = "";
     for elems in ["a", "ab", "a*", "b", "\u{10ffff}", "*", "*a"] {
-        assert!(rt; is_pattern_below(&rt, before, elems)?, "{before}");
+        assert!(rt;
+            is_below(pattern(&rt, before), pattern(&rt, elems)),
+            "{before}"
+        );
         before = elems;
     }
-    Ok(())
 }
