@@ -1,27 +1,60 @@
 //! What tests make their expressions of.
 #![tactic(auto)]
 
-use cedar_builders::ExprBuilder as _;
+use cedar_builders::{BuildFault, ExprBuilder as _, ExpressionConstructionError};
 use cedar_exprs::{Expr, ExprBuilder, ExprKind};
-use cedar_names::{Loc, Name, NonEmpty, SlotId};
+use cedar_names::{Loc, Name, NonEmpty, ParseErrors, SlotId};
 use cedar_terms::{BinaryOp, EntityType, Literal, Pattern, PatternElem, UnaryOp, Unknown, Var};
-use std::alloc::{AllocError, Global};
+use std::alloc::{AllocError, AllocFailed, Global};
 use std::collections::{BTreeMap, HashMap};
 use std::rc::{Rc, RcStr};
-use std::test::Fail;
+
+/// Want of memory, or a name or a record that is none.
+#[derive(Debug, Drop)]
+pub struct NotMade;
+
+impl From<AllocError> for NotMade {
+    fn from(_: AllocError) -> NotMade {
+        NotMade
+    }
+}
+
+impl<T: Drop> From<AllocFailed<T>> for NotMade {
+    fn from(_: AllocFailed<T>) -> NotMade {
+        NotMade
+    }
+}
+
+impl From<ParseErrors> for NotMade {
+    fn from(_: ParseErrors) -> NotMade {
+        NotMade
+    }
+}
+
+impl<E: Drop> From<BuildFault<E>> for NotMade {
+    fn from(_: BuildFault<E>) -> NotMade {
+        NotMade
+    }
+}
+
+impl From<ExpressionConstructionError> for NotMade {
+    fn from(_: ExpressionConstructionError) -> NotMade {
+        NotMade
+    }
+}
 
 /// The text as it is shared.
-pub fn text(rt: &HostRuntime, s: &str) -> Result<RcStr, Fail> {
+pub fn text(rt: &impl AllocGlobal, s: &str) -> Result<RcStr, NotMade> {
     Ok(RcStr::from_str(rt.alloc(), s)?)
 }
 
 /// The name of one identifier.
-pub fn name(rt: &HostRuntime, s: &str) -> Result<Name, Fail> {
+pub fn name(rt: &impl AllocGlobal, s: &str) -> Result<Name, NotMade> {
     Ok(Name::parse_unqualified_name(rt.alloc(), s)?)
 }
 
 /// A place that starts here, with an end and a text that no other of these places has.
-pub fn place(rt: &HostRuntime, start: usize) -> Result<Loc, Fail> {
+pub fn place(rt: &impl AllocGlobal, start: usize) -> Result<Loc, NotMade> {
     let source = format!(in rt.alloc(); "source {start}")?;
     Ok(Loc::new(
         start,
@@ -31,12 +64,12 @@ pub fn place(rt: &HostRuntime, start: usize) -> Result<Loc, Fail> {
 }
 
 /// A builder whose nodes have the place that starts here.
-pub fn at(rt: &HostRuntime, start: usize) -> Result<ExprBuilder<()>, Fail> {
+pub fn at(rt: &impl AllocGlobal, start: usize) -> Result<ExprBuilder<()>, NotMade> {
     Ok(ExprBuilder::with_data(()).with_maybe_source_loc(Some(place(rt, start)?)))
 }
 
 /// The expression has the place that starts here, or none: start, stop and text are compared.
-pub fn is_at<T>(rt: &HostRuntime, e: &Expr<T>, start: Option<usize>) -> Result<bool, Fail> {
+pub fn is_at<T>(rt: &impl AllocGlobal, e: &Expr<T>, start: Option<usize>) -> Result<bool, NotMade> {
     match (e.source_loc(), start) {
         (None, None) => Ok(true),
         (Some(loc), Some(start)) => Ok(*loc == place(rt, start)?),
@@ -45,12 +78,12 @@ pub fn is_at<T>(rt: &HostRuntime, e: &Expr<T>, start: Option<usize>) -> Result<b
 }
 
 /// The unknown of this name, without a type.
-pub fn unknown(rt: &HostRuntime, name: &str) -> Result<Unknown, Fail> {
+pub fn unknown(rt: &impl AllocGlobal, name: &str) -> Result<Unknown, NotMade> {
     Ok(Unknown::new_untyped(text(rt, name)?))
 }
 
 /// Two items. A `vec!` with a `?` in several of its items takes the checker minutes.
-pub fn two<T: Drop>(rt: &HostRuntime, first: T, second: T) -> Result<Vec<T>, Fail> {
+pub fn two<T: Drop>(rt: &impl AllocGlobal, first: T, second: T) -> Result<Vec<T>, NotMade> {
     let mut items = Vec::new(rt.alloc());
     items.push(first)?;
     items.push(second)?;
@@ -58,26 +91,33 @@ pub fn two<T: Drop>(rt: &HostRuntime, first: T, second: T) -> Result<Vec<T>, Fai
 }
 
 /// A call without a place.
-pub fn call(rt: &HostRuntime, function: &str, args: Vec<Expr<()>>) -> Result<Expr<()>, Fail> {
+pub fn call(
+    rt: &impl AllocGlobal,
+    function: &str,
+    args: Vec<Expr<()>>,
+) -> Result<Expr<()>, NotMade> {
     Ok(Expr::call_extension_fn(rt.alloc(), name(rt, function)?, args)?)
 }
 
 /// A record of two keys without a place, made from the later key to the earlier.
-pub fn record(rt: &HostRuntime, b: Expr<()>, a: Expr<()>) -> Result<Expr<()>, Fail> {
+pub fn record(rt: &impl AllocGlobal, b: Expr<()>, a: Expr<()>) -> Result<Expr<()>, NotMade> {
     Ok(Expr::record(rt.alloc(), pairs(rt, b, a)?)?)
 }
 
 /// Two pairs, from the later key to the earlier.
 pub fn pairs<T: Drop>(
-    rt: &HostRuntime,
+    rt: &impl AllocGlobal,
     b: Expr<T>,
     a: Expr<T>,
-) -> Result<Vec<(RcStr, Expr<T>)>, Fail> {
+) -> Result<Vec<(RcStr, Expr<T>)>, NotMade> {
     two(rt, (text(rt, "b")?, b), (text(rt, "a")?, a))
 }
 
 /// A map that binds each name to the integer.
-pub fn bound(rt: &HostRuntime, values: &[(&str, i64)]) -> Result<HashMap<RcStr, Literal>, Fail> {
+pub fn bound(
+    rt: &impl AllocGlobal,
+    values: &[(&str, i64)],
+) -> Result<HashMap<RcStr, Literal>, NotMade> {
     let mut bound = HashMap::new(rt.alloc());
     for (name, value) in values {
         drop(bound.insert(text(rt, name)?, Literal::Long(*value))?);
@@ -87,16 +127,20 @@ pub fn bound(rt: &HostRuntime, values: &[(&str, i64)]) -> Result<HashMap<RcStr, 
 
 /// An expression of each kind, by their numbers, with the place that starts here. Each child is a
 /// copy of the given one.
-pub fn each_kind(rt: &HostRuntime, start: usize, child: &Expr<()>) -> Result<Vec<Expr<()>>, Fail> {
+pub fn each_kind(
+    rt: &impl AllocGlobal,
+    start: usize,
+    child: &Expr<()>,
+) -> Result<Vec<Expr<()>>, NotMade> {
     each_kind_by(rt, &at(rt, start)?, child)
 }
 
 /// The same by copies of any builder.
 pub fn each_kind_by<T: Default + Copy>(
-    rt: &HostRuntime,
+    rt: &impl AllocGlobal,
     builder: &ExprBuilder<T>,
     child: &Expr<T>,
-) -> Result<Vec<Expr<T>>, Fail> {
+) -> Result<Vec<Expr<T>>, NotMade> {
     let mut kinds = Vec::new(rt.alloc());
     push_leaves(rt, builder, &mut kinds)?;
     push_connectives(rt.alloc(), builder, child, &mut kinds)?;
@@ -110,10 +154,10 @@ pub fn each_kind_by<T: Default + Copy>(
 }
 
 fn push_leaves<T: Default + Copy>(
-    rt: &HostRuntime,
+    rt: &impl AllocGlobal,
     builder: &ExprBuilder<T>,
     kinds: &mut Vec<Expr<T>>,
-) -> Result<(), Fail> {
+) -> Result<(), NotMade> {
     let alloc = rt.alloc();
     kinds.push(builder.clone(alloc)?.val(alloc, Literal::Long(7))?)?;
     kinds.push(builder.clone(alloc)?.var(alloc, Var::Context)?)?;
@@ -133,7 +177,7 @@ fn push_connectives<T: Default + Copy>(
     builder: &ExprBuilder<T>,
     child: &Expr<T>,
     kinds: &mut Vec<Expr<T>>,
-) -> Result<(), Fail> {
+) -> Result<(), NotMade> {
     let (first, second) = copies(alloc, child)?;
     let test = child.clone(alloc)?;
     kinds.push(builder.clone(alloc)?.ite(alloc, test, first, second)?)?;
@@ -149,7 +193,7 @@ fn push_operators<T: Default + Copy>(
     builder: &ExprBuilder<T>,
     child: &Expr<T>,
     kinds: &mut Vec<Expr<T>>,
-) -> Result<(), Fail> {
+) -> Result<(), NotMade> {
     let arg = child.clone(alloc)?;
     kinds.push(builder.clone(alloc)?.unary_app(alloc, UnaryOp::Not, arg)?)?;
     let (left, right) = copies(alloc, child)?;
@@ -162,11 +206,11 @@ fn push_operators<T: Default + Copy>(
 }
 
 fn push_call<T: Default + Copy>(
-    rt: &HostRuntime,
+    rt: &impl AllocGlobal,
     builder: &ExprBuilder<T>,
     child: &Expr<T>,
     kinds: &mut Vec<Expr<T>>,
-) -> Result<(), Fail> {
+) -> Result<(), NotMade> {
     let (first, second) = copies(rt.alloc(), child)?;
     let args = two(rt, first, second)?;
     let builder = builder.clone(rt.alloc())?;
@@ -175,11 +219,11 @@ fn push_call<T: Default + Copy>(
 }
 
 fn push_attributes<T: Default + Copy>(
-    rt: &HostRuntime,
+    rt: &impl AllocGlobal,
     builder: &ExprBuilder<T>,
     child: &Expr<T>,
     kinds: &mut Vec<Expr<T>>,
-) -> Result<(), Fail> {
+) -> Result<(), NotMade> {
     let alloc = rt.alloc();
     let expr = child.clone(alloc)?;
     kinds.push(builder.clone(alloc)?.get_attr(alloc, expr, text(rt, "a")?)?)?;
@@ -189,23 +233,23 @@ fn push_attributes<T: Default + Copy>(
 }
 
 /// The attributes `a` and `b`.
-pub fn a_and_b(rt: &HostRuntime) -> Result<NonEmpty<RcStr>, Fail> {
+pub fn a_and_b(rt: &impl AllocGlobal) -> Result<NonEmpty<RcStr>, NotMade> {
     let further = vec![in rt.alloc(); text(rt, "b")?]?;
     Ok(NonEmpty::new(text(rt, "a")?, further))
 }
 
 /// The pattern of one wildcard.
-pub fn anything(rt: &HostRuntime) -> Result<Pattern, Fail> {
+pub fn anything(rt: &impl AllocGlobal) -> Result<Pattern, NotMade> {
     let elems = vec![in rt.alloc(); PatternElem::Wildcard]?;
     Ok(Pattern::from_vec(rt.alloc(), elems)?)
 }
 
 fn push_tests<T: Default + Copy>(
-    rt: &HostRuntime,
+    rt: &impl AllocGlobal,
     builder: &ExprBuilder<T>,
     child: &Expr<T>,
     kinds: &mut Vec<Expr<T>>,
-) -> Result<(), Fail> {
+) -> Result<(), NotMade> {
     let alloc = rt.alloc();
     let expr = child.clone(alloc)?;
     kinds.push(
@@ -219,11 +263,11 @@ fn push_tests<T: Default + Copy>(
 }
 
 fn push_collections<T: Default + Copy>(
-    rt: &HostRuntime,
+    rt: &impl AllocGlobal,
     builder: &ExprBuilder<T>,
     child: &Expr<T>,
     kinds: &mut Vec<Expr<T>>,
-) -> Result<(), Fail> {
+) -> Result<(), NotMade> {
     let alloc = rt.alloc();
     let (first, second) = copies(alloc, child)?;
     kinds.push(builder.clone(alloc)?.set(alloc, two(rt, first, second)?)?)?;
@@ -233,11 +277,11 @@ fn push_collections<T: Default + Copy>(
 }
 
 fn push_type<T: Default + Copy>(
-    rt: &HostRuntime,
+    rt: &impl AllocGlobal,
     builder: &ExprBuilder<T>,
     child: &Expr<T>,
     kinds: &mut Vec<Expr<T>>,
-) -> Result<(), Fail> {
+) -> Result<(), NotMade> {
     let alloc = rt.alloc();
     let entity_type = EntityType::from(name(rt, "E")?);
     let expr = child.clone(alloc)?;
@@ -250,7 +294,11 @@ fn push_type<T: Default + Copy>(
 }
 
 /// Each child of the outermost node has the place that starts here, or none.
-pub fn children_are_at(rt: &HostRuntime, e: &Expr<()>, start: Option<usize>) -> Result<bool, Fail> {
+pub fn children_are_at(
+    rt: &impl AllocGlobal,
+    e: &Expr<()>,
+    start: Option<usize>,
+) -> Result<bool, NotMade> {
     match e.expr_kind() {
         ExprKind::Lit(_) | ExprKind::Var(_) | ExprKind::Slot(_) | ExprKind::Unknown(_) => Ok(true),
         ExprKind::If {
@@ -275,10 +323,10 @@ pub fn children_are_at(rt: &HostRuntime, e: &Expr<()>, start: Option<usize>) -> 
 }
 
 fn all_are_at(
-    rt: &HostRuntime,
+    rt: &impl AllocGlobal,
     exprs: &[&Rc<Expr<()>>],
     start: Option<usize>,
-) -> Result<bool, Fail> {
+) -> Result<bool, NotMade> {
     for e in exprs {
         if !is_at(rt, e, start)? {
             return Ok(false);
@@ -288,10 +336,10 @@ fn all_are_at(
 }
 
 fn members_are_at(
-    rt: &HostRuntime,
+    rt: &impl AllocGlobal,
     members: &[Expr<()>],
     start: Option<usize>,
-) -> Result<bool, Fail> {
+) -> Result<bool, NotMade> {
     for member in members {
         if !is_at(rt, member, start)? {
             return Ok(false);
@@ -301,10 +349,10 @@ fn members_are_at(
 }
 
 fn values_are_at(
-    rt: &HostRuntime,
+    rt: &impl AllocGlobal,
     values: &BTreeMap<RcStr, Expr<()>>,
     start: Option<usize>,
-) -> Result<bool, Fail> {
+) -> Result<bool, NotMade> {
     for value in values.values() {
         if !is_at(rt, value, start)? {
             return Ok(false);

@@ -1,21 +1,20 @@
 // Each constructor and each call of the struct `ExprBuilder` makes its node and has an answer where
 // there is memory.
+use crate::tests::{long, made, push, shared};
 use cedar_builders::ExprBuilder as _;
 use cedar_exprs::{Expr, ExprBuilder, ExprKind};
-use cedar_names::{NonEmpty, SlotId};
+use cedar_names::{Name, NonEmpty, SlotId};
 use cedar_terms::{BinaryOp, EntityType, Literal, UnaryOp, Unknown, Var};
-use expr_samples::{anything, at, children_are_at, each_kind, is_at, name, record, text, two};
+use expr_samples::{
+    anything, at, children_are_at, each_kind, is_at, name, record, text, two, unknown,
+};
 use std::alloc::{AllocError, Global};
 use std::collections::BTreeMap;
-use std::rc::{Rc, RcStr};
-use std::test::Fail;
+use std::process::Abort;
+use std::rc::RcStr;
 
 fn node(kind: ExprKind<()>) -> Expr<()> {
     ExprBuilder::with_data(()).with_expr_kind(kind)
-}
-
-fn shared(rt: &HostRuntime, e: Expr<()>) -> Result<Rc<Expr<()>>, Fail> {
-    Ok(Rc::new(rt.alloc(), e)?)
 }
 
 // Two expressions that no constructor simplifies.
@@ -27,53 +26,56 @@ pub fn y() -> Expr<()> {
     Expr::var(Var::Resource)
 }
 
-fn unary(rt: &HostRuntime, op: UnaryOp, arg: Expr<()>) -> Result<Expr<()>, Fail> {
-    let arg = shared(rt, arg)?;
-    Ok(node(ExprKind::UnaryApp { op, arg }))
+fn unary(rt: &(impl Abort + AllocGlobal), op: UnaryOp, arg: Expr<()>) -> Expr<()> {
+    let arg = shared(rt, arg);
+    node(ExprKind::UnaryApp { op, arg })
 }
 
-fn binary(rt: &HostRuntime, op: BinaryOp) -> Result<Expr<()>, Fail> {
-    let arg1 = shared(rt, x())?;
-    let arg2 = shared(rt, y())?;
-    Ok(node(ExprKind::BinaryApp { op, arg1, arg2 }))
+fn binary(rt: &(impl Abort + AllocGlobal), op: BinaryOp) -> Expr<()> {
+    let arg1 = shared(rt, x());
+    let arg2 = shared(rt, y());
+    node(ExprKind::BinaryApp { op, arg1, arg2 })
 }
 
 // The constructor and the builder at 1 make this node, the one without a place and the other with
 // the builder's.
 fn are_both(
-    rt: &HostRuntime,
+    rt: &(impl Abort + AllocGlobal),
     wanted: &Expr<()>,
-    made: &Expr<()>,
+    constructed: &Expr<()>,
     built: &Expr<()>,
-) -> Result<bool, Fail> {
-    let same = made == wanted && built == wanted;
-    Ok(same && is_at(rt, made, None)? && is_at(rt, built, Some(1))?)
+) -> bool {
+    constructed == wanted
+        && built == wanted
+        && made(rt, is_at(rt, constructed, None))
+        && made(rt, is_at(rt, built, Some(1)))
 }
 
 // The expression is this node, and has no place.
-fn is_node(made: Expr<()>, kind: ExprKind<()>) -> bool {
+fn is_node(e: Expr<()>, kind: ExprKind<()>) -> bool {
     let wanted = node(kind);
-    made.source_loc().is_none() && made == wanted
+    e.source_loc().is_none() && e == wanted
 }
 
-fn u(rt: &HostRuntime) -> Result<Unknown, Fail> {
-    Ok(Unknown::new_untyped(text(rt, "u")?))
+fn u(rt: &(impl Abort + AllocGlobal)) -> Unknown {
+    made(rt, unknown(rt, "u"))
 }
 
-fn both(rt: &HostRuntime) -> Result<Vec<Expr<()>>, Fail> {
-    two(rt, x(), y())
+fn both(rt: &(impl Abort + AllocGlobal)) -> Vec<Expr<()>> {
+    made(rt, two(rt, x(), y()))
 }
 
 #[test]
-fn leaves(rt: HostRuntime) -> Result<(), Fail> {
-    let one = Expr::val(Literal::Long(1));
-    assert!(rt; is_node(one, ExprKind::Lit(Literal::Long(1))));
+fn leaves(rt: HostRuntime) {
+    assert!(rt; is_node(Expr::val(Literal::Long(1)), ExprKind::Lit(Literal::Long(1))));
     assert!(rt; is_node(Expr::var(Var::Context), ExprKind::Var(Var::Context)));
-    let slot = Expr::slot(SlotId::resource());
-    assert!(rt; is_node(slot, ExprKind::Slot(SlotId::resource())));
-    let unknown = Expr::unknown(u(&rt)?);
-    assert!(rt; is_node(unknown, ExprKind::Unknown(u(&rt)?)));
-    Ok(())
+    assert!(rt;
+        is_node(
+            Expr::slot(SlotId::resource()),
+            ExprKind::Slot(SlotId::resource())
+        )
+    );
+    assert!(rt; is_node(Expr::unknown(u(&rt)), ExprKind::Unknown(u(&rt))));
 }
 
 // What the constructor of the operator makes of x.
@@ -83,6 +85,10 @@ pub fn unary_made(alloc: Global, op: UnaryOp) -> Result<Expr<()>, AllocError> {
         UnaryOp::Neg => Expr::neg(alloc, x()),
         UnaryOp::IsEmpty => Expr::is_empty(alloc, x()),
     }
+}
+
+fn at_one(rt: &(impl Abort + AllocGlobal)) -> ExprBuilder<()> {
+    made(rt, at(rt, 1))
 }
 
 // What the builder's call of the operator makes of the expression.
@@ -100,14 +106,15 @@ pub fn unary_built<T: Default + Copy>(
 }
 
 #[test]
-fn operators_on_one_argument(rt: HostRuntime) -> Result<(), Fail> {
+fn operators_on_one_argument(rt: HostRuntime) {
     for op in [UnaryOp::Not, UnaryOp::Neg, UnaryOp::IsEmpty] {
-        let wanted = unary(&rt, op, x())?;
-        let made = unary_made(rt.alloc(), op)?;
-        let built = unary_built(at(&rt, 1)?, rt.alloc(), op, x())?;
-        assert!(rt; are_both(&rt, &wanted, &made, &built)?, "{op}");
+        let constructed = made(&rt, unary_made(rt.alloc(), op));
+        let built = made(&rt, unary_built(at_one(&rt), rt.alloc(), op, x()));
+        assert!(rt;
+            are_both(&rt, &unary(&rt, op, x()), &constructed, &built),
+            "{op}"
+        );
     }
-    Ok(())
 }
 
 // What the constructor of the operator makes of x and y.
@@ -169,33 +176,30 @@ pub const BINARY_OPS: [BinaryOp; 12] = [
 ];
 
 #[test]
-fn operators_on_two_arguments(rt: HostRuntime) -> Result<(), Fail> {
+fn operators_on_two_arguments(rt: HostRuntime) {
     for op in BINARY_OPS {
-        let wanted = binary(&rt, op)?;
-        let made = binary_made(rt.alloc(), op)?;
-        let built = binary_built(at(&rt, 1)?, rt.alloc(), op, x(), y())?;
-        assert!(rt; are_both(&rt, &wanted, &made, &built)?, "{op}");
+        let constructed = made(&rt, binary_made(rt.alloc(), op));
+        let built = made(&rt, binary_built(at_one(&rt), rt.alloc(), op, x(), y()));
+        assert!(rt;
+            are_both(&rt, &binary(&rt, op), &constructed, &built),
+            "{op}"
+        );
     }
-    Ok(())
 }
 
 #[test]
-fn unary_operators_by_their_code(rt: HostRuntime) -> Result<(), Fail> {
-    let wanted = unary(&rt, UnaryOp::Neg, x())?;
-    let made = Expr::unary_app(rt.alloc(), UnaryOp::Neg, x())?;
-    let built = at(&rt, 1)?.unary_app(rt.alloc(), UnaryOp::Neg, x())?;
-    assert!(rt; are_both(&rt, &wanted, &made, &built)?);
-    Ok(())
+fn unary_operators_by_their_code(rt: HostRuntime) {
+    let constructed = made(&rt, Expr::unary_app(rt.alloc(), UnaryOp::Neg, x()));
+    let built = made(&rt, at_one(&rt).unary_app(rt.alloc(), UnaryOp::Neg, x()));
+    assert!(rt; are_both(&rt, &unary(&rt, UnaryOp::Neg, x()), &constructed, &built));
 }
 
 #[test]
-fn binary_operators_by_their_code(rt: HostRuntime) -> Result<(), Fail> {
+fn binary_operators_by_their_code(rt: HostRuntime) {
     let any = BinaryOp::ContainsAny;
-    let wanted = binary(&rt, any)?;
-    let made = Expr::binary_app(rt.alloc(), any, x(), y())?;
-    let built = at(&rt, 1)?.binary_app(rt.alloc(), any, x(), y())?;
-    assert!(rt; are_both(&rt, &wanted, &made, &built)?);
-    Ok(())
+    let constructed = made(&rt, Expr::binary_app(rt.alloc(), any, x(), y()));
+    let built = made(&rt, at_one(&rt).binary_app(rt.alloc(), any, x(), y()));
+    assert!(rt; are_both(&rt, &binary(&rt, any), &constructed, &built));
 }
 
 // What the constructor makes that negates the operator on x and y.
@@ -224,67 +228,71 @@ pub fn negated_built<T: Default + Copy>(
 
 // Both make this negation, and the inner node has the builder's place too.
 fn are_negations(
-    rt: &HostRuntime,
+    rt: &(impl Abort + AllocGlobal),
     op: BinaryOp,
-    made: &Expr<()>,
+    constructed: &Expr<()>,
     built: &Expr<()>,
-) -> Result<bool, Fail> {
-    let wanted = unary(rt, UnaryOp::Not, binary(rt, op)?)?;
-    let inside = children_are_at(rt, made, None)? && children_are_at(rt, built, Some(1))?;
-    Ok(inside && are_both(rt, &wanted, made, built)?)
+) -> bool {
+    made(rt, children_are_at(rt, constructed, None))
+        && made(rt, children_are_at(rt, built, Some(1)))
+        && are_both(
+            rt,
+            &unary(rt, UnaryOp::Not, binary(rt, op)),
+            constructed,
+            built,
+        )
 }
 
 #[test]
-fn negated_operators(rt: HostRuntime) -> Result<(), Fail> {
+fn negated_operators(rt: HostRuntime) {
     for op in [BinaryOp::Eq, BinaryOp::LessEq, BinaryOp::Less] {
-        let made = negated_made(rt.alloc(), op)?;
-        let built = negated_built(at(&rt, 1)?, rt.alloc(), op, x(), y())?;
-        assert!(rt; are_negations(&rt, op, &made, &built)?, "not {op}");
+        let constructed = made(&rt, negated_made(rt.alloc(), op));
+        let built = made(&rt, negated_built(at_one(&rt), rt.alloc(), op, x(), y()));
+        assert!(rt; are_negations(&rt, op, &constructed, &built), "not {op}");
     }
-    Ok(())
 }
 
 // The integer 1, with data 7.
-fn one_with_data(alloc: Global) -> Result<Expr<u8>, AllocError> {
-    ExprBuilder::<u8>::with_data(7).val(alloc, Literal::Long(1))
+fn one_with_data(rt: &(impl Abort + AllocGlobal)) -> Expr<u8> {
+    let builder = ExprBuilder::<u8>::with_data(7);
+    made(rt, builder.val(rt.alloc(), Literal::Long(1)))
 }
 
 // A negation with data 3.
-fn negation_with_data(alloc: Global) -> Result<Expr<u8>, AllocError> {
-    let (left, right) = (one_with_data(alloc)?, one_with_data(alloc)?);
-    ExprBuilder::<u8>::with_data(3).noteq(alloc, left, right)
+fn negation_with_data(rt: &(impl Abort + AllocGlobal)) -> Expr<u8> {
+    let builder = ExprBuilder::<u8>::with_data(3);
+    made(
+        rt,
+        builder.noteq(rt.alloc(), one_with_data(rt), one_with_data(rt)),
+    )
 }
 
 #[test]
-fn nodes_carry_data(rt: HostRuntime) -> Result<(), Fail> {
-    assert!(rt; one_with_data(rt.alloc())?.into_data() == 7);
-    let mut e = negation_with_data(rt.alloc())?;
+fn nodes_carry_data(rt: HostRuntime) {
+    assert!(rt; one_with_data(&rt).into_data() == 7);
+    let mut e = negation_with_data(&rt);
     e.set_data(4);
-    assert!(rt; *e.data() == 4);
-    assert!(rt; e.into_data() == 4);
-    Ok(())
+    assert!(rt; *e.data() == 4 && e.into_data() == 4);
+}
+
+// The data of the outer and of the inner node of a negation.
+fn data_of(e: &Expr<u8>) -> Option<(u8, u8)> {
+    match e.expr_kind() {
+        ExprKind::UnaryApp { arg, .. } => Some((*e.data(), *arg.data())),
+        _ => None,
+    }
 }
 
 // The node has the builder's data, the inner node of a negation that of a new builder.
 #[test]
-fn inner_nodes_carry_new_data(rt: HostRuntime) -> Result<(), Fail> {
-    let e = negation_with_data(rt.alloc())?;
-    match e.expr_kind() {
-        ExprKind::UnaryApp { arg, .. } => assert!(rt; *e.data() == 3 && *arg.data() == 0),
-        _ => assert!(rt; false, "a negation"),
-    }
-    Ok(())
+fn inner_nodes_carry_new_data(rt: HostRuntime) {
+    assert!(rt; data_of(&negation_with_data(&rt)) == Some((3, 0)));
 }
 
 // The expression is this conjunction, and has no place.
-fn is_and(rt: &HostRuntime, made: Expr<()>, left: Expr<()>, right: Expr<()>) -> Result<bool, Fail> {
-    let left = shared(rt, left)?;
-    let right = shared(rt, right)?;
-    Ok(is_node(made, ExprKind::And { left, right }))
-}
-
-fn one() -> Expr<()> {
-    Expr::val(Literal::Long(1))
+fn is_and(rt: &(impl Abort + AllocGlobal), e: Expr<()>, left: Expr<()>, right: Expr<()>) -> bool {
+    let (left, right) = (shared(rt, left), shared(rt, right));
+    is_node(e, ExprKind::And { left, right })
 }
 
 fn no() -> Expr<()> {
@@ -292,166 +300,185 @@ fn no() -> Expr<()> {
 }
 
 #[test]
-fn conjunctions(rt: HostRuntime) -> Result<(), Fail> {
-    assert!(rt; is_and(&rt, Expr::and(rt.alloc(), x(), y())?, x(), y())?);
-    assert!(rt; is_and(&rt, Expr::and(rt.alloc(), one(), no())?, one(), no())?);
-    Ok(())
+fn conjunctions(rt: HostRuntime) {
+    assert!(rt; is_and(&rt, made(&rt, Expr::and(rt.alloc(), x(), y())), x(), y()));
+    assert!(rt;
+        is_and(
+            &rt,
+            made(&rt, Expr::and(rt.alloc(), long(1), no())),
+            long(1),
+            no()
+        )
+    );
 }
 
 #[test]
-fn disjunctions(rt: HostRuntime) -> Result<(), Fail> {
-    let (left, right) = (shared(&rt, x())?, shared(&rt, y())?);
-    let made = Expr::or(rt.alloc(), x(), y())?;
-    assert!(rt; is_node(made, ExprKind::Or { left, right }));
-    Ok(())
+fn disjunctions(rt: HostRuntime) {
+    let (left, right) = (shared(&rt, x()), shared(&rt, y()));
+    let or = made(&rt, Expr::or(rt.alloc(), x(), y()));
+    assert!(rt; is_node(or, ExprKind::Or { left, right }));
 }
 
-fn conditional(rt: &HostRuntime) -> Result<ExprKind<()>, Fail> {
-    let test_expr = shared(rt, x())?;
-    let then_expr = shared(rt, y())?;
-    let else_expr = shared(rt, x())?;
-    Ok(ExprKind::If {
-        test_expr,
-        then_expr,
-        else_expr,
-    })
+fn conditional(rt: &(impl Abort + AllocGlobal)) -> ExprKind<()> {
+    ExprKind::If {
+        test_expr: shared(rt, x()),
+        then_expr: shared(rt, y()),
+        else_expr: shared(rt, x()),
+    }
 }
 
 #[test]
-fn conditionals(rt: HostRuntime) -> Result<(), Fail> {
-    let made = Expr::ite(rt.alloc(), x(), y(), x())?;
-    assert!(rt; is_node(made, conditional(&rt)?));
-    let (test_expr, then_expr) = (shared(&rt, x())?, shared(&rt, y())?);
-    let made = Expr::ite_arc(test_expr, then_expr, shared(&rt, x())?);
-    assert!(rt; is_node(made, conditional(&rt)?));
-    Ok(())
+fn conditionals(rt: HostRuntime) {
+    assert!(rt;
+        is_node(
+            made(&rt, Expr::ite(rt.alloc(), x(), y(), x())),
+            conditional(&rt)
+        )
+    );
+    let of_shared = Expr::ite_arc(shared(&rt, x()), shared(&rt, y()), shared(&rt, x()));
+    assert!(rt; is_node(of_shared, conditional(&rt)));
+}
+
+fn a(rt: &(impl Abort + AllocGlobal)) -> RcStr {
+    made(rt, text(rt, "a"))
 }
 
 #[test]
-fn attributes(rt: HostRuntime) -> Result<(), Fail> {
-    let made = Expr::get_attr(rt.alloc(), x(), text(&rt, "a")?)?;
-    let (expr, attr) = (shared(&rt, x())?, text(&rt, "a")?);
-    assert!(rt; is_node(made, ExprKind::GetAttr { expr, attr }));
-    Ok(())
+fn attributes(rt: HostRuntime) {
+    let (expr, attr) = (shared(&rt, x()), a(&rt));
+    let get = made(&rt, Expr::get_attr(rt.alloc(), x(), a(&rt)));
+    assert!(rt; is_node(get, ExprKind::GetAttr { expr, attr }));
 }
 
-// The test for the attribute `a` of x.
-fn has_a(rt: &HostRuntime) -> Result<ExprKind<()>, Fail> {
-    let (expr, attr) = (shared(rt, x())?, text(rt, "a")?);
-    Ok(ExprKind::HasAttr { expr, attr })
+// The expression tests for the attribute `a` of x, and has no place.
+fn has_a(rt: &(impl Abort + AllocGlobal), e: Expr<()>) -> bool {
+    let (expr, attr) = (shared(rt, x()), a(rt));
+    is_node(e, ExprKind::HasAttr { expr, attr })
 }
 
 #[test]
-fn tests_for_attributes(rt: HostRuntime) -> Result<(), Fail> {
-    let made = Expr::has_attr(rt.alloc(), x(), text(&rt, "a")?)?;
-    assert!(rt; is_node(made, has_a(&rt)?));
-    Ok(())
+fn tests_for_attributes(rt: HostRuntime) {
+    assert!(rt; has_a(&rt, made(&rt, Expr::has_attr(rt.alloc(), x(), a(&rt)))));
 }
 
 // The attribute `a`, and behind it the further one, if there is one.
-fn path(rt: &HostRuntime, further: Option<&str>) -> Result<NonEmpty<RcStr>, Fail> {
+fn path(rt: &(impl Abort + AllocGlobal), further: Option<&str>) -> NonEmpty<RcStr> {
     let mut tail = Vec::new(rt.alloc());
     if let Some(attr) = further {
-        tail.push(text(rt, attr)?)?;
+        push(rt, &mut tail, made(rt, text(rt, attr)));
     }
-    Ok(NonEmpty::new(text(rt, "a")?, tail))
+    NonEmpty::new(a(rt), tail)
+}
+
+// The test for the path on x.
+fn has_path(rt: &(impl Abort + AllocGlobal), further: Option<&str>) -> Expr<()> {
+    made(
+        rt,
+        Expr::extended_has_attr(rt.alloc(), x(), path(rt, further)),
+    )
 }
 
 #[test]
-fn paths_of_one_attribute(rt: HostRuntime) -> Result<(), Fail> {
-    let made = Expr::extended_has_attr(rt.alloc(), x(), path(&rt, None)?)?;
-    assert!(rt; is_node(made, has_a(&rt)?));
-    Ok(())
+fn paths_of_one_attribute(rt: HostRuntime) {
+    assert!(rt; has_a(&rt, has_path(&rt, None)));
 }
 
 #[test]
-fn paths_of_attributes(rt: HostRuntime) -> Result<(), Fail> {
-    let made = Expr::extended_has_attr(rt.alloc(), x(), path(&rt, Some("b"))?)?;
-    let (expr, attrs) = (shared(&rt, x())?, path(&rt, Some("b"))?);
-    assert!(rt; is_node(made, ExprKind::ExtHasAttr { expr, attrs }));
-    Ok(())
+fn paths_of_attributes(rt: HostRuntime) {
+    let (expr, attrs) = (shared(&rt, x()), path(&rt, Some("b")));
+    assert!(rt;
+        is_node(
+            has_path(&rt, Some("b")),
+            ExprKind::ExtHasAttr { expr, attrs }
+        )
+    );
 }
 
 #[test]
-fn patterns(rt: HostRuntime) -> Result<(), Fail> {
-    let made = Expr::like(rt.alloc(), x(), anything(&rt)?)?;
-    let (expr, pattern) = (shared(&rt, x())?, anything(&rt)?);
-    assert!(rt; is_node(made, ExprKind::Like { expr, pattern }));
-    Ok(())
+fn patterns(rt: HostRuntime) {
+    let (expr, pattern) = (shared(&rt, x()), made(&rt, anything(&rt)));
+    let like = made(&rt, Expr::like(rt.alloc(), x(), made(&rt, anything(&rt))));
+    assert!(rt; is_node(like, ExprKind::Like { expr, pattern }));
 }
 
-fn entity_type(rt: &HostRuntime) -> Result<EntityType, Fail> {
-    Ok(EntityType::from(name(rt, "E")?))
-}
-
-#[test]
-fn tests_of_types(rt: HostRuntime) -> Result<(), Fail> {
-    let made = Expr::is_entity_type(rt.alloc(), x(), entity_type(&rt)?)?;
-    let (expr, entity_type) = (shared(&rt, x())?, entity_type(&rt)?);
-    assert!(rt; is_node(made, ExprKind::Is { expr, entity_type }));
-    Ok(())
-}
-
-fn shared_both(rt: &HostRuntime) -> Result<Rc<Vec<Expr<()>>>, Fail> {
-    Ok(Rc::new(rt.alloc(), both(rt)?)?)
+fn entity_type(rt: &(impl Abort + AllocGlobal)) -> EntityType {
+    EntityType::from(made(rt, name(rt, "E")))
 }
 
 #[test]
-fn sets(rt: HostRuntime) -> Result<(), Fail> {
-    let made = Expr::set(rt.alloc(), both(&rt)?)?;
-    assert!(rt; is_node(made, ExprKind::Set(shared_both(&rt)?)));
-    Ok(())
+fn tests_of_types(rt: HostRuntime) {
+    let is = made(&rt, Expr::is_entity_type(rt.alloc(), x(), entity_type(&rt)));
+    let (expr, entity_type) = (shared(&rt, x()), entity_type(&rt));
+    assert!(rt; is_node(is, ExprKind::Is { expr, entity_type }));
 }
 
 #[test]
-fn calls(rt: HostRuntime) -> Result<(), Fail> {
-    let made = Expr::call_extension_fn(rt.alloc(), name(&rt, "f")?, both(&rt)?)?;
-    let (fn_name, args) = (name(&rt, "f")?, shared_both(&rt)?);
-    assert!(rt; is_node(made, ExprKind::ExtensionFunctionApp { fn_name, args }));
-    Ok(())
+fn sets(rt: HostRuntime) {
+    let set = made(&rt, Expr::set(rt.alloc(), both(&rt)));
+    assert!(rt; is_node(set, ExprKind::Set(shared(&rt, both(&rt)))));
+}
+
+fn f(rt: &(impl Abort + AllocGlobal)) -> Name {
+    made(rt, name(rt, "f"))
 }
 
 #[test]
-fn records(rt: HostRuntime) -> Result<(), Fail> {
+fn calls(rt: HostRuntime) {
+    let (fn_name, args) = (f(&rt), shared(&rt, both(&rt)));
+    let call = made(&rt, Expr::call_extension_fn(rt.alloc(), f(&rt), both(&rt)));
+    assert!(rt; is_node(call, ExprKind::ExtensionFunctionApp { fn_name, args }));
+}
+
+fn insert(
+    rt: &(impl Abort + AllocGlobal),
+    values: &mut BTreeMap<RcStr, Expr<()>>,
+    key: &str,
+    e: Expr<()>,
+) {
+    drop(made(rt, values.insert(made(rt, text(rt, key)), e)));
+}
+
+#[test]
+fn records(rt: HostRuntime) {
     let mut values = BTreeMap::new(rt.alloc());
-    drop(values.insert(text(&rt, "b")?, x())?);
-    drop(values.insert(text(&rt, "a")?, y())?);
-    let wanted = Expr::record_arc(Rc::new(rt.alloc(), values)?);
-    assert!(rt; record(&rt, x(), y())? == wanted);
-    Ok(())
+    insert(&rt, &mut values, "b", x());
+    insert(&rt, &mut values, "a", y());
+    let wanted = Expr::record_arc(shared(&rt, values));
+    assert!(rt; made(&rt, record(&rt, x(), y())) == wanted);
 }
 
 // Each key with x.
-fn pairs_of(rt: &HostRuntime, keys: &[&str]) -> Result<Vec<(RcStr, Expr<()>)>, Fail> {
+fn pairs_of(rt: &(impl Abort + AllocGlobal), keys: &[&str]) -> Vec<(RcStr, Expr<()>)> {
     let mut pairs = Vec::new(rt.alloc());
     for key in keys {
-        pairs.push((text(rt, key)?, x()))?;
+        push(rt, &mut pairs, (made(rt, text(rt, key)), x()));
     }
-    Ok(pairs)
+    pairs
 }
 
-// The text with which a record of these keys is refused.
-fn refusal(rt: &HostRuntime, keys: &[&str]) -> Result<String, Fail> {
-    match Expr::record(rt.alloc(), pairs_of(rt, keys)?) {
-        Err(error) => Ok(error.to_string(rt.alloc())?),
-        Ok(_) => Err(Fail::from("a key stands twice")),
+// A record of these keys is refused with this text.
+fn is_refused(rt: &(impl Abort + AllocGlobal), keys: &[&str], wanted: &str) -> bool {
+    match Expr::record(rt.alloc(), pairs_of(rt, keys)) {
+        Err(error) => made(rt, error.to_string(rt.alloc())).as_str() == wanted,
+        Ok(_) => false,
     }
 }
 
 // The text names the first key that stood before.
 #[test]
-fn records_refuse_a_repeated_key(rt: HostRuntime) -> Result<(), Fail> {
+fn records_refuse_a_repeated_key(rt: HostRuntime) {
     let of_a = "duplicate key `a` in record literal";
-    assert!(rt; refusal(&rt, &["a", "b", "a", "c"])?.as_str() == of_a);
+    assert!(rt; is_refused(&rt, &["a", "b", "a", "c"], of_a));
     let of_b = "duplicate key `b` in record literal";
-    assert!(rt; refusal(&rt, &["a", "b", "b", "a"])?.as_str() == of_b);
-    Ok(())
+    assert!(rt; is_refused(&rt, &["a", "b", "b", "a"], of_b));
 }
 
 #[test]
-fn copies_of_kinds(rt: HostRuntime) -> Result<(), Fail> {
-    for e in each_kind(&rt, 1, &x())? {
-        assert!(rt; node(e.expr_kind().clone(rt.alloc())?) == e, "{e:?}");
+fn copies_of_kinds(rt: HostRuntime) {
+    for e in made(&rt, each_kind(&rt, 1, &x())) {
+        assert!(rt;
+            node(made(&rt, e.expr_kind().clone(rt.alloc()))) == e,
+            "{e:?}"
+        );
     }
-    Ok(())
 }

@@ -1,20 +1,21 @@
+use crate::tests::made;
 use cedar_builders::expr_builder::ExprBuilder as _;
 use cedar_exprs::laws::*;
 use cedar_exprs::{Expr, ExprBuilder};
 use cedar_names::Loc;
 use cedar_terms::{Literal, Var};
-use expr_samples::record;
-use std::alloc::{AllocError, Global};
+use expr_samples::{record, text};
 use std::collections::HashSet;
-use std::rc::RcStr;
-use std::test::Fail;
+use std::process::Abort;
 
 // A text as a literal, with the start of its place and its data.
-fn text_literal(alloc: Global, text: &str, start: usize, data: u8) -> Result<Expr<u8>, AllocError> {
-    let place = Loc::new(start, 9, RcStr::from_str(alloc, text)?);
-    ExprBuilder::with_data(data)
-        .with_maybe_source_loc(Some(place))
-        .val(alloc, Literal::from_text(alloc, text)?)
+fn text_literal(rt: &(impl Abort + AllocGlobal), s: &str, start: usize, data: u8) -> Expr<u8> {
+    let place = Loc::new(start, 9, made(rt, text(rt, s)));
+    let builder = ExprBuilder::with_data(data).with_maybe_source_loc(Some(place));
+    made(
+        rt,
+        builder.val(rt.alloc(), made(rt, Literal::from_text(rt.alloc(), s))),
+    )
 }
 
 // The laws of builders, at the builder of expressions.
@@ -41,29 +42,31 @@ fn laws_hold() {
 
 // The laws of one expression: what they walk over is a record in a record.
 #[test]
-fn laws_of_an_expression_hold(rt: HostRuntime) -> Result<(), Fail> {
-    let inner = record(&rt, Expr::var(Var::Action), Expr::var(Var::Context))?;
-    let e = record(&rt, inner, Expr::var(Var::Resource))?;
+fn laws_of_an_expression_hold(rt: HostRuntime) {
+    let inner = made(
+        &rt,
+        record(&rt, Expr::var(Var::Action), Expr::var(Var::Context)),
+    );
+    let e = made(&rt, record(&rt, inner, Expr::var(Var::Resource)));
     bare_positions(&e);
     record_keys_rise(&e);
-    Ok(())
 }
 
 #[test]
-fn places_do_not_count(rt: HostRuntime) -> Result<(), AllocError> {
-    let alloc = rt.alloc();
-    let first = text_literal(alloc, "a", 0, 1)?;
-    let mut seen = HashSet::new(alloc);
-    seen.insert(text_literal(alloc, "a", 0, 1)?)?;
+fn places_do_not_count(rt: HostRuntime) {
+    let first = text_literal(&rt, "a", 0, 1);
+    let mut seen = HashSet::new(rt.alloc());
+    made(&rt, seen.insert(text_literal(&rt, "a", 0, 1)));
     for (text, start, data, same) in [
         ("a", 0, 1, true),
         ("a", 7, 1, true),
         ("a", 0, 2, false),
         ("b", 0, 1, false),
     ] {
-        let other = text_literal(alloc, text, start, data)?;
-        assert_eq!(rt; first == other, same);
-        assert_eq!(rt; seen.contains(&other), same);
+        let other = text_literal(&rt, text, start, data);
+        assert!(rt;
+            (first == other) == same && seen.contains(&other) == same,
+            "{text} {start}"
+        );
     }
-    Ok(())
 }

@@ -3,22 +3,25 @@ use crate::recorder::Recorder;
 use crate::tests::constructors::{
     BINARY_OPS, binary_built, binary_made, negated_built, negated_made, unary_built, unary_made, x,
 };
+use crate::tests::{long, made, push, row, shared, thrice};
 use cedar_builders::ExprBuilder as _;
 use cedar_exprs::{Expr, ExprBuilder};
 use cedar_names::SlotId;
 use cedar_terms::{BinaryOp, EntityType, Literal, UnaryOp, Var};
-use expr_samples::{
-    a_and_b, anything, call, each_kind, each_kind_by, name, record, text, two, unknown,
-};
-use std::alloc::{AllocError, Global};
+use expr_samples::{a_and_b, anything, call, each_kind, each_kind_by, name, record, text, unknown};
 use std::cmp::Ordering;
 use std::collections::BTreeMap;
 use std::hash::{DefaultHasher, Hasher};
+use std::process::Abort;
 use std::rc::{Rc, RcStr};
-use std::test::Fail;
 
 fn seven() -> Expr<()> {
-    Expr::val(Literal::Long(7))
+    long(7)
+}
+
+// An expression of each kind at the place that starts here, each child the integer 7.
+pub fn placed(rt: &(impl Abort + AllocGlobal), start: usize) -> Vec<Expr<()>> {
+    made(rt, each_kind(rt, start, &seven()))
 }
 
 // The first byte that the shape feeds, and the number of bytes.
@@ -52,14 +55,13 @@ const FED: [(u8, u64); 17] = [
 ];
 
 #[test]
-fn feeds_each_kind(rt: HostRuntime) -> Result<(), Fail> {
-    let kinds = each_kind(&rt, 1, &seven())?;
-    assert_eq!(rt; kinds.len(), FED.len());
+fn feeds_each_kind(rt: HostRuntime) {
+    let kinds = placed(&rt, 1);
+    assert!(rt; kinds.len() == FED.len());
     for (kind, (first, count)) in kinds.iter().zip(FED) {
         let first = Some(first);
         assert_eq!(rt; fed(kind), Recorder { first, count });
     }
-    Ok(())
 }
 
 // The expression that stands here compares with each by where that one stands, and is equal to
@@ -75,25 +77,14 @@ fn compares_by_position(e: &Expr<()>, here: usize, all: &[Expr<()>]) -> bool {
 }
 
 #[test]
-fn orders_by_kind(rt: HostRuntime) -> Result<(), Fail> {
-    let kinds = each_kind(&rt, 1, &seven())?;
+fn orders_by_kind(rt: HostRuntime) {
+    let kinds = placed(&rt, 1);
     for (here, kind) in kinds.iter().enumerate() {
         assert!(rt;
             compares_by_position(kind, here, kinds.as_slice()),
             "{kind:?}"
         );
     }
-    Ok(())
-}
-
-#[test]
-fn a_test_of_type_comes_after_a_record(rt: HostRuntime) -> Result<(), Fail> {
-    let entity_type = EntityType::from(name(&rt, "E")?);
-    let is = Expr::is_entity_type(rt.alloc(), seven(), entity_type)?;
-    let record = record(&rt, seven(), seven())?;
-    assert!(rt; is.cmp_shape(&record) == Ordering::Greater);
-    assert!(rt; record.cmp_shape(&is) == Ordering::Less);
-    Ok(())
 }
 
 // Whether the first is less than the second.
@@ -101,91 +92,131 @@ fn is_less(first: &Expr<()>, second: &Expr<()>) -> bool {
     first.cmp_shape(second) == Ordering::Less && second.cmp_shape(first) == Ordering::Greater
 }
 
-// As many copies of the integer.
-fn row(rt: &HostRuntime, n: i64, count: usize) -> Result<Vec<Expr<()>>, Fail> {
-    let mut row = Vec::new(rt.alloc());
-    for _ in 0..count {
-        row.push(Expr::val(Literal::Long(n)))?;
-    }
-    Ok(row)
+fn record_of_sevens(rt: &(impl Abort + AllocGlobal)) -> Expr<()> {
+    made(rt, record(rt, seven(), seven()))
 }
 
-// Of the integer under the last of the keys.
-fn small_record(rt: &HostRuntime, n: i64) -> Result<Expr<()>, Fail> {
-    let pairs = vec![in rt.alloc(); (text(rt, "c")?, Expr::val(Literal::Long(n)))]?;
-    Ok(Expr::record(rt.alloc(), pairs)?)
-}
-
-// A row with fewer parts comes first, whatever these are.
-#[test]
-fn orders_sets_by_count_first(rt: HostRuntime) -> Result<(), Fail> {
-    let one = Expr::set(rt.alloc(), row(&rt, 2, 1)?)?;
-    let both = Expr::set(rt.alloc(), row(&rt, 1, 2)?)?;
-    assert!(rt; is_less(&one, &both));
-    Ok(())
+fn has_type(rt: &(impl Abort + AllocGlobal)) -> Expr<()> {
+    let entity_type = EntityType::from(made(rt, name(rt, "E")));
+    made(rt, Expr::is_entity_type(rt.alloc(), seven(), entity_type))
 }
 
 #[test]
-fn orders_calls_by_count_first(rt: HostRuntime) -> Result<(), Fail> {
-    let one = call(&rt, "f", row(&rt, 2, 1)?)?;
-    let both = call(&rt, "f", row(&rt, 1, 2)?)?;
-    assert!(rt; is_less(&one, &both));
-    Ok(())
+fn a_test_of_type_comes_after_a_record(rt: HostRuntime) {
+    assert!(rt; is_less(&record_of_sevens(&rt), &has_type(&rt)));
+}
+
+// A record of the integer under the one key.
+pub fn record_of_one(rt: &(impl Abort + AllocGlobal), key: &str, n: i64) -> Expr<()> {
+    let pairs = made(rt, vec![in rt.alloc(); (made(rt, text(rt, key)), long(n))]);
+    made(rt, Expr::record(rt.alloc(), pairs))
+}
+
+// A set of as many copies of the integer.
+pub fn set(rt: &(impl Abort + AllocGlobal), n: i64, count: usize) -> Expr<()> {
+    made(rt, Expr::set(rt.alloc(), row(rt, n, count)))
+}
+
+// A call with as many copies of the integer.
+pub fn call_of(rt: &(impl Abort + AllocGlobal), n: i64, count: usize) -> Expr<()> {
+    made(rt, call(rt, "f", row(rt, n, count)))
+}
+
+// What has fewer parts comes first, whatever these are.
+#[test]
+fn orders_sets_by_count_first(rt: HostRuntime) {
+    assert!(rt; is_less(&set(&rt, 2, 1), &set(&rt, 1, 2)));
 }
 
 #[test]
-fn orders_records_by_count_first(rt: HostRuntime) -> Result<(), Fail> {
-    assert!(rt; is_less(&small_record(&rt, 9)?, &record(&rt, seven(), seven())?));
-    Ok(())
+fn orders_calls_by_count_first(rt: HostRuntime) {
+    assert!(rt; is_less(&call_of(&rt, 2, 1), &call_of(&rt, 1, 2)));
 }
 
-fn push_leaves(rt: &HostRuntime, all: &mut Vec<Expr<()>>) -> Result<(), Fail> {
-    all.push(seven())?;
-    all.push(Expr::var(Var::Context))?;
-    all.push(Expr::slot(SlotId::resource()))?;
-    all.push(Expr::unknown(unknown(rt, "u")?))?;
-    Ok(())
+#[test]
+fn orders_records_by_count_first(rt: HostRuntime) {
+    assert!(rt; is_less(&record_of_one(&rt, "c", 9), &record_of_sevens(&rt)));
 }
 
-fn push_connectives(alloc: Global, all: &mut Vec<Expr<()>>) -> Result<(), Fail> {
-    all.push(Expr::ite(alloc, seven(), seven(), seven())?)?;
-    all.push(Expr::and(alloc, seven(), seven())?)?;
-    all.push(Expr::or(alloc, seven(), seven())?)?;
-    Ok(())
+fn push_leaves(rt: &(impl Abort + AllocGlobal), all: &mut Vec<Expr<()>>) {
+    push(rt, all, seven());
+    push(rt, all, Expr::var(Var::Context));
+    push(rt, all, Expr::slot(SlotId::resource()));
+    push(rt, all, Expr::unknown(made(rt, unknown(rt, "u"))));
 }
 
-fn push_operators(rt: &HostRuntime, all: &mut Vec<Expr<()>>) -> Result<(), Fail> {
-    all.push(Expr::unary_app(rt.alloc(), UnaryOp::Not, seven())?)?;
-    all.push(Expr::binary_app(rt.alloc(), BinaryOp::Eq, seven(), seven())?)?;
-    all.push(call(rt, "f", two(rt, seven(), seven())?)?)?;
-    Ok(())
+fn push_connectives(rt: &(impl Abort + AllocGlobal), all: &mut Vec<Expr<()>>) {
+    push(
+        rt,
+        all,
+        made(rt, Expr::ite(rt.alloc(), seven(), seven(), seven())),
+    );
+    push(rt, all, made(rt, Expr::and(rt.alloc(), seven(), seven())));
+    push(rt, all, made(rt, Expr::or(rt.alloc(), seven(), seven())));
 }
 
-fn push_attributes(rt: &HostRuntime, all: &mut Vec<Expr<()>>) -> Result<(), Fail> {
-    all.push(Expr::get_attr(rt.alloc(), seven(), text(rt, "a")?)?)?;
-    all.push(Expr::has_attr(rt.alloc(), seven(), text(rt, "a")?)?)?;
-    all.push(Expr::extended_has_attr(rt.alloc(), seven(), a_and_b(rt)?)?)?;
-    Ok(())
+fn push_operators(rt: &(impl Abort + AllocGlobal), all: &mut Vec<Expr<()>>) {
+    push(
+        rt,
+        all,
+        made(rt, Expr::unary_app(rt.alloc(), UnaryOp::Not, seven())),
+    );
+    push(
+        rt,
+        all,
+        made(
+            rt,
+            Expr::binary_app(rt.alloc(), BinaryOp::Eq, seven(), seven()),
+        ),
+    );
+    push(rt, all, call_of(rt, 7, 2));
 }
 
-fn push_collections(rt: &HostRuntime, all: &mut Vec<Expr<()>>) -> Result<(), Fail> {
-    all.push(Expr::like(rt.alloc(), seven(), anything(rt)?)?)?;
-    all.push(Expr::set(rt.alloc(), two(rt, seven(), seven())?)?)?;
-    all.push(record(rt, seven(), seven())?)?;
-    Ok(())
+fn push_attributes(rt: &(impl Abort + AllocGlobal), all: &mut Vec<Expr<()>>) {
+    push(
+        rt,
+        all,
+        made(
+            rt,
+            Expr::get_attr(rt.alloc(), seven(), made(rt, text(rt, "a"))),
+        ),
+    );
+    push(
+        rt,
+        all,
+        made(
+            rt,
+            Expr::has_attr(rt.alloc(), seven(), made(rt, text(rt, "a"))),
+        ),
+    );
+    let attrs = made(rt, a_and_b(rt));
+    push(
+        rt,
+        all,
+        made(rt, Expr::extended_has_attr(rt.alloc(), seven(), attrs)),
+    );
+}
+
+fn push_collections(rt: &(impl Abort + AllocGlobal), all: &mut Vec<Expr<()>>) {
+    push(
+        rt,
+        all,
+        made(rt, Expr::like(rt.alloc(), seven(), made(rt, anything(rt)))),
+    );
+    push(rt, all, set(rt, 7, 2));
+    push(rt, all, record_of_sevens(rt));
+    push(rt, all, has_type(rt));
 }
 
 // An expression of each kind by the constructors, each child the integer 7.
-pub fn constructed(rt: &HostRuntime) -> Result<Vec<Expr<()>>, Fail> {
+pub fn constructed(rt: &(impl Abort + AllocGlobal)) -> Vec<Expr<()>> {
     let mut all = Vec::new(rt.alloc());
-    push_leaves(rt, &mut all)?;
-    push_connectives(rt.alloc(), &mut all)?;
-    push_operators(rt, &mut all)?;
-    push_attributes(rt, &mut all)?;
-    push_collections(rt, &mut all)?;
-    let entity_type = EntityType::from(name(rt, "E")?);
-    all.push(Expr::is_entity_type(rt.alloc(), seven(), entity_type)?)?;
-    Ok(all)
+    push_leaves(rt, &mut all);
+    push_connectives(rt, &mut all);
+    push_operators(rt, &mut all);
+    push_attributes(rt, &mut all);
+    push_collections(rt, &mut all);
+    all
 }
 
 fn hashed<T>(e: &Expr<T>) -> u64 {
@@ -199,106 +230,104 @@ fn are_alike(a: &Expr<()>, b: &Expr<u8>) -> bool {
     a.eq_shape(b) && b.eq_shape(a) && hashed(a) == hashed(b)
 }
 
-// A variable with data 1.
-fn with_data(alloc: Global, var: Var) -> Result<Expr<u8>, AllocError> {
-    ExprBuilder::<u8>::with_data(1).var(alloc, var)
+fn with_one() -> ExprBuilder<u8> {
+    ExprBuilder::with_data(1)
+}
+
+// The variable of the operators' first or only argument, with data 1.
+fn first(rt: &(impl Abort + AllocGlobal)) -> Expr<u8> {
+    made(rt, with_one().var(rt.alloc(), Var::Principal))
+}
+
+// The variable of the second argument, with data 1.
+fn second(rt: &(impl Abort + AllocGlobal)) -> Expr<u8> {
+    made(rt, with_one().var(rt.alloc(), Var::Resource))
 }
 
 // An expression of each kind by the builder with data 1, each child the integer 7.
-fn each_kind_with_data(rt: &HostRuntime) -> Result<Vec<Expr<u8>>, Fail> {
-    let builder = ExprBuilder::<u8>::with_data(1);
-    let child = ExprBuilder::<u8>::with_data(1).val(rt.alloc(), Literal::Long(7))?;
-    each_kind_by(rt, &builder, &child)
+fn each_kind_with_data(rt: &(impl Abort + AllocGlobal)) -> Vec<Expr<u8>> {
+    let child = made(rt, with_one().val(rt.alloc(), Literal::Long(7)));
+    made(rt, each_kind_by(rt, &with_one(), &child))
 }
 
 #[test]
-fn shapes_have_no_data(rt: HostRuntime) -> Result<(), Fail> {
-    let (all, others) = (constructed(&rt)?, each_kind_with_data(&rt)?);
+fn shapes_have_no_data(rt: HostRuntime) {
+    let (all, others) = (constructed(&rt), each_kind_with_data(&rt));
     assert!(rt; others.len() == 17);
     for (a, b) in all.iter().zip(others.iter()) {
         assert!(rt; *b.data() == 1 && are_alike(a, b), "{a:?}");
     }
-    Ok(())
 }
 
 #[test]
-fn shapes_of_operators_have_no_data(rt: HostRuntime) -> Result<(), Fail> {
-    let alloc = rt.alloc();
-    let builder = || ExprBuilder::<u8>::with_data(1);
+fn shapes_of_operators_have_no_data(rt: HostRuntime) {
     for op in [UnaryOp::Not, UnaryOp::Neg, UnaryOp::IsEmpty] {
-        let built = unary_built(builder(), alloc, op, with_data(alloc, Var::Principal)?)?;
-        assert!(rt; are_alike(&unary_made(alloc, op)?, &built), "{op}");
+        let built = made(&rt, unary_built(with_one(), rt.alloc(), op, first(&rt)));
+        assert!(rt;
+            are_alike(&made(&rt, unary_made(rt.alloc(), op)), &built),
+            "{op}"
+        );
     }
-    Ok(())
-}
-
-// The variables of the operators' arguments, with data 1.
-fn arguments(alloc: Global) -> Result<(Expr<u8>, Expr<u8>), AllocError> {
-    let first = with_data(alloc, Var::Principal)?;
-    Ok((first, with_data(alloc, Var::Resource)?))
 }
 
 #[test]
-fn shapes_of_binary_operators_have_no_data(rt: HostRuntime) -> Result<(), Fail> {
+fn shapes_of_binary_operators_have_no_data(rt: HostRuntime) {
     for op in BINARY_OPS {
-        let (first, second) = arguments(rt.alloc())?;
-        let builder = ExprBuilder::<u8>::with_data(1);
-        let built = binary_built(builder, rt.alloc(), op, first, second)?;
-        assert!(rt; are_alike(&binary_made(rt.alloc(), op)?, &built), "{op}");
+        let built = binary_built(with_one(), rt.alloc(), op, first(&rt), second(&rt));
+        let built = made(&rt, built);
+        assert!(rt;
+            are_alike(&made(&rt, binary_made(rt.alloc(), op)), &built),
+            "{op}"
+        );
     }
-    Ok(())
 }
 
 #[test]
-fn shapes_of_negated_operators_have_no_data(rt: HostRuntime) -> Result<(), Fail> {
+fn shapes_of_negated_operators_have_no_data(rt: HostRuntime) {
     for op in [BinaryOp::Eq, BinaryOp::LessEq, BinaryOp::Less] {
-        let (first, second) = arguments(rt.alloc())?;
-        let builder = ExprBuilder::<u8>::with_data(1);
-        let built = negated_built(builder, rt.alloc(), op, first, second)?;
-        assert!(rt; are_alike(&negated_made(rt.alloc(), op)?, &built), "{op}");
+        let built = negated_built(with_one(), rt.alloc(), op, first(&rt), second(&rt));
+        let built = made(&rt, built);
+        assert!(rt;
+            are_alike(&made(&rt, negated_made(rt.alloc(), op)), &built),
+            "{op}"
+        );
     }
-    Ok(())
 }
 
 // A conditional of one shared variable.
-fn shared_ite(alloc: Global) -> Result<Expr<()>, AllocError> {
-    let part = Rc::new(alloc, x())?;
-    Ok(Expr::ite_arc(part.clone()?, part.clone()?, part))
+fn shared_ite(rt: &(impl Abort + AllocGlobal)) -> Expr<()> {
+    let (test, then, other) = thrice(rt, shared(rt, x()));
+    Expr::ite_arc(test, then, other)
 }
 
 // The same with data 1.
-fn shared_ite_with_data(alloc: Global) -> Result<Expr<u8>, AllocError> {
-    let part = Rc::new(alloc, with_data(alloc, Var::Principal)?)?;
-    let builder = ExprBuilder::<u8>::with_data(1);
-    Ok(builder.ite_arc(part.clone()?, part.clone()?, part))
+fn shared_ite_with_data(rt: &(impl Abort + AllocGlobal)) -> Expr<u8> {
+    let (test, then, other) = thrice(rt, shared(rt, first(rt)));
+    with_one().ite_arc(test, then, other)
 }
 
-fn one_value<T: Drop>(rt: &HostRuntime, e: Expr<T>) -> Result<Rc<BTreeMap<RcStr, Expr<T>>>, Fail> {
+fn one_value<T: Drop>(rt: &(impl Abort + AllocGlobal), e: Expr<T>) -> Rc<BTreeMap<RcStr, Expr<T>>> {
     let mut values = BTreeMap::new(rt.alloc());
-    drop(values.insert(text(rt, "a")?, e)?);
-    Ok(Rc::new(rt.alloc(), values)?)
+    drop(made(rt, values.insert(made(rt, text(rt, "a")), e)));
+    shared(rt, values)
 }
 
 #[test]
-fn shapes_of_shared_parts_have_no_data(rt: HostRuntime) -> Result<(), Fail> {
-    let built = shared_ite_with_data(rt.alloc())?;
-    assert!(rt; are_alike(&shared_ite(rt.alloc())?, &built));
-    let made = Expr::record_arc(one_value(&rt, x())?);
-    let values = one_value(&rt, with_data(rt.alloc(), Var::Principal)?)?;
-    let built = ExprBuilder::<u8>::with_data(1).record_arc(values);
-    assert!(rt; are_alike(&made, &built));
-    Ok(())
+fn shapes_of_shared_parts_have_no_data(rt: HostRuntime) {
+    assert!(rt; are_alike(&shared_ite(&rt), &shared_ite_with_data(&rt)));
+    let record = Expr::record_arc(one_value(&rt, x()));
+    let built = with_one().record_arc(one_value(&rt, first(&rt)));
+    assert!(rt; are_alike(&record, &built));
 }
 
 // Places do not count either.
 #[test]
-fn shapes_have_no_places(rt: HostRuntime) -> Result<(), Fail> {
-    let placed = each_kind(&rt, 3, &seven())?;
-    for (a, b) in constructed(&rt)?.iter().zip(placed.iter()) {
+fn shapes_have_no_places(rt: HostRuntime) {
+    let (all, placed) = (constructed(&rt), placed(&rt, 3));
+    for (a, b) in all.iter().zip(placed.iter()) {
         assert!(rt;
             a.cmp_shape(b) == Ordering::Equal && hashed(a) == hashed(b),
             "{a:?}"
         );
     }
-    Ok(())
 }

@@ -1,48 +1,35 @@
 // Expressions that compare and hash by their shapes alone.
-use crate::tests::shapes::constructed;
+use crate::tests::shapes::{call_of, constructed, placed, record_of_one, set};
+use crate::tests::{long, made, push};
 use cedar_exprs::{Expr, ExprKind, ExprShapeOnly};
-use cedar_terms::Literal;
-use expr_samples::{call, each_kind, record, text, two};
+use expr_samples::{record, two};
 use std::collections::HashSet;
 use std::hash::{DefaultHasher, Hash, Hasher};
-use std::test::Fail;
+use std::process::Abort;
 
-fn one() -> Expr<()> {
-    Expr::val(Literal::Long(1))
+// A call and a set of as many integers 1, and the record.
+fn push_parts(
+    rt: &(impl Abort + AllocGlobal),
+    all: &mut Vec<Expr<()>>,
+    count: usize,
+    record: Expr<()>,
+) {
+    push(rt, all, call_of(rt, 1, count));
+    push(rt, all, set(rt, 1, count));
+    push(rt, all, record);
 }
 
-// A call, a set and a record of nothing.
-fn push_empty(rt: &HostRuntime, all: &mut Vec<Expr<()>>) -> Result<(), Fail> {
-    all.push(call(rt, "f", Vec::new(rt.alloc()))?)?;
-    all.push(Expr::set(rt.alloc(), Vec::new(rt.alloc()))?)?;
-    all.push(Expr::record(rt.alloc(), Vec::new(rt.alloc()))?)?;
-    Ok(())
-}
-
-// The same of one part.
-fn push_single(rt: &HostRuntime, all: &mut Vec<Expr<()>>) -> Result<(), Fail> {
-    all.push(call(rt, "f", vec![in rt.alloc(); one()]?)?)?;
-    all.push(Expr::set(rt.alloc(), vec![in rt.alloc(); one()]?)?)?;
-    let pairs = vec![in rt.alloc(); (text(rt, "b")?, one())]?;
-    all.push(Expr::record(rt.alloc(), pairs)?)?;
-    Ok(())
-}
-
-// The same of two parts.
-fn push_double(rt: &HostRuntime, all: &mut Vec<Expr<()>>) -> Result<(), Fail> {
-    all.push(call(rt, "f", two(rt, one(), one())?)?)?;
-    all.push(Expr::set(rt.alloc(), two(rt, one(), one())?)?)?;
-    all.push(record(rt, one(), one())?)?;
-    Ok(())
+fn empty_record(rt: &(impl Abort + AllocGlobal)) -> Expr<()> {
+    made(rt, Expr::record(rt.alloc(), Vec::new(rt.alloc())))
 }
 
 // Two literals, and calls, sets and records of no, one and two parts.
-fn parts(rt: &HostRuntime) -> Result<Vec<Expr<()>>, Fail> {
-    let mut all = two(rt, one(), Expr::val(Literal::Long(2)))?;
-    push_empty(rt, &mut all)?;
-    push_single(rt, &mut all)?;
-    push_double(rt, &mut all)?;
-    Ok(all)
+fn parts(rt: &(impl Abort + AllocGlobal)) -> Vec<Expr<()>> {
+    let mut all = made(rt, two(rt, long(1), long(2)));
+    push_parts(rt, &mut all, 0, empty_record(rt));
+    push_parts(rt, &mut all, 1, record_of_one(rt, "b", 1));
+    push_parts(rt, &mut all, 2, made(rt, record(rt, long(1), long(1))));
+    all
 }
 
 // Whether the shape is equal to that of the expression which stands here, and to no other.
@@ -59,13 +46,12 @@ fn is_only(e: &Expr<()>, here: usize, all: &[Expr<()>]) -> bool {
 }
 
 #[test]
-fn parts_differ(rt: HostRuntime) -> Result<(), Fail> {
-    let all = parts(&rt)?;
-    assert_eq!(rt; all.len(), 11);
+fn parts_differ(rt: HostRuntime) {
+    let all = parts(&rt);
+    assert!(rt; all.len() == 11);
     for (here, e) in all.iter().enumerate() {
         assert!(rt; is_only(e, here, all.as_slice()), "{e:?}");
     }
-    Ok(())
 }
 
 fn hashed<H: Hash>(value: &H) -> u64 {
@@ -75,33 +61,31 @@ fn hashed<H: Hash>(value: &H) -> u64 {
 }
 
 // A copy of a borrowed and one of an owned shape are the same, and all hash alike.
-fn copies_are_equal(rt: &HostRuntime, e: &Expr<()>) -> Result<bool, Fail> {
+fn copies_are_equal(rt: &(impl Abort + AllocGlobal), e: &Expr<()>) -> bool {
     let borrowed = ExprShapeOnly::new_from_borrowed(e);
-    let owned = ExprShapeOnly::new_from_owned(e.clone(rt.alloc())?);
-    let copied = borrowed.clone(rt.alloc())?;
-    let is_alike = hashed(&borrowed) == hashed(&owned);
-    Ok(is_alike && copied == owned && owned.clone(rt.alloc())? == borrowed)
+    let owned = ExprShapeOnly::new_from_owned(made(rt, e.clone(rt.alloc())));
+    hashed(&borrowed) == hashed(&owned)
+        && made(rt, borrowed.clone(rt.alloc())) == owned
+        && made(rt, owned.clone(rt.alloc())) == borrowed
 }
 
 #[test]
-fn copies_have_the_shape(rt: HostRuntime) -> Result<(), Fail> {
-    for e in parts(&rt)? {
-        assert!(rt; copies_are_equal(&rt, &e)?, "{e:?}");
+fn copies_have_the_shape(rt: HostRuntime) {
+    for e in parts(&rt) {
+        assert!(rt; copies_are_equal(&rt, &e), "{e:?}");
     }
-    Ok(())
 }
 
 // A set of shapes has an expression with other places.
 #[test]
-fn shapes_are_keys(rt: HostRuntime) -> Result<(), Fail> {
+fn shapes_are_keys(rt: HostRuntime) {
     let mut seen = HashSet::new(rt.alloc());
-    for e in each_kind(&rt, 1, &Expr::val(Literal::Long(7)))? {
-        assert!(rt; seen.insert(ExprShapeOnly::new_from_owned(e))?);
+    for e in placed(&rt, 1) {
+        assert!(rt; made(&rt, seen.insert(ExprShapeOnly::new_from_owned(e))));
     }
-    for e in constructed(&rt)? {
+    for e in constructed(&rt) {
         assert!(rt; seen.contains(&ExprShapeOnly::new_from_owned(e)));
     }
-    Ok(())
 }
 
 fn are_alike(a: &ExprKind<()>, b: &ExprKind<()>) -> bool {
@@ -110,10 +94,9 @@ fn are_alike(a: &ExprKind<()>, b: &ExprKind<()>) -> bool {
 
 // Kinds are equal and hash alike wherever they stand.
 #[test]
-fn kinds_hash_alike(rt: HostRuntime) -> Result<(), Fail> {
-    let placed = each_kind(&rt, 1, &Expr::val(Literal::Long(7)))?;
-    for (a, b) in constructed(&rt)?.iter().zip(placed.iter()) {
+fn kinds_hash_alike(rt: HostRuntime) {
+    let (all, placed) = (constructed(&rt), placed(&rt, 1));
+    for (a, b) in all.iter().zip(placed.iter()) {
         assert!(rt; are_alike(a.expr_kind(), b.expr_kind()), "{a:?}");
     }
-    Ok(())
 }
