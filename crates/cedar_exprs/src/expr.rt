@@ -577,7 +577,9 @@ impl<T> Expr<T> {
         T: Drop,
         ensures { result ≡ data_of self }
     {
-        self.into_parts().2
+        let (expr_kind, _, data) = self.into_parts();
+        drop_kind(expr_kind);
+        data
     }
 
     /// The kind, the place and the data of the outermost node.
@@ -631,11 +633,8 @@ impl<T: Copy> Expr<T> {
         ensures children { IfOk result (λ e. children e ≡ children self.now) }
         ensures at_each_position { IfOk result (λ e. data_tree e ≡ data_tree self.now) }
     {
-        Ok(Expr::new(
-            self.expr_kind.clone(alloc)?,
-            Loc::clone_option(alloc, self.source_loc())?,
-            self.data,
-        ))
+        let source_loc = Loc::clone_option(alloc, self.source_loc())?;
+        Ok(Expr::new(self.expr_kind.clone(alloc)?, source_loc, self.data))
     }
 }
 
