@@ -8,4 +8,5 @@ mod raw_nodes;
 mod refusals;
 mod representations;
 mod reversed;
+mod samples;
 mod shared;

@@ -1,17 +1,22 @@
-// Answers taken apart. A `?` beside a value of a large type is dear to check, one in a generic
-// function is not.
+// Answers taken apart. The helpers of tests answer plain values: a `?` beside a value of a large
+// type is dear to check.
 use std::fmt::Debug;
-use std::test::Fail;
+use std::process::Abort;
 
-// What was made.
-pub fn made<T: Drop, E: Debug + Drop>(answer: Result<T, E>) -> Result<T, Fail> {
-    Ok(answer?)
+// What was made; where nothing was, the test ends.
+pub fn made<T: Drop, E: Debug + Drop>(rt: &impl Abort, answer: Result<T, E>) -> T {
+    answer.expect(rt, "made")
 }
 
-// Why nothing was made.
-pub fn refusal<T: Drop, E: Drop>(answer: Result<T, E>) -> Result<E, Fail> {
-    match answer {
-        Ok(_) => Err(Fail::from("nothing is refused")),
-        Err(error) => Ok(error),
-    }
+// Why nothing was made; where something was, the test ends.
+pub fn refusal<T: Drop, E: Drop>(rt: &impl Abort, answer: Result<T, E>) -> E {
+    answer.err().expect(rt, "refused")
+}
+
+pub fn is_equal<T: PartialEq + Drop>(x: T, y: T) -> bool {
+    x == y
+}
+
+pub fn is_less<T: PartialOrd + Drop>(x: T, y: T) -> bool {
+    x < y
 }

@@ -4,8 +4,9 @@ ghost use Rattle.cedar_names.specs.Names.{unqualified};
 ghost use Rattle.cedar_terms.specs.Types.{LongType};
 ghost use Rattle.cedar_calls.specs.Types.{Keeps};
 
-use crate::tests::answers::refusal;
+use crate::tests::answers::{made, refusal};
 use crate::tests::flip::Flip;
+use crate::tests::samples::name;
 use cedar_calls::{
     CallStyle, EvaluationError, ExtensionFunction, ExtensionFunctions, ExtensionOutputValue,
     NoFunction, UnaryFunction,
@@ -13,11 +14,10 @@ use cedar_calls::{
 use cedar_names::Name;
 use cedar_terms::SchemaType;
 use cedar_values::Value;
-use expr_samples::name;
 use std::alloc::Global;
 use std::convert::AsStr;
+use std::process::Abort;
 use std::rc::RcStr;
-use std::test::Fail;
 
 // A function that refuses each call: by its own fault, or as if there were no memory.
 #[derive(Drop)]
@@ -65,20 +65,26 @@ impl ExtensionFunctions for Flip {
 }
 
 // The function `outer` that stores it.
-fn outer(rt: &HostRuntime, has_memory: bool) -> Result<ExtensionFunction<Flip>, Fail> {
-    let made = ExtensionFunction::unary(
+fn outer(rt: &(impl Abort + AllocGlobal), has_memory: bool) -> ExtensionFunction<Flip> {
+    let made_of = ExtensionFunction::unary(
         rt.alloc(),
-        name(rt, "outer")?,
+        name(rt, "outer"),
         CallStyle::FunctionStyle,
         Faulty { has_memory },
         SchemaType::Long,
         SchemaType::Long,
     );
-    Ok(made?)
+    made(rt, made_of)
+}
+
+// What a call of it answers in place of a value.
+fn refused(rt: &(impl Abort + AllocGlobal), has_memory: bool) -> EvaluationError {
+    let args = made(rt, vec![in rt.alloc(); Value::from(1)]);
+    refusal(rt, outer(rt, has_memory).call(rt.alloc(), args.as_slice()))
 }
 
 // Whether it is the function's own fault, word by word.
-fn is_own(error: &EvaluationError) -> bool {
+fn is_own(error: EvaluationError) -> bool {
     match error {
         EvaluationError::Function { name, message } => {
             name.basename_as_ref().as_str() == "inner" && message.as_str() == "out of range"
@@ -87,16 +93,8 @@ fn is_own(error: &EvaluationError) -> bool {
     }
 }
 
-// What a call answers in place of a value.
-fn refused(rt: &HostRuntime, f: ExtensionFunction<Flip>) -> Result<EvaluationError, Fail> {
-    let args = vec![in rt.alloc(); Value::from(1)]?;
-    refusal(f.call(rt.alloc(), args.as_slice()))
-}
-
 #[test]
-fn faults_are_passed_on_as_they_are(rt: HostRuntime) -> Result<(), Fail> {
-    assert!(rt; is_own(&refused(&rt, outer(&rt, true)?)?));
-    let memory = refused(&rt, outer(&rt, false)?)?;
-    assert!(rt; matches!(memory, EvaluationError::Memory));
-    Ok(())
+fn faults_are_passed_on_as_they_are(rt: HostRuntime) {
+    assert!(rt; is_own(refused(&rt, true)));
+    assert!(rt; matches!(refused(&rt, false), EvaluationError::Memory));
 }

@@ -5,14 +5,15 @@ ghost use Rattle.cedar_names.specs.PlainNames.{bare_name};
 ghost use Rattle.cedar_terms.specs.Literals.{LongLit};
 ghost use Rattle.cedar_builders.specs.BareExpr.{Lit, tree, no_trees};
 
+use crate::tests::answers::made;
+use crate::tests::samples::shared;
 use cedar_exprs::{RestrictedExpr, SubstituteValue};
 use cedar_names::Name;
 use cedar_terms::Literal;
 use cedar_values::{ExtensionValue, RepresentableExtensionValue, Value, ValueKind};
 use std::alloc::{AllocError, Global};
 use std::cmp::Reverse;
-use std::rc::Rc;
-use std::test::Fail;
+use std::process::Abort;
 
 // A number, of which the greater comes first. Its type and its canonical function are `flip`.
 #[derive(Debug, PartialEq, Eq, PartialOrd, Ord, Drop)]
@@ -78,23 +79,22 @@ impl ExtensionValue for Flip {
 
 // The value of an extension value.
 pub fn extension(
-    rt: &HostRuntime,
+    rt: &(impl Abort + AllocGlobal),
     value: RepresentableExtensionValue<Flip>,
-) -> Result<Value<Flip>, Fail> {
-    let value = Rc::new(rt.alloc(), value)?;
-    Ok(Value::new(ValueKind::ExtensionValue(value), None))
+) -> Value<Flip> {
+    Value::new(ValueKind::ExtensionValue(shared(rt, value)), None)
 }
 
 // The value of a number, which its canonical call stands for.
-pub fn flipped(rt: &HostRuntime, number: i64) -> Result<Value<Flip>, Fail> {
+pub fn flipped(rt: &(impl Abort + AllocGlobal), number: i64) -> Value<Flip> {
     extension(rt, RepresentableExtensionValue::new_lazy(Flip::new(number)))
 }
 
 // The values of these numbers.
-pub fn flips(rt: &HostRuntime, numbers: &[i64]) -> Result<Vec<Value<Flip>>, Fail> {
+pub fn flips(rt: &(impl Abort + AllocGlobal), numbers: &[i64]) -> Vec<Value<Flip>> {
     let mut values = Vec::new(rt.alloc());
     for number in numbers {
-        values.push(flipped(rt, *number)?)?;
+        made(rt, values.push(flipped(rt, *number)));
     }
-    Ok(values)
+    values
 }

@@ -1,61 +1,87 @@
 // Records of very many keys.
-use crate::tests::answers::refusal;
+use crate::tests::answers::{made, refusal};
 use crate::tests::refusals::built;
+use crate::tests::samples::{bound, long};
 use cedar_builders::ExpressionConstructionError;
 use cedar_exprs::{Expr, ExprKind};
-use cedar_terms::Literal;
-use expr_samples::bound;
 use std::collections::BTreeMap;
 use std::convert::AsStr;
+use std::process::Abort;
 use std::rc::RcStr;
-use std::test::Fail;
+
+// What has a form for each number.
+pub trait OfNumber {
+    fn of(number: i64) -> Self;
+}
+
+impl OfNumber for Expr<()> {
+    fn of(number: i64) -> Expr<()> {
+        long(number)
+    }
+}
 
 // The key of a number. Those of five digits rise as the numbers do.
-pub fn key(rt: &HostRuntime, number: i64) -> Result<RcStr, Fail> {
-    Ok(RcStr::from_string(format!(in rt.alloc(); "{number}")?)?)
+pub fn key(rt: &(impl Abort + AllocGlobal), number: i64) -> RcStr {
+    let digits = made(rt, format!(in rt.alloc(); "{number}"));
+    made(rt, RcStr::from_string(digits))
 }
 
-fn literal(number: i64) -> Expr<()> {
-    Expr::val(Literal::Long(number))
-}
-
-// The numbers 10,000 to 19,999 by their keys, from the last to the first.
-pub fn falling(rt: &HostRuntime) -> Result<Vec<(RcStr, Expr<()>)>, Fail> {
-    let mut pairs = Vec::new(rt.alloc());
+// These pairs, and then the numbers 10,000 to 19,999 by their keys, from the last to the first.
+pub fn falling_after<T: OfNumber + Drop>(
+    rt: &(impl Abort + AllocGlobal),
+    mut pairs: Vec<(RcStr, T)>,
+) -> Vec<(RcStr, T)> {
     let mut number: i64 = 20_000;
     for _ in 0..10_000 {
         number = number.saturating_sub(1);
-        pairs.push((key(rt, number)?, literal(number)))?;
+        made(rt, pairs.push((key(rt, number), T::of(number))));
     }
-    Ok(pairs)
+    pairs
 }
 
 // Whether the numbers stand at their keys, from the first to the last.
-fn rise(rt: &HostRuntime, values: &BTreeMap<RcStr, Expr<()>>) -> Result<bool, Fail> {
+pub fn rise<T: OfNumber + PartialEq + Drop>(
+    rt: &(impl Abort + AllocGlobal),
+    values: &BTreeMap<RcStr, T>,
+) -> bool {
     let mut number: i64 = 10_000;
     for (found, value) in values.iter() {
-        if *found != key(rt, number)? || *value != literal(number) {
-            return Ok(false);
+        if *found != key(rt, number) || *value != T::of(number) {
+            return false;
         }
         number = number.saturating_add(1);
     }
-    Ok(number == 20_000)
+    number == 20_000
 }
 
-fn is_whole(rt: &HostRuntime, record: &Expr<()>) -> Result<bool, Fail> {
+// The record of these numbers, made from the last key to the first.
+pub fn large_record(rt: &(impl Abort + AllocGlobal)) -> Expr<()> {
+    let pairs = falling_after(rt, Vec::new(rt.alloc()));
+    made(rt, Expr::record(rt.alloc(), pairs))
+}
+
+// Whether it is the record of these numbers.
+fn is_whole(rt: &(impl Abort + AllocGlobal), record: Expr<()>) -> bool {
     match record.expr_kind() {
         ExprKind::Record(values) => rise(rt, values),
-        _ => Ok(false),
+        _ => false,
     }
 }
 
+fn copied(rt: &(impl Abort + AllocGlobal), e: &Expr<()>) -> Expr<()> {
+    made(rt, e.clone(rt.alloc()))
+}
+
+fn substituted(rt: &(impl Abort + AllocGlobal), e: Expr<()>) -> Expr<()> {
+    made(rt, e.substitute(rt.alloc(), &bound(rt, &[])))
+}
+
 #[test]
-fn a_record_of_falling_keys(rt: HostRuntime) -> Result<(), Fail> {
-    let record = Expr::record(rt.alloc(), falling(&rt)?)?;
-    assert!(rt; is_whole(&rt, &record)?);
-    assert!(rt; is_whole(&rt, &record.substitute(rt.alloc(), &bound(&rt, &[])?)?)?);
-    assert!(rt; is_whole(&rt, &built(&rt, &record)?)?);
-    Ok(())
+fn a_record_of_falling_keys(rt: HostRuntime) {
+    let record = large_record(&rt);
+    assert!(rt; is_whole(&rt, copied(&rt, &record)));
+    assert!(rt; is_whole(&rt, substituted(&rt, copied(&rt, &record))));
+    assert!(rt; is_whole(&rt, built(&rt, record)));
 }
 
 // Whether this key stood twice.
@@ -67,11 +93,10 @@ fn is_repeated(error: &ExpressionConstructionError, key: &RcStr) -> bool {
 }
 
 #[test]
-fn a_key_that_stood_among_many(rt: HostRuntime) -> Result<(), Fail> {
-    let mut pairs = falling(&rt)?;
-    pairs.push((key(&rt, 15_000)?, literal(0)))?;
-    pairs.push((key(&rt, 10_000)?, literal(0)))?;
-    let error = refusal(Expr::record(rt.alloc(), pairs))?;
-    assert!(rt; is_repeated(&error, &key(&rt, 15_000)?));
-    Ok(())
+fn a_key_that_stood_among_many(rt: HostRuntime) {
+    let mut pairs = falling_after(&rt, Vec::new(rt.alloc()));
+    made(&rt, pairs.push((key(&rt, 15_000), long(0))));
+    made(&rt, pairs.push((key(&rt, 10_000), long(0))));
+    let error = refusal(&rt, Expr::record(rt.alloc(), pairs));
+    assert!(rt; is_repeated(&error, &key(&rt, 15_000)));
 }
