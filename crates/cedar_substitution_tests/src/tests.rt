@@ -1,6 +1,7 @@
 mod building;
 mod places;
 mod refusals;
+mod samples;
 mod stored;
 mod substitution;
 mod typed;

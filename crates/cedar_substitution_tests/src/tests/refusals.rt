@@ -1,11 +1,11 @@
 // Which of two refusals in one node answers.
-use crate::tests::building::{plain_call, refused};
+use crate::tests::building::refuses_first;
+use crate::tests::samples::{and, if_else, made, plain_call};
 use cedar_exprs::Expr;
-use cedar_terms::{Literal, Var};
-use expr_samples::{bound, call, text};
-use refusing_builders::RefuseCount;
-use std::convert::AsStr;
-use std::test::Fail;
+use cedar_terms::Var;
+use expr_samples::{call, text};
+use std::process::Abort;
+use std::rc::RcStr;
 
 // The kinds with several children.
 #[derive(Clone, Copy, Debug)]
@@ -40,72 +40,81 @@ const PAIRS: [(Kind, usize, usize); 15] = [
 
 // A node of the kind, of as many of these children as it has.
 fn node(
-    rt: &HostRuntime,
+    rt: &(impl Abort + AllocGlobal),
     kind: Kind,
     first: Expr<()>,
     second: Expr<()>,
     third: Expr<()>,
-) -> Result<Expr<()>, Fail> {
-    let alloc = rt.alloc();
-    Ok(match kind {
-        Kind::If => Expr::ite(alloc, first, second, third)?,
-        Kind::And => Expr::and(alloc, first, second)?,
-        Kind::Or => Expr::or(alloc, first, second)?,
-        Kind::BinaryApp => Expr::less(alloc, first, second)?,
-        Kind::Call => call(rt, "h", vec![in alloc; first, second, third]?)?,
-        Kind::Set => Expr::set(alloc, vec![in alloc; first, second, third]?)?,
-        Kind::Record => record(rt, first, second, third)?,
-    })
+) -> Expr<()> {
+    match kind {
+        Kind::If => if_else(rt, first, second, third),
+        Kind::And => and(rt, first, second),
+        Kind::Or => made(rt, Expr::or(rt.alloc(), first, second)),
+        Kind::BinaryApp => made(rt, Expr::less(rt.alloc(), first, second)),
+        Kind::Call => made(rt, call(rt, "h", three(rt, first, second, third))),
+        Kind::Set => made(rt, Expr::set(rt.alloc(), three(rt, first, second, third))),
+        Kind::Record => record(rt, first, second, third),
+    }
+}
+
+fn three(
+    rt: &(impl Abort + AllocGlobal),
+    first: Expr<()>,
+    second: Expr<()>,
+    third: Expr<()>,
+) -> Vec<Expr<()>> {
+    made(rt, vec![in rt.alloc(); first, second, third])
+}
+
+fn key(rt: &(impl Abort + AllocGlobal), name: &str) -> RcStr {
+    made(rt, text(rt, name))
 }
 
 // The record of the keys `a`, `b` and `c`, made from the last key to the first.
-fn record(rt: &HostRuntime, a: Expr<()>, b: Expr<()>, c: Expr<()>) -> Result<Expr<()>, Fail> {
-    let pairs = vec![in rt.alloc();
-        (text(rt, "c")?, c),
-        (text(rt, "b")?, b),
-        (text(rt, "a")?, a),
-    ]?;
-    Ok(Expr::record(rt.alloc(), pairs)?)
+fn record(rt: &(impl Abort + AllocGlobal), a: Expr<()>, b: Expr<()>, c: Expr<()>) -> Expr<()> {
+    let pairs = vec![in rt.alloc(); (key(rt, "c"), c), (key(rt, "b"), b), (key(rt, "a"), a)];
+    made(rt, Expr::record(rt.alloc(), made(rt, pairs)))
 }
 
-// A node whose children are a call of `g` at the earlier position, of `f` at the later, else a
-// variable.
+// A call of `g` at the earlier position, of `f` at the later, else a variable.
+fn child(
+    rt: &(impl Abort + AllocGlobal),
+    position: usize,
+    earlier: usize,
+    later: usize,
+) -> Expr<()> {
+    if position == earlier {
+        plain_call(rt, "g")
+    } else if position == later {
+        plain_call(rt, "f")
+    } else {
+        Expr::var(Var::Action)
+    }
+}
+
+// A node of such children.
 fn node_of_two(
-    rt: &HostRuntime,
+    rt: &(impl Abort + AllocGlobal),
     kind: Kind,
     earlier: usize,
     later: usize,
-) -> Result<Expr<()>, Fail> {
-    let child = |position: usize| {
-        if position == earlier {
-            plain_call(rt, "g")
-        } else if position == later {
-            plain_call(rt, "f")
-        } else {
-            Ok(Expr::var(Var::Action))
-        }
-    };
-    node(rt, kind, child(0)?, child(1)?, child(2)?)
-}
-
-// Whether the call of `g` is refused first, as the node stands and after a substitution.
-fn refuses_g_first(rt: &HostRuntime, e: &Expr<()>) -> Result<bool, Fail> {
-    let values = bound(rt, &[("x", 1)])?;
-    let built = refused(e.try_into_expr::<RefuseCount<0>>(rt.alloc()))?;
-    let after = e.substitute_into_expr::<RefuseCount<0>, Literal>(rt.alloc(), &values);
-    let after = refused(after)?;
-    Ok(built.basename_as_ref().as_str() == "g" && after.basename_as_ref().as_str() == "g")
+) -> Expr<()> {
+    node(
+        rt,
+        kind,
+        child(rt, 0, earlier, later),
+        child(rt, 1, earlier, later),
+        child(rt, 2, earlier, later),
+    )
 }
 
 // Of two refusals in one node the one at the earlier position answers.
 #[test]
-fn the_earlier_position_answers(rt: HostRuntime) -> Result<(), Fail> {
+fn the_earlier_position_answers(rt: HostRuntime) {
     for (kind, earlier, later) in PAIRS {
-        let e = node_of_two(&rt, kind, earlier, later)?;
         assert!(rt;
-            refuses_g_first(&rt, &e)?,
+            refuses_first(&rt, node_of_two(&rt, kind, earlier, later), "g"),
             "{kind:?} at {earlier} and {later}"
         );
     }
-    Ok(())
 }

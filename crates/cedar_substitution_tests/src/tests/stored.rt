@@ -3,13 +3,14 @@ ghost use Rattle.std.specs.Prelude.{◌≡◌};
 ghost use Rattle.cedar_terms.specs.Types.{LongType};
 ghost use Rattle.cedar_exprs.specs.RestrictedExprs.{bare_restricted_expr};
 
+use crate::tests::samples::{call_of_z, made, one};
 use cedar_exprs::{Expr, RestrictedExpr, SubstituteValue};
 use cedar_terms::Type;
-use expr_samples::{call, text, unknown};
+use expr_samples::text;
 use std::alloc::{AllocError, Global};
 use std::collections::HashMap;
+use std::process::Abort;
 use std::rc::RcStr;
-use std::test::Fail;
 
 // Says that it is an integer.
 #[derive(Drop)]
@@ -42,25 +43,30 @@ impl SubstituteValue for Stored {
 
 // Binds the name to an expression.
 pub fn bind(
-    rt: &HostRuntime,
+    rt: &(impl Abort + AllocGlobal),
     values: &mut HashMap<RcStr, Stored>,
     name: &str,
     expr: Expr<()>,
-) -> Result<(), Fail> {
-    let value = Stored::new(RestrictedExpr::new(rt.alloc(), expr)?);
-    drop(values.insert(text(rt, name)?, value)?);
-    Ok(())
+) {
+    let value = Stored::new(made(rt, RestrictedExpr::new(rt.alloc(), expr)));
+    drop(made(rt, values.insert(made(rt, text(rt, name)), value)));
+}
+
+// The map that binds x to this.
+pub fn x_is(rt: &(impl Abort + AllocGlobal), expr: Expr<()>) -> HashMap<RcStr, Stored> {
+    let mut values = HashMap::new(rt.alloc());
+    bind(rt, &mut values, "x", expr);
+    values
 }
 
 // The map that binds x to a call of the unknown z.
-pub fn x_is_a_call(rt: &HostRuntime) -> Result<HashMap<RcStr, Stored>, Fail> {
-    let mut values = HashMap::new(rt.alloc());
-    let z = Expr::unknown(unknown(rt, "z")?);
-    bind(
-        rt,
-        &mut values,
-        "x",
-        call(rt, "f", vec![in rt.alloc(); z]?)?,
-    )?;
-    Ok(values)
+pub fn x_is_a_call(rt: &(impl Abort + AllocGlobal)) -> HashMap<RcStr, Stored> {
+    x_is(rt, call_of_z(rt))
+}
+
+// Where x is a call of the unknown z, and z is 1.
+pub fn x_and_z(rt: &(impl Abort + AllocGlobal)) -> HashMap<RcStr, Stored> {
+    let mut values = x_is_a_call(rt);
+    bind(rt, &mut values, "z", one());
+    values
 }
