@@ -3,6 +3,7 @@ mod extension_values;
 mod laws;
 mod lists;
 mod literals;
+mod made;
 mod order;
 mod places;
 mod point;

@@ -1,82 +1,92 @@
 // What the tests make their values of, and how they compare them.
+use crate::tests::made::{made, one};
 use crate::tests::point::Point;
 use crate::tests::steps::{Step, expr, exprs};
 use cedar_exprs::{Expr, RestrictedExpr};
-use cedar_terms::Type;
+use cedar_names::Name;
+use cedar_terms::{StaticallyTyped, Type};
 use cedar_values::{RepresentableExtensionValue, Set, Value, ValueKind};
 use expr_samples::name;
+use std::process::Abort;
 use std::rc::Rc;
-use std::test::Fail;
 
-pub fn read(rt: &HostRuntime, expr: Expr<()>) -> Result<Value<Point>, Fail> {
-    Ok(Value::try_from_expr(rt.alloc(), expr)?)
+fn read(rt: &(impl Abort + AllocGlobal), expr: Expr<()>) -> Value<Point> {
+    made(rt, Value::try_from_expr(rt.alloc(), expr))
 }
 
 // The value of the last expression that these steps make.
-pub fn value(rt: &HostRuntime, steps: &[Step]) -> Result<Value<Point>, Fail> {
-    read(rt, expr(rt, steps)?)
+pub fn value(rt: &(impl Abort + AllocGlobal), steps: &[Step]) -> Value<Point> {
+    read(rt, expr(rt, steps))
 }
 
 // The values of all that stand there after these steps.
-pub fn values(rt: &HostRuntime, steps: &[Step]) -> Result<Vec<Value<Point>>, Fail> {
+pub fn values(rt: &(impl Abort + AllocGlobal), steps: &[Step]) -> Vec<Value<Point>> {
     let mut values = Vec::new(rt.alloc());
-    for expr in exprs(rt, steps)? {
-        values.push(read(rt, expr)?)?;
+    for expr in exprs(rt, steps) {
+        made(rt, values.push(read(rt, expr)));
     }
-    Ok(values)
+    values
 }
 
 // Their set.
-pub fn set(rt: &HostRuntime, steps: &[Step]) -> Result<Set<Point>, Fail> {
-    Ok(Set::new(rt.alloc(), values(rt, steps)?)?)
+pub fn set(rt: &(impl Abort + AllocGlobal), steps: &[Step]) -> Set<Point> {
+    made(rt, Set::new(rt.alloc(), values(rt, steps)))
+}
+
+// The name of the type of points.
+pub fn point_name(rt: &(impl Abort + AllocGlobal)) -> Name {
+    made(rt, name(rt, "point"))
+}
+
+fn point(rt: &(impl Abort + AllocGlobal), x: i64, color: u8) -> Point {
+    Point::new(x, color, point_name(rt))
 }
 
 // A point of this color, which its canonical call stands for.
 pub fn lazy(
-    rt: &HostRuntime,
+    rt: &(impl Abort + AllocGlobal),
     x: i64,
     color: u8,
-) -> Result<RepresentableExtensionValue<Point>, Fail> {
-    let point = Point::new(x, color, name(rt, "point")?);
-    Ok(RepresentableExtensionValue::new_lazy(point))
+) -> RepresentableExtensionValue<Point> {
+    RepresentableExtensionValue::new_lazy(point(rt, x, color))
 }
 
-pub fn arguments(rt: &HostRuntime, steps: &[Step]) -> Result<Vec<RestrictedExpr>, Fail> {
-    let mut args = Vec::new(rt.alloc());
-    args.push(RestrictedExpr::new(rt.alloc(), expr(rt, steps)?)?)?;
-    Ok(args)
+pub fn arguments(rt: &(impl Abort + AllocGlobal), steps: &[Step]) -> Vec<RestrictedExpr> {
+    one(
+        rt,
+        made(rt, RestrictedExpr::new(rt.alloc(), expr(rt, steps))),
+    )
 }
 
 // A point of this color, which f(z) stands for, of an unknown z.
 pub fn given(
-    rt: &HostRuntime,
+    rt: &(impl Abort + AllocGlobal),
     x: i64,
     color: u8,
-) -> Result<RepresentableExtensionValue<Point>, Fail> {
-    let point = Point::new(x, color, name(rt, "point")?);
-    let args = arguments(rt, &[Step::Unknown("z")])?;
-    Ok(RepresentableExtensionValue::new(point, name(rt, "f")?, args))
+) -> RepresentableExtensionValue<Point> {
+    let args = arguments(rt, &[Step::Unknown("z")]);
+    RepresentableExtensionValue::new(point(rt, x, color), made(rt, name(rt, "f")), args)
 }
 
 pub fn extension(
-    rt: &HostRuntime,
+    rt: &(impl Abort + AllocGlobal),
     point: RepresentableExtensionValue<Point>,
-) -> Result<Value<Point>, Fail> {
-    let point = Rc::new(rt.alloc(), point)?;
-    Ok(Value::new(ValueKind::ExtensionValue(point), None))
-}
-
-fn is_type_of_points(rt: &HostRuntime, ty: &Type) -> Result<bool, Fail> {
-    Ok(
-        *ty == Type::Extension {
-            name: name(rt, "point")?,
-        },
+) -> Value<Point> {
+    Value::new(
+        ValueKind::ExtensionValue(made(rt, Rc::new(rt.alloc(), point))),
+        None,
     )
 }
 
-// Whether it is the type of points.
-pub fn is_point(rt: &HostRuntime, ty: Type) -> Result<bool, Fail> {
-    is_type_of_points(rt, &ty)
+// The type of points.
+pub fn point_type(rt: &(impl Abort + AllocGlobal)) -> Type {
+    Type::Extension {
+        name: point_name(rt),
+    }
+}
+
+pub fn type_of<V: StaticallyTyped>(rt: &(impl Abort + AllocGlobal), value: &V) -> Type {
+    made(rt, value.type_of(rt.alloc()))
 }
 
 pub fn same(a: &Value<Point>, b: &Value<Point>) -> bool {
@@ -96,15 +106,15 @@ fn span(e: &Expr<()>) -> Span {
 
 // Whether an expression has these places: a node comes before what is in it, of which the last
 // comes first.
-pub fn is_placed(rt: &HostRuntime, expr: &Expr<()>, wanted: &[Span]) -> Result<bool, Fail> {
+pub fn is_placed(rt: &(impl Abort + AllocGlobal), expr: &Expr<()>, wanted: &[Span]) -> bool {
     let mut found = Vec::new(rt.alloc());
-    for node in expr.subexpressions(rt.alloc())? {
-        found.push(span(node))?;
+    for node in made(rt, expr.subexpressions(rt.alloc())) {
+        made(rt, found.push(span(node)));
     }
-    Ok(found.as_slice() == wanted)
+    found.as_slice() == wanted
 }
 
 // Whether the expression of a value has them.
-pub fn has_places(rt: &HostRuntime, value: &Value<Point>, wanted: &[Span]) -> Result<bool, Fail> {
-    is_placed(rt, &value.to_expr(rt.alloc())?, wanted)
+pub fn has_places(rt: &(impl Abort + AllocGlobal), value: &Value<Point>, wanted: &[Span]) -> bool {
+    is_placed(rt, &made(rt, value.to_expr(rt.alloc())), wanted)
 }

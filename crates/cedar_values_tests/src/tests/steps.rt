@@ -1,10 +1,11 @@
 // Expressions, made step by step.
+use crate::tests::made::made;
 use cedar_exprs::Expr;
 use cedar_names::Loc;
 use cedar_terms::{Literal, Var};
-use expr_samples::{name, text, unknown};
+use expr_samples::{text, unknown};
+use std::process::Abort;
 use std::rc::RcStr;
-use std::test::Fail;
 
 // A step takes its parts from the end of what was made so far, and puts its own there.
 #[derive(Clone, Copy)]
@@ -27,85 +28,93 @@ pub enum Step<'a> {
 }
 
 // These bytes of a text.
-pub fn place(rt: &HostRuntime, start: usize, stop: usize) -> Result<Loc, Fail> {
-    Ok(Loc::new(start, stop, text(rt, "source")?))
+pub fn place(rt: &(impl Abort + AllocGlobal), start: usize, stop: usize) -> Loc {
+    Loc::new(start, stop, made(rt, text(rt, "source")))
 }
 
-fn last(made: &mut Vec<Expr<()>>) -> Result<Expr<()>, Fail> {
-    match made.pop() {
-        Some(expr) => Ok(expr),
-        None => Err(Fail::new("too few")),
-    }
+fn last(rt: &(impl Abort + AllocGlobal), stack: &mut Vec<Expr<()>>) -> Expr<()> {
+    stack.pop().expect(rt, "too few")
 }
 
-fn lasts(made: &mut Vec<Expr<()>>, count: usize) -> Result<Vec<Expr<()>>, Fail> {
-    Ok(made.split_off(made.len().saturating_sub(count))?)
+fn lasts(
+    rt: &(impl Abort + AllocGlobal),
+    stack: &mut Vec<Expr<()>>,
+    count: usize,
+) -> Vec<Expr<()>> {
+    made(rt, stack.split_off(stack.len().saturating_sub(count)))
 }
 
-fn and(rt: &HostRuntime, made: &mut Vec<Expr<()>>) -> Result<Expr<()>, Fail> {
-    let right = last(made)?;
-    Ok(Expr::and(rt.alloc(), last(made)?, right)?)
+fn and(rt: &(impl Abort + AllocGlobal), stack: &mut Vec<Expr<()>>) -> Expr<()> {
+    let right = last(rt, stack);
+    made(rt, Expr::and(rt.alloc(), last(rt, stack), right))
 }
 
-fn call(rt: &HostRuntime, made: &mut Vec<Expr<()>>, function: &str) -> Result<Expr<()>, Fail> {
-    let args = lasts(made, 1)?;
-    Ok(Expr::call_extension_fn(rt.alloc(), name(rt, function)?, args)?)
+fn call(rt: &(impl Abort + AllocGlobal), stack: &mut Vec<Expr<()>>, function: &str) -> Expr<()> {
+    made(rt, expr_samples::call(rt, function, lasts(rt, stack, 1)))
 }
 
-fn set(rt: &HostRuntime, made: &mut Vec<Expr<()>>, count: usize) -> Result<Expr<()>, Fail> {
-    Ok(Expr::set(rt.alloc(), lasts(made, count)?)?)
+fn set(rt: &(impl Abort + AllocGlobal), stack: &mut Vec<Expr<()>>, count: usize) -> Expr<()> {
+    made(rt, Expr::set(rt.alloc(), lasts(rt, stack, count)))
 }
 
-type Pairs = Vec<(RcStr, Expr<()>)>;
-
-fn add(rt: &HostRuntime, pairs: &mut Pairs, key: &str, value: Expr<()>) -> Result<(), Fail> {
-    pairs.push((text(rt, key)?, value))?;
-    Ok(())
+fn add<T: Drop>(rt: &(impl Abort + AllocGlobal), pairs: &mut Vec<(RcStr, T)>, key: &str, value: T) {
+    let key = made(rt, text(rt, key));
+    made(rt, pairs.push((key, value)));
 }
 
-fn pairs(rt: &HostRuntime, keys: &[&str], values: Vec<Expr<()>>) -> Result<Pairs, Fail> {
+// Each key with the value that stands where it does.
+pub fn pairs<T: Drop>(
+    rt: &(impl Abort + AllocGlobal),
+    keys: &[&str],
+    values: Vec<T>,
+) -> Vec<(RcStr, T)> {
     let mut pairs = Vec::new(rt.alloc());
     for (key, value) in keys.iter().zip(values) {
-        add(rt, &mut pairs, key, value)?;
+        add(rt, &mut pairs, key, value);
     }
-    Ok(pairs)
+    pairs
 }
 
-fn record(rt: &HostRuntime, made: &mut Vec<Expr<()>>, keys: &[&str]) -> Result<Expr<()>, Fail> {
-    let values = lasts(made, keys.len())?;
-    Ok(Expr::record(rt.alloc(), pairs(rt, keys, values)?)?)
+fn record(rt: &(impl Abort + AllocGlobal), stack: &mut Vec<Expr<()>>, keys: &[&str]) -> Expr<()> {
+    let values = lasts(rt, stack, keys.len());
+    made(rt, Expr::record(rt.alloc(), pairs(rt, keys, values)))
 }
 
-fn at(rt: &HostRuntime, e: Expr<()>, start: usize, stop: usize) -> Result<Expr<()>, Fail> {
-    Ok(e.with_maybe_source_loc(Some(place(rt, start, stop)?)))
+fn at(
+    rt: &(impl Abort + AllocGlobal),
+    stack: &mut Vec<Expr<()>>,
+    start: usize,
+    stop: usize,
+) -> Expr<()> {
+    last(rt, stack).with_maybe_source_loc(Some(place(rt, start, stop)))
 }
 
-fn made_by(rt: &HostRuntime, made: &mut Vec<Expr<()>>, step: Step) -> Result<Expr<()>, Fail> {
+fn made_by(rt: &(impl Abort + AllocGlobal), stack: &mut Vec<Expr<()>>, step: Step) -> Expr<()> {
     match step {
-        Step::Bool(b) => Ok(Expr::val(Literal::Bool(b))),
-        Step::Long(n) => Ok(Expr::val(Literal::Long(n))),
-        Step::Text(s) => Ok(Expr::val(Literal::from_text(rt.alloc(), s)?)),
-        Step::Variable(var) => Ok(Expr::var(var)),
-        Step::Unknown(name) => Ok(Expr::unknown(unknown(rt, name)?)),
-        Step::And => and(rt, made),
-        Step::Call(function) => call(rt, made, function),
-        Step::SetOf(count) => set(rt, made, count),
-        Step::RecordOf(keys) => record(rt, made, keys),
-        Step::At(start, stop) => at(rt, last(made)?, start, stop),
+        Step::Bool(b) => Expr::val(Literal::Bool(b)),
+        Step::Long(n) => Expr::val(Literal::Long(n)),
+        Step::Text(s) => Expr::val(made(rt, Literal::from_text(rt.alloc(), s))),
+        Step::Variable(var) => Expr::var(var),
+        Step::Unknown(name) => Expr::unknown(made(rt, unknown(rt, name))),
+        Step::And => and(rt, stack),
+        Step::Call(function) => call(rt, stack, function),
+        Step::SetOf(count) => set(rt, stack, count),
+        Step::RecordOf(keys) => record(rt, stack, keys),
+        Step::At(start, stop) => at(rt, stack, start, stop),
     }
 }
 
 // What stands there after these steps.
-pub fn exprs(rt: &HostRuntime, steps: &[Step]) -> Result<Vec<Expr<()>>, Fail> {
-    let mut made = Vec::new(rt.alloc());
+pub fn exprs(rt: &(impl Abort + AllocGlobal), steps: &[Step]) -> Vec<Expr<()>> {
+    let mut stack = Vec::new(rt.alloc());
     for step in steps {
-        let expr = made_by(rt, &mut made, *step)?;
-        made.push(expr)?;
+        let expr = made_by(rt, &mut stack, *step);
+        made(rt, stack.push(expr));
     }
-    Ok(made)
+    stack
 }
 
 // The last of it.
-pub fn expr(rt: &HostRuntime, steps: &[Step]) -> Result<Expr<()>, Fail> {
-    last(&mut exprs(rt, steps)?)
+pub fn expr(rt: &(impl Abort + AllocGlobal), steps: &[Step]) -> Expr<()> {
+    last(rt, &mut exprs(rt, steps))
 }

@@ -1,9 +1,10 @@
 // Values in place of unknowns.
+use crate::tests::made::made;
 use crate::tests::point::Point;
-use crate::tests::samples::{extension, given, is_placed, is_point, value};
+use crate::tests::samples::{extension, given, is_placed, point_type, value};
 use crate::tests::steps::Step::{And, At, Bool, Call, Long, SetOf, Unknown};
 use crate::tests::steps::{Step, expr};
-use cedar_exprs::{Expr, ExprBuilder, SubstituteValue, TypedBuildFault};
+use cedar_exprs::{Expr, ExprBuilder, RestrictedExpr, SubstituteValue, TypedBuildFault};
 use cedar_terms::{Type, Unknown as Term};
 use cedar_values::{
     ExtensionValue, Value, substitute_typed_values_into_expr, substitute_values_into_expr,
@@ -11,104 +12,113 @@ use cedar_values::{
 use expr_samples::text;
 use std::alloc::Global;
 use std::collections::HashMap;
+use std::process::Abort;
 use std::rc::RcStr;
-use std::test::Fail;
 
 type Values = HashMap<RcStr, Value<Point>>;
 
-fn bind(
-    rt: &HostRuntime,
-    values: &mut Values,
+fn bind<V: Drop>(
+    rt: &(impl Abort + AllocGlobal),
+    values: &mut HashMap<RcStr, V>,
     name: &str,
-    value: Value<Point>,
-) -> Result<(), Fail> {
-    drop(values.insert(text(rt, name)?, value)?);
-    Ok(())
+    value: V,
+) {
+    let name = made(rt, text(rt, name));
+    drop(made(rt, values.insert(name, value)));
 }
 
 // The map that binds one name.
-fn bound(rt: &HostRuntime, name: &str, value: Value<Point>) -> Result<Values, Fail> {
+fn bound<V: Drop>(rt: &(impl Abort + AllocGlobal), name: &str, value: V) -> HashMap<RcStr, V> {
     let mut values = HashMap::new(rt.alloc());
-    bind(rt, &mut values, name, value)?;
-    Ok(values)
+    bind(rt, &mut values, name, value);
+    values
 }
 
 // The map that binds x to the value of these steps.
-fn x_is(rt: &HostRuntime, steps: &[Step]) -> Result<Values, Fail> {
-    bound(rt, "x", value(rt, steps)?)
+fn x_is(rt: &(impl Abort + AllocGlobal), steps: &[Step]) -> Values {
+    bound(rt, "x", value(rt, steps))
 }
 
 // A point that f(z) made.
-fn point(rt: &HostRuntime) -> Result<Value<Point>, Fail> {
-    extension(rt, given(rt, 1, 2)?)
+fn point(rt: &(impl Abort + AllocGlobal)) -> Value<Point> {
+    extension(rt, given(rt, 1, 2))
 }
 
 // The map that binds u to it.
-fn u_is_a_point(rt: &HostRuntime) -> Result<Values, Fail> {
-    bound(rt, "u", point(rt)?)
+fn u_is_a_point(rt: &(impl Abort + AllocGlobal)) -> Values {
+    bound(rt, "u", point(rt))
 }
 
-fn substituted(rt: &HostRuntime, values: &Values, steps: &[Step]) -> Result<Expr<()>, Fail> {
-    Ok(expr(rt, steps)?.substitute(rt.alloc(), values)?)
+// The map that binds z to 5 too.
+fn u_is_a_point_and_z_five(rt: &(impl Abort + AllocGlobal)) -> Values {
+    let mut values = u_is_a_point(rt);
+    bind(rt, &mut values, "z", Value::from(5));
+    values
+}
+
+fn z_is_five(rt: &(impl Abort + AllocGlobal)) -> Values {
+    bound(rt, "z", Value::from(5))
+}
+
+fn substituted(rt: &(impl Abort + AllocGlobal), values: &Values, steps: &[Step]) -> Expr<()> {
+    made(rt, expr(rt, steps).substitute(rt.alloc(), values))
 }
 
 // Whether substitution makes the second expression of the first one.
-fn makes(rt: &HostRuntime, values: &Values, steps: &[Step], wanted: &[Step]) -> Result<bool, Fail> {
-    Ok(substituted(rt, values, steps)? == expr(rt, wanted)?)
+fn makes(
+    rt: &(impl Abort + AllocGlobal),
+    values: &Values,
+    steps: &[Step],
+    wanted: &[Step],
+) -> bool {
+    substituted(rt, values, steps) == expr(rt, wanted)
 }
 
 // The set of 3, 1 and 3 in place of an unknown.
 #[test]
-fn a_set_in_place_of_an_unknown(rt: HostRuntime) -> Result<(), Fail> {
-    let values = x_is(&rt, &[Long(3), Long(1), Long(3), SetOf(3)])?;
+fn a_set_in_place_of_an_unknown(rt: HostRuntime) {
+    let set = [Long(3), Long(1), Long(3), SetOf(3)];
     let wanted = [Long(1), Long(3), SetOf(2)];
-    assert!(rt; makes(&rt, &values, &[Unknown("x")], &wanted)?);
-    Ok(())
+    assert!(rt; makes(&rt, &x_is(&rt, &set), &[Unknown("x")], &wanted));
 }
 
 // The value of u holds z, which is bound to 5: a bound value is not searched.
 #[test]
-fn bound_values_are_not_searched(rt: HostRuntime) -> Result<(), Fail> {
-    let mut values = u_is_a_point(&rt)?;
-    bind(&rt, &mut values, "z", Value::from(5))?;
-    assert!(rt; makes(&rt, &values, &[Unknown("u")], &[Unknown("z"), Call("f")])?);
-    Ok(())
+fn bound_values_are_not_searched(rt: HostRuntime) {
+    let call = [Unknown("z"), Call("f")];
+    assert!(rt; makes(&rt, &u_is_a_point_and_z_five(&rt), &[Unknown("u")], &call));
 }
 
 // First u alone and then z alone.
 #[test]
-fn then_is_not_both(rt: HostRuntime) -> Result<(), Fail> {
+fn then_is_not_both(rt: HostRuntime) {
     let call = [Unknown("z"), Call("f")];
-    assert!(rt; makes(&rt, &u_is_a_point(&rt)?, &[Unknown("u")], &call)?);
-    let z = bound(&rt, "z", Value::from(5))?;
-    assert!(rt; makes(&rt, &z, &call, &[Long(5), Call("f")])?);
-    Ok(())
+    assert!(rt; makes(&rt, &u_is_a_point(&rt), &[Unknown("u")], &call));
+    assert!(rt; makes(&rt, &z_is_five(&rt), &call, &[Long(5), Call("f")]));
 }
 
 // `1 && x` at 0 to 6, the 1 at 0 to 1 and x at 5 to 6, with x = 2 at 9 to 10: the value brings its
 // place, the literal keeps its own, and the conjunction has none.
 #[test]
-fn a_bound_value_brings_its_place(rt: HostRuntime) -> Result<(), Fail> {
-    let values = x_is(&rt, &[Long(2), At(9, 10)])?;
+fn a_bound_value_brings_its_place(rt: HostRuntime) {
     let steps = [Long(1), At(0, 1), Unknown("x"), At(5, 6), And, At(0, 6)];
-    let made = substituted(&rt, &values, &steps)?;
-    assert!(rt; is_placed(&rt, &made, &[None, Some((9, 10)), Some((0, 1))])?);
-    Ok(())
+    let made = substituted(&rt, &x_is(&rt, &[Long(2), At(9, 10)]), &steps);
+    assert!(rt; is_placed(&rt, &made, &[None, Some((9, 10)), Some((0, 1))]));
 }
 
 #[test]
-fn types_of_values(rt: HostRuntime) -> Result<(), Fail> {
-    let point = point(&rt)?;
-    let ty = point.value_type(rt.alloc())?;
-    assert!(rt; is_point(&rt, ty)?);
-    Ok(())
+fn types_of_values(rt: HostRuntime) {
+    assert!(rt; made(&rt, point(&rt).value_type(rt.alloc())) == point_type(&rt));
+}
+
+fn written(rt: &(impl Abort + AllocGlobal), value: &Value<Point>) -> RestrictedExpr {
+    made(rt, value.value_expr(rt.alloc()))
 }
 
 #[test]
-fn expressions_of_values(rt: HostRuntime) -> Result<(), Fail> {
-    let written = point(&rt)?.value_expr(rt.alloc())?;
-    assert!(rt; *written.as_expr() == expr(&rt, &[Unknown("z"), Call("f")])?);
-    Ok(())
+fn expressions_of_values(rt: HostRuntime) {
+    let call = [Unknown("z"), Call("f")];
+    assert!(rt; *written(&rt, &point(&rt)).as_expr() == expr(&rt, &call));
 }
 
 // What the struct's builder makes, if it makes something. The type of its data is a parameter
@@ -122,21 +132,19 @@ fn built<T: Default + Copy, X: ExtensionValue + Ord>(
 }
 
 fn builds(
-    rt: &HostRuntime,
+    rt: &(impl Abort + AllocGlobal),
     values: &Values,
     steps: &[Step],
     wanted: &[Step],
-) -> Result<bool, Fail> {
-    let made: Option<Expr<()>> = built(rt.alloc(), &expr(rt, steps)?, values);
-    Ok(made == Some(expr(rt, wanted)?))
+) -> bool {
+    built(rt.alloc(), &expr(rt, steps), values) == Some(expr(rt, wanted))
 }
 
 #[test]
-fn builders_get_values(rt: HostRuntime) -> Result<(), Fail> {
-    let values = x_is(&rt, &[Long(1), SetOf(1)])?;
+fn builders_get_values(rt: HostRuntime) {
+    let steps = [Unknown("x"), Bool(true), SetOf(2)];
     let wanted = [Long(1), SetOf(1), Bool(true), SetOf(2)];
-    assert!(rt; builds(&rt, &values, &[Unknown("x"), Bool(true), SetOf(2)], &wanted)?);
-    Ok(())
+    assert!(rt; builds(&rt, &x_is(&rt, &[Long(1), SetOf(1)]), &steps, &wanted));
 }
 
 // Whether a set was refused where a Boolean was wanted.
@@ -162,20 +170,17 @@ fn built_typed<T: Default + Copy, X: ExtensionValue + Ord>(
 }
 
 // What is made of an unknown x of this type, which is bound to {1}.
-fn of_type(rt: &HostRuntime, ty: Type) -> Result<Result<Expr<()>, bool>, Fail> {
-    let x = Expr::unknown(Term::new_with_type(text(rt, "x")?, ty));
-    Ok(built_typed(rt.alloc(), &x, &x_is(rt, &[Long(1), SetOf(1)])?))
+fn of_type(rt: &(impl Abort + AllocGlobal), ty: Type) -> Result<Expr<()>, bool> {
+    let x = Expr::unknown(Term::new_with_type(made(rt, text(rt, "x")), ty));
+    built_typed(rt.alloc(), &x, &x_is(rt, &[Long(1), SetOf(1)]))
 }
 
 #[test]
-fn builders_get_values_of_the_type(rt: HostRuntime) -> Result<(), Fail> {
-    let wanted = expr(&rt, &[Long(1), SetOf(1)])?;
-    assert!(rt; of_type(&rt, Type::Set)? == Ok(wanted));
-    Ok(())
+fn builders_get_values_of_the_type(rt: HostRuntime) {
+    assert!(rt; of_type(&rt, Type::Set) == Ok(expr(&rt, &[Long(1), SetOf(1)])));
 }
 
 #[test]
-fn values_of_another_type_are_refused(rt: HostRuntime) -> Result<(), Fail> {
-    assert!(rt; of_type(&rt, Type::Bool)? == Err(true));
-    Ok(())
+fn values_of_another_type_are_refused(rt: HostRuntime) {
+    assert!(rt; of_type(&rt, Type::Bool) == Err(true));
 }
