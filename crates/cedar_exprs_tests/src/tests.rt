@@ -18,7 +18,7 @@ fn made<T: Drop, E: Debug + Drop>(rt: &impl Abort, answer: Result<T, E>) -> T {
 }
 
 fn shared<T: Drop>(rt: &(impl Abort + AllocGlobal), value: T) -> Rc<T> {
-    Rc::new(rt.alloc(), value).ok().expect(rt, "shared")
+    made(rt, Rc::new(rt.alloc(), value))
 }
 
 // The same value three times.
@@ -27,7 +27,7 @@ fn thrice<T: Drop>(rt: &impl Abort, value: Rc<T>) -> (Rc<T>, Rc<T>, Rc<T>) {
 }
 
 fn push<T: Drop>(rt: &impl Abort, items: &mut Vec<T>, item: T) {
-    items.push(item).ok().expect(rt, "pushed")
+    made(rt, items.push(item))
 }
 
 fn long(n: i64) -> Expr<()> {

@@ -22,7 +22,7 @@ pub fn x() -> Expr<()> {
     Expr::var(Var::Principal)
 }
 
-pub fn y() -> Expr<()> {
+fn y() -> Expr<()> {
     Expr::var(Var::Resource)
 }
 
