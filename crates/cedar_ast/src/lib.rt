@@ -21,7 +21,7 @@ pub use cedar_calls::{
 };
 pub use cedar_exprs::{
     CallStyle, Expr, ExprBuilder, ExprIterator, ExprKind, ExprShapeOnly, ExprValidationError,
-    FunctionTable, RestrictedExpr, RestrictedExprError, SlotRef, Slots, SubstituteValue,
+    FunctionTable, KindOf, RestrictedExpr, RestrictedExprError, SlotRef, Slots, SubstituteValue,
     TypedBuildFault, Unknowns,
 };
 pub use cedar_names::{

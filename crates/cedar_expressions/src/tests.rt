@@ -35,6 +35,7 @@ use crate::ast::Id;
 use crate::ast::InputInteger;
 use crate::ast::Integer;
 use crate::ast::InternalName;
+use crate::ast::KindOf;
 use crate::ast::LawfulExprBuilder;
 use crate::ast::Literal;
 use crate::ast::Loc;

@@ -6,10 +6,11 @@ use Rattle.std.proofs.lemmas.List.{map-append}
 use Rattle.cedar_builders.specs.BareExpr.{BareExpr, trees_of}
 use Rattle.cedar_builders.specs.Walks as bare
 use Rattle.cedar_builders.specs.Walks.{forward, backward}
-use Rattle.cedar_exprs.specs.BareExpr.{bare_expr, bare_expr_kind, bare_step, node_step, fields_at}
-use Rattle.cedar_exprs.specs.Walks.{parts, children, walk, preorder, positions}
-use Rattle.cedar_exprs.specs.declared.expr.Expr.{Expr, fold_out-Expr}
-use Rattle.cedar_exprs.specs.declared.expr.ExprKind.{ExprKind, ExprKind-F, out-ExprKind, fold_out-ExprKind, map-ExprKind}
+use Rattle.cedar_exprs.specs.BareExpr.{ExprKind, bare_expr, bare_expr_kind, kind_of, fields_at}
+use Rattle.cedar_exprs.specs.Walks.{kind_children, children, walk, preorder, positions}
+use Rattle.cedar_exprs.specs.declared.expr.Expr.{Expr}
+use Rattle.cedar_exprs.specs.declared.expr.KindOf.{KindOf}
+use Rattle.cedar_exprs.proofs.Records.{bare_kind_of}
 use Rattle.cedar_exprs.proofs.Walks.{walk_is, by_children}
 
 pub members_of-trees_of : (es : List BareExpr) → bare.members_of (trees_of es) ≡ es
@@ -29,18 +30,15 @@ module _ {T : Type 0} where
   values [] = refl
   values (e ∷ es) = ap (λ xs. bare_expr e.1 ∷ xs) (values es)
 
-  layer : (x : ExprKind-F T (ExprKind T) (Expr T)) → map bare_expr (parts x) ≡ bare.children (bare_step (map-ExprKind T _ _ _ _ bare_expr_kind bare_expr x))
-  layer (ExprKind-F.ExtensionFunctionApp n es) = sym (members_of-trees_of (map bare_expr es.value.items))
-  layer (ExprKind-F.Set es) = sym (members_of-trees_of (map bare_expr es.value.items))
-  layer (ExprKind-F.Record es) = values es.value.entries
-  layer x = refl
+  of_kind : (k : ExprKind T) → map bare_expr (kind_children k) ≡ bare.children (bare_expr_kind k)
+  of_kind (KindOf.ExtensionFunctionApp n es) = sym (members_of-trees_of (map bare_expr es.value.items))
+  of_kind (KindOf.Set es) = sym (members_of-trees_of (map bare_expr es.value.items))
+  of_kind (KindOf.Record es) = values es.value.entries
+  of_kind k = refl
 
   -- the bare trees of the children are the children of the bare tree
   pub children_bare : (e : Expr T) → map bare_expr (children e) ≡ bare.children (bare_expr e)
-  children_bare e =
-      layer (out-ExprKind T e.expr_kind)
-      ∙ ap bare.children (sym (fold_out-ExprKind T BareExpr BareExpr bare_step node_step e.expr_kind))
-      ∙ ap bare.children (sym (fold_out-Expr T BareExpr BareExpr bare_step node_step e))
+  children_bare e = of_kind (kind_of e) ∙ ap bare.children (sym (bare_kind_of e))
 
   -- what a walk gives that puts each node before what its children give, joined
   module _ (join : List (List (Expr T)) → List (Expr T)) (joined : List (List BareExpr) → List BareExpr) (alike : (xss : List (List (Expr T))) → map bare_expr (join xss) ≡ joined (map (map bare_expr) xss)) where

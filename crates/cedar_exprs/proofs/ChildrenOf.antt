@@ -1,5 +1,5 @@
 -- The bare trees and the children of expressions with lists of children.
-use Rattle.std.proofs.Common.{◌≡◌, ℕ, Bool, List, [], ◌∷◌, map, length, Global, refl, sym, ap, ◌∙◌, subst, BTreeMap, Vec, rules}
+use Rattle.std.proofs.Common.{◌≡◌, ℕ, Bool, List, [], ◌∷◌, map, length, Global, refl, sym, ap, ◌∙◌, subst, BTreeMap, Vec}
 use Rattle.std.proofs.lemmas.List.{length-map}
 use Rattle.std.proofs.lemmas.List.Folds.{list_all-map}
 use Rattle.std.specs.List.{list_all}
@@ -13,39 +13,29 @@ use Rattle.cedar_terms.specs.declared.entity.EntityType.{EntityType}
 use Rattle.cedar_terms.specs.declared.unknown.Unknown.{Unknown as UnknownOf}
 use Rattle.cedar_builders.specs.BareExpr.{BareExpr, ExtensionFunctionApp, Set, Record, Is, trees_of}
 use Rattle.cedar_builders.specs.Walks.{members_of, values_of, children}
-use Rattle.cedar_exprs.specs.BareExpr.{bare_expr, bare_expr_kind, bare_exprs, bare_fields, kind_of, unknown_tree}
+use Rattle.cedar_exprs.specs.BareExpr.{bare_expr, bare_exprs, bare_fields, kind_of, unknown_tree}
 use Rattle.cedar_exprs.specs.declared.expr.Expr.{Expr}
-use Rattle.cedar_exprs.specs.declared.expr.ExprKind.{ExtensionFunctionApp as CallOf, Set as SetOf, Record as RecordOf, Unknown as OneUnknown, Is as IsOf, the_lemmas}
-use Rattle.cedar_exprs.proofs.Nodes.{bare_set, bare_record}
-use Rattle.cedar_exprs.proofs.Records.{bare_kind_of}
-
-pub bare_call : {T : Type 0} (n : Name) (es : Rc (Vec (Expr T) Global) Global) → bare_expr_kind (CallOf n es) ≡ ExtensionFunctionApp (bare_name n) (bare_exprs es.value.items)
-bare_call n es = search (rules, the_lemmas)
+use Rattle.cedar_exprs.specs.declared.expr.KindOf.TheVariants.{ExtensionFunctionApp as CallOf, Set as SetOf, Record as RecordOf, Unknown as OneUnknown, Is as IsOf}
+use Rattle.cedar_exprs.proofs.Records.{bare_at}
 
 -- the bare tree of an expression that is known to be a call, a set or a record
 pub bare_at_call : {T : Type 0} (e : Expr T) (n : Name) (es : Rc (Vec (Expr T) Global) Global) (v : Vec (Expr T) Global) → kind_of e ≡ CallOf n es → v ≡ es.value → bare_expr e ≡ ExtensionFunctionApp (bare_name n) (bare_exprs v.items)
 bare_at_call {T} e n es v is at =
-    bare_kind_of e ∙ (ap bare_expr_kind is ∙ (bare_call n es ∙ ap (λ (w : Vec (Expr T) Global). ExtensionFunctionApp (bare_name n) (bare_exprs w.items)) (sym at)))
+    bare_at e (CallOf n es) is ∙ ap (λ (w : Vec (Expr T) Global). ExtensionFunctionApp (bare_name n) (bare_exprs w.items)) (sym at)
 
 pub bare_at_set : {T : Type 0} (e : Expr T) (es : Rc (Vec (Expr T) Global) Global) (v : Vec (Expr T) Global) → kind_of e ≡ SetOf es → v ≡ es.value → bare_expr e ≡ Set (bare_exprs v.items)
 bare_at_set {T} e es v is at =
-    bare_kind_of e ∙ (ap bare_expr_kind is ∙ (bare_set es ∙ ap (λ (w : Vec (Expr T) Global). Set (bare_exprs w.items)) (sym at)))
+    bare_at e (SetOf es) is ∙ ap (λ (w : Vec (Expr T) Global). Set (bare_exprs w.items)) (sym at)
 
 pub bare_at_map : {T : Type 0} (e : Expr T) (m : Rc (BTreeMap (RcStr Global) (Expr T)) Global) (n : BTreeMap (RcStr Global) (Expr T)) → kind_of e ≡ RecordOf m → n ≡ m.value → bare_expr e ≡ Record (bare_fields n.entries)
 bare_at_map {T} e m n is at =
-    bare_kind_of e ∙ (ap bare_expr_kind is ∙ (bare_record m ∙ ap (λ (o : BTreeMap (RcStr Global) (Expr T)). Record (bare_fields o.entries)) (sym at)))
-
-bare_unknown_kind : (T : Type 0) (u : UnknownOf) → bare_expr_kind {T = T} (OneUnknown u) ≡ unknown_tree (bare_unknown u)
-bare_unknown_kind T u = search (rules, the_lemmas)
-
-bare_is : {T : Type 0} (a : Rc (Expr T) Global) (t : EntityType) → bare_expr_kind (IsOf a t) ≡ Is (bare_expr a.value) (bare_entity_type t)
-bare_is a t = search (rules, the_lemmas)
+    bare_at e (RecordOf m) is ∙ ap (λ (o : BTreeMap (RcStr Global) (Expr T)). Record (bare_fields o.entries)) (sym at)
 
 pub bare_at_unknown : {T : Type 0} (e : Expr T) (u : UnknownOf) → kind_of e ≡ OneUnknown u → bare_expr e ≡ unknown_tree (bare_unknown u)
-bare_at_unknown {T} e u is = bare_kind_of e ∙ (ap bare_expr_kind is ∙ bare_unknown_kind T u)
+bare_at_unknown e u = bare_at e (OneUnknown u)
 
 pub bare_at_is : {T : Type 0} (e : Expr T) (a : Rc (Expr T) Global) (t : EntityType) → kind_of e ≡ IsOf a t → bare_expr e ≡ Is (bare_expr a.value) (bare_entity_type t)
-bare_at_is e a t is = bare_kind_of e ∙ (ap bare_expr_kind is ∙ bare_is a t)
+bare_at_is e a t = bare_at e (IsOf a t)
 
 pub members_of-trees_of : (bs : List BareExpr) → members_of (trees_of bs) ≡ bs
 members_of-trees_of [] = refl

@@ -1,5 +1,5 @@
 -- Steps of a drop.
-use Rattle.std.proofs.Common.{◌≡◌, ℕ, ◌+◌, ◌*◌, ◌≤◌, ◌<◌, suc, refl, sym, ap, ◌∙◌, arith, Global, List, [], ◌∷◌, ◌++◌, length, true, false, Equal, Some, subst, BTreeMap, Vec}
+use Rattle.std.proofs.Common.{◌≡◌, ℕ, ◌+◌, ◌*◌, ◌≤◌, ◌<◌, suc, refl, sym, ap, ◌∙◌, arith, Global, List, [], ◌∷◌, ◌++◌, length, slice_index_or, slice_set, true, false, Equal, Some, subst, BTreeMap, Vec}
 use Rattle.std.proofs.Math.Nat.{mul-le-mul_right, suc-mul}
 use Rattle.std.proofs.lemmas.Bool.{false≢true}
 use Rattle.std.proofs.lemmas.Cmp.{nat_list_cmp_total, tied_itself}
@@ -14,13 +14,11 @@ use Rattle.std.specs.declared.rc.RcStr.{RcStr}
 use Rattle.cedar_names.specs.declared.plain_name.Name.{Name}
 use Rattle.cedar_builders.specs.Count.{count, count_is, sum, one_more}
 use Rattle.cedar_builders.specs.Walks.{walk_all, walk_fields}
-use Rattle.cedar_exprs.specs.BareExpr.{bare_expr_kind, bare_exprs, bare_fields, kind_of}
+use Rattle.cedar_builders.specs.BareExpr.{BareExpr}
+use Rattle.cedar_exprs.specs.BareExpr.{ExprKind, node_step, bare_expr, bare_expr_kind, bare_exprs, bare_fields, kind_of}
 use Rattle.cedar_exprs.specs.Steps.{nodes, kind_nodes, row_nodes, field_nodes}
-use Rattle.cedar_exprs.specs.declared.expr.Expr.{Expr}
-use Rattle.cedar_exprs.specs.declared.expr.ExprKind.{ExprKind}
-use Rattle.cedar_exprs.specs.declared.expr.ExprKind as kind
-use Rattle.cedar_exprs.proofs.Nodes.{bare_set, bare_record}
-use Rattle.cedar_exprs.proofs.ChildrenOf.{bare_call}
+use Rattle.cedar_exprs.specs.declared.expr.Expr.{Expr, Expr-F, roll-Expr, out-roll-Expr, fold-roll-Expr}
+use Rattle.cedar_exprs.specs.declared.expr.KindOf.TheVariants as kind
 use Rattle.cedar_exprs.proofs.Records.{text_cmp, bare_kind_of}
 
 pub fewer : (n k m j c : ℕ) → m < n → j ≤ m → m ≤ c → m * (c + 1) + j < n * (c + 1) + k
@@ -43,17 +41,21 @@ in_fields (e ∷ es) = ap (λ n. nodes e.1 + n) (in_fields es)
 -- the nodes of a call, a set and a record
 module _ {T : Type 0} where
   pub call_nodes : (k : ExprKind T) (n : Name) (es : Rc (Vec (Expr T) Global) Global) → k ≡ kind.ExtensionFunctionApp n es → kind_nodes k ≡ suc (row_nodes es.value.items)
-  call_nodes k n es is = ap kind_nodes is ∙ ap count (bare_call n es) ∙ ap suc (in_row es.value.items)
+  call_nodes k n es is = ap kind_nodes is ∙ ap suc (in_row es.value.items)
 
   pub set_nodes : (k : ExprKind T) (es : Rc (Vec (Expr T) Global) Global) → k ≡ kind.Set es → kind_nodes k ≡ suc (row_nodes es.value.items)
-  set_nodes k es is = ap kind_nodes is ∙ ap count (bare_set es) ∙ ap suc (in_row es.value.items)
+  set_nodes k es is = ap kind_nodes is ∙ ap suc (in_row es.value.items)
 
   pub record_nodes : (k : ExprKind T) (m : Rc (BTreeMap (RcStr Global) (Expr T)) Global) → k ≡ kind.Record m → kind_nodes k ≡ suc (field_nodes m.value.entries)
-  record_nodes k m is = ap kind_nodes is ∙ ap count (bare_record m) ∙ ap suc (in_fields m.value.entries)
+  record_nodes k m is = ap kind_nodes is ∙ ap suc (in_fields m.value.entries)
 
   -- a kind has a node
   pub some_nodes : (k : ExprKind T) → 0 < kind_nodes k
   some_nodes k = let is = count_is (bare_expr_kind k) in omega (arith, is)
+
+  -- so has an expression
+  pub has_nodes : (e : Expr T) → 0 < nodes e
+  has_nodes e = let is = count_is (bare_expr e) in omega (arith, is)
 
   -- a set and a record whose items were written
   pub written_set : (es : Rc (Vec (Expr T) Global) Global) (v : Vec (Expr T) Global) → kind_nodes (kind.Set (rc_with_value es v)) ≡ suc (row_nodes v.items)
@@ -70,6 +72,28 @@ module _ {T : Type 0} where
   pub one_off : (all es : List (Expr T)) (e : Expr T) → all ≡ es ++ e ∷ [] → row_nodes all ≡ row_nodes es + nodes e
   one_off all es e is = ap row_nodes is ∙ row-snoc es e
 
+  -- a node that was written
+  pub written_kind : (n : Expr-F T (Expr T)) → kind_of (roll-Expr T n) ≡ n.expr_kind
+  written_kind n = ap (λ (l : Expr-F T (Expr T)). l.expr_kind) (out-roll-Expr T n)
+
+  pub written_node : (n : Expr-F T (Expr T)) → nodes (roll-Expr T n) ≡ kind_nodes n.expr_kind
+  written_node n = ap count (fold-roll-Expr T BareExpr node_step n)
+
+  pub nodes_of : (e : Expr T) (k : ExprKind T) → k ≡ kind_of e → kind_nodes k ≡ nodes e
+  nodes_of e k is = ap kind_nodes is ∙ sym (ap count (bare_kind_of e))
+
+  -- a row whose first member got another kind
+  pub first_written : (es : List (Expr T)) (e : Expr T) (old : ExprKind T) (n : Expr-F T (Expr T)) → 0 < length es → e ≡ slice_index_or es 0 e → old ≡ kind_of e → kind_nodes old + row_nodes (slice_set es 0 (roll-Expr T n)) ≡ row_nodes es + kind_nodes n.expr_kind
+  first_written [] e old n some at is = omega (arith, some)
+  first_written (x ∷ es) e old n some at is =
+      let here = nodes_of e old is in
+      let same : nodes e ≡ nodes x = ap nodes at in
+      omega (arith, here, same, written_node n)
+
+  pub first_fits : (es : List (Expr T)) (e : Expr T) (old : ExprKind T) → 0 < length es → e ≡ slice_index_or es 0 e → old ≡ kind_of e → kind_nodes old ≤ row_nodes es
+  first_fits [] e old some at is = omega (arith, some)
+  first_fits (x ∷ es) e old some at is = let here = nodes_of e old is in let same : nodes e ≡ nodes x = ap nodes at in omega (arith, here, same)
+
   pub one_pair_off : (all es : List (RcStr Global × Expr T)) (k : RcStr Global) (e : Expr T) → all ≡ (k, e) ∷ es → field_nodes all ≡ field_nodes es + nodes e
   one_pair_off all es k e is = let here = ap field_nodes is in omega (arith, here)
 
@@ -80,9 +104,6 @@ module _ {T : Type 0} where
   -- a record without its last value
   pub last_pair_off : (all es : List (RcStr Global × Expr T)) (k : RcStr Global) (e : Expr T) → all ≡ es ++ (k, e) ∷ [] → field_nodes all ≡ field_nodes es + nodes e
   last_pair_off all es k e is = ap field_nodes is ∙ fields-snoc es k e
-
-  pub nodes_of : (e : Expr T) (k : ExprKind T) → k ≡ kind_of e → kind_nodes k ≡ nodes e
-  nodes_of e k is = ap kind_nodes is ∙ sym (ap count (bare_kind_of e))
 
   -- a map has a first value, or no nodes
   pub no_fields : (es : List (RcStr Global × Expr T)) → (0 < length es → false ≡ true) → field_nodes es ≡ 0

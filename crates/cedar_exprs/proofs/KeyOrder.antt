@@ -12,9 +12,8 @@ use Rattle.cedar_builders.specs.Keys.{IsRising}
 use Rattle.cedar_builders.specs.RisingKeys.{field_keys, NodeKeysRise}
 use Rattle.cedar_exprs.specs.BareExpr.{bare_expr, bare_fields, kind_of}
 use Rattle.cedar_exprs.specs.declared.expr.Expr.{Expr}
-use Rattle.cedar_exprs.specs.declared.expr.ExprKind.{Record}
-use Rattle.cedar_exprs.proofs.Nodes.{Map}
-use Rattle.cedar_exprs.proofs.Records.{Entry, text_cmp, bare_at_record}
+use Rattle.cedar_exprs.specs.declared.expr.KindOf.TheVariants.{Record}
+use Rattle.cedar_exprs.proofs.Records.{Map, Entry, text_cmp, bare_at_record}
 
 module _ {T : Type 0} where
   below : (k : RcStr Global) (es : List (Entry T)) → AllByRecursion (λ y. text_cmp k y ≡ Less) (keys_of es) → AllByRecursion (λ y. slice_cmp nat_cmp (rc_str_bytes k) y ≡ Less) (field_keys (bare_fields es))

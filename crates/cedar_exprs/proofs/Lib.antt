@@ -1,4 +1,3 @@
-pub mod Nodes
 pub mod Records
 pub mod ChildrenOf
 pub mod KeyedValues

@@ -10,17 +10,19 @@ use Rattle.std.specs.Result.{IsErrAnd}
 use Rattle.std.specs.declared.rc.Rc.{Rc}
 use Rattle.std.specs.declared.rc.RcStr.{RcStr}
 use Rattle.cedar_builders.specs.BareExpr.{BareExpr, Record, field, fields_of}
-use Rattle.cedar_exprs.specs.BareExpr.{bare_expr, bare_expr_kind, bare_step, node_step, bare_fields, kind_of}
+use Rattle.cedar_exprs.specs.BareExpr.{ExprKind, bare_expr, bare_expr_kind, node_step, bare_fields, kind_of}
 use Rattle.cedar_exprs.specs.ExprData.{data_tree, values_data, values_of, holds, child}
 use Rattle.cedar_builders.specs.Keys.{keyed, in_key_order, meant_pairs}
 use Rattle.cedar_exprs.specs.RecordPairs.{record_fields, record_data}
 use Rattle.cedar_exprs.specs.BuiltNode.{builder_data, IsMadeBy}
 use Rattle.cedar_exprs.specs.declared.builder.ExprBuilder.{ExprBuilder}
 use Rattle.cedar_exprs.specs.declared.expr.Expr.{Expr, fold_out-Expr}
-use Rattle.cedar_exprs.specs.declared.expr.ExprKind.{Record as RecordOf}
-use Rattle.cedar_exprs.proofs.Nodes.{bare_record}
+use Rattle.cedar_exprs.specs.declared.expr.KindOf.TheVariants.{Record as RecordOf}
 
--- an entry of the map of a record
+-- the map of a record, and an entry of it
+abbrev pub Map : Type 0 → Type 0
+Map T = BTreeMap (RcStr Global) (Expr T)
+
 abbrev pub Entry : Type 0 → Type 0
 Entry T = RcStr Global × Expr T
 
@@ -28,11 +30,15 @@ abbrev pub text_cmp : RcStr Global → RcStr Global → Ordering
 text_cmp a b = slice_cmp nat_cmp (rc_str_bytes a) (rc_str_bytes b)
 
 pub bare_kind_of : {T : Type 0} (e : Expr T) → bare_expr e ≡ bare_expr_kind (kind_of e)
-bare_kind_of {T} e = fold_out-Expr T BareExpr BareExpr bare_step node_step e
+bare_kind_of {T} e = fold_out-Expr T BareExpr node_step e
+
+-- the bare tree of an expression whose kind is known
+pub bare_at : {T : Type 0} (e : Expr T) (k : ExprKind T) → kind_of e ≡ k → bare_expr e ≡ bare_expr_kind k
+bare_at e k is = bare_kind_of e ∙ ap bare_expr_kind is
 
 -- the bare tree of an expression that is known to be a record
 pub bare_at_record : {T : Type 0} (e : Expr T) (m : Rc (BTreeMap (RcStr Global) (Expr T)) Global) → kind_of e ≡ RecordOf m → bare_expr e ≡ Record (bare_fields m.value.entries)
-bare_at_record e m is = bare_kind_of e ∙ ap bare_expr_kind is ∙ bare_record m
+bare_at_record e m = bare_at e (RecordOf m)
 
 below_later : {T : Type 0} (first : Entry T) (es : List (Entry T)) (e : Entry T) (more : List (Entry T)) → AllByRecursion (λ y. text_cmp first.0 y ≡ Less) (keys_of (es ++ e ∷ more)) → text_cmp first.0 e.0 ≡ Less
 below_later first [] e more h = h.0

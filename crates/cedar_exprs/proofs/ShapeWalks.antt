@@ -1,19 +1,26 @@
 -- Walks over two expressions side by side, and what a walk over one feeds a hasher.
-use Rattle.std.proofs.Common.{◌≡◌, ℕ, ◌+◌, ◌<◌, List, [], ◌∷◌, ◌++◌, map, true, false, Ordering, Less, Equal, Greater, Global, BTreeMap, refl, sym, ap, ◌∙◌, subst, fold, length, get_or, drop, drop-cons, add-one}
+use Rattle.std.proofs.Common.{◌≡◌, ℕ, ◌+◌, ◌<◌, List, [], ◌∷◌, ◌++◌, map, true, false, Ordering, Less, Equal, Greater, Global, BTreeMap, Vec, refl, sym, ap, ◌∙◌, fold, length, get_or, drop, drop-cons, add-one}
 use Rattle.std.proofs.lemmas.Bool.{true≢false}
+use Rattle.std.proofs.lemmas.List.{append_assoc, length-map}
+use Rattle.std.proofs.lemmas.List.Sums.{fold-append}
 use Rattle.std.specs.Cmp.Lexicographic.{slice_cmp}
+use Rattle.std.specs.List.{flat_map}
 use Rattle.std.specs.Hash as fed
+use Rattle.std.specs.Hash.{HashWrites}
 use Rattle.std.specs.Ordering.{is_ne, nat_cmp}
 use Rattle.std.specs.Rc.{rc_str_bytes}
 use Rattle.std.specs.declared.rc.Rc.{Rc}
 use Rattle.std.specs.declared.rc.RcStr.{RcStr}
-use Rattle.cedar_builders.specs.BareExpr.{BareExpr, Record, BareExprs, BareFields}
+use Rattle.cedar_names.specs.NameOrder.{name_cmp}
+use Rattle.cedar_names.specs.PlainNames.{bare_name}
+use Rattle.cedar_names.specs.declared.plain_name.Name.{Name}
+use Rattle.cedar_builders.specs.BareExpr.{BareExpr, BareExprs, BareFields}
 use Rattle.cedar_builders.specs.ShapeFeed.{shape_fed, row_fed, fields_fed}
 use Rattle.cedar_builders.specs.Shapes.{◌or_else◌, kind_number, row_count, field_count, shape_cmp, row_cmp, fields_cmp}
-use Rattle.cedar_exprs.specs.BareExpr.{bare_expr, bare_expr_kind, bare_exprs, bare_fields, kind_of}
+use Rattle.cedar_exprs.specs.BareExpr.{ExprKind, bare_expr, bare_expr_kind, bare_exprs, bare_fields, kind_of}
 use Rattle.cedar_exprs.specs.declared.expr.Expr.{Expr}
-use Rattle.cedar_exprs.specs.declared.expr.ExprKind.{ExprKind, Record as RecordOf}
-use Rattle.cedar_exprs.proofs.ChildrenOf.{bare_at_map, members-length, values-length}
+use Rattle.cedar_exprs.specs.declared.expr.KindOf.TheVariants.{ExtensionFunctionApp as CallOf, Set as SetOf, Record as RecordOf}
+use Rattle.cedar_exprs.proofs.ChildrenOf.{bare_at_call, bare_at_set, members-length, values-length}
 use Rattle.cedar_exprs.proofs.Records.{Entry, bare_at_record, bare_kind_of}
 
 -- ---- two trees
@@ -41,6 +48,16 @@ cmp_of_records a b ps qs ms ns r at_a at_b is_ms is_ns answer =
 -- by their number, then one by one
 abbrev pub rows_cmp : BareExprs → BareExprs → Ordering
 rows_cmp es fs = nat_cmp (row_count es) (row_count fs) or_else row_cmp es fs
+
+-- what a walk over two rows answers is the answer to the two sets, and to the two calls of alike names
+module _ {T U : Type 0} (a : Expr T) (b : Expr U) (es : Rc (Vec (Expr T) Global) Global) (fs : Rc (Vec (Expr U) Global) Global) (v : Vec (Expr T) Global) (w : Vec (Expr U) Global) (xs : List (Expr T)) (ys : List (Expr U)) (r : Ordering) where
+  pub cmp_of_sets : kind_of a ≡ SetOf es → kind_of b ≡ SetOf fs → v ≡ es.value → w ≡ fs.value → xs ≡ v.items → ys ≡ w.items → r ≡ rows_cmp (bare_exprs xs) (bare_exprs ys) → r ≡ shape_cmp (bare_expr a) (bare_expr b)
+  cmp_of_sets at_a at_b is_v is_w is_xs is_ys answer =
+      rw (bare_at_set a es v at_a is_v, bare_at_set b fs w at_b is_w, ← is_xs, ← is_ys) answer
+
+  pub cmp_of_calls : (n m : Name) → kind_of a ≡ CallOf n es → kind_of b ≡ CallOf m fs → name_cmp (bare_name n) (bare_name m) ≡ Equal → v ≡ es.value → w ≡ fs.value → xs ≡ v.items → ys ≡ w.items → r ≡ rows_cmp (bare_exprs xs) (bare_exprs ys) → r ≡ shape_cmp (bare_expr a) (bare_expr b)
+  cmp_of_calls n m at_a at_b alike is_v is_w is_xs is_ys answer =
+      rw (bare_at_call a n es v at_a is_v, bare_at_call b m fs w at_b is_w, alike, ← is_xs, ← is_ys) answer
 
 module _ {T U : Type 0} (es : List (Expr T)) (fs : List (Expr U)) (n : Ordering) (is : n ≡ nat_cmp (length es) (length fs)) where
   counts : n ≡ nat_cmp (row_count (bare_exprs es)) (row_count (bare_exprs fs))
@@ -85,21 +102,31 @@ slices_map (x ∷ xs) (y ∷ ys) = ap (λ r. slice_cmp nat_cmp (rc_str_bytes x) 
 -- ---- what is fed
 
 -- the number of a kind is that of its tree
-number_of : {T : Type 0} (e : Expr T) (k : ExprKind T) (n : ℕ) → k ≡ kind_of e → n ≡ kind_number (bare_expr_kind k) → n ≡ kind_number (bare_expr e)
+pub number_of : {T : Type 0} (e : Expr T) (k : ExprKind T) (n : ℕ) → k ≡ kind_of e → n ≡ kind_number (bare_expr_kind k) → n ≡ kind_number (bare_expr e)
 number_of e k n at is = is ∙ ap (λ x. kind_number (bare_expr_kind x)) at ∙ ap kind_number (sym (bare_kind_of e))
 
--- what a record feeds is what its number and its pairs feed
-module _ {T S : Type 0} (write : S → List ℕ → S) (n : BTreeMap (RcStr Global) (Expr T)) (s t u : S) (number : ℕ) where
-  fed_of_pairs : t ≡ fold write s (fed.u8 number) → u ≡ fold write t (fed.usize (field_count (bare_fields n.entries)) ++ fields_fed (bare_fields n.entries)) → (b : BareExpr) → b ≡ Record (bare_fields n.entries) → number ≡ kind_number b → u ≡ fold write s (shape_fed b)
-  fed_of_pairs first then b is number_is =
-      subst (λ x. number ≡ kind_number x → u ≡ fold write s (shape_fed x)) (sym is)
-      (λ fifteen. then ∙ ap (λ r. fold write r (fed.usize (field_count (bare_fields n.entries)) ++ fields_fed (bare_fields n.entries))) (first ∙ ap (λ x. fold write s (fed.u8 x)) fifteen))
-      number_is
+-- what a node feeds is what the number of its kind and then its fields feed
+module _ {T S : Type 0} (write : S → List ℕ → S) (s t : S) (number : ℕ) (e : Expr T) (k : ExprKind T) where
+  pub fed_of_node : k ≡ kind_of e → number ≡ kind_number (bare_expr_kind k) → t ≡ fold write s (fed.u8 number) → (b : BareExpr) (fields : HashWrites) (u : S)
+      → bare_expr e ≡ b → (fed.u8 (kind_number b) ++ fields) ≡ shape_fed b → u ≡ fold write t fields → u ≡ fold write s (shape_fed (bare_expr e))
+  fed_of_node at number_is first b fields u is joined then =
+      then ∙ ap (λ r. fold write r fields) (first ∙ ap (λ n. fold write s (fed.u8 n)) (number_of e k number at number_is ∙ ap kind_number is))
+      ∙ sym (fold-append write s (fed.u8 (kind_number b)) fields) ∙ ap (fold write s) (joined ∙ ap shape_fed (sym is))
 
-  pub fed_of_record : (e : Expr T) (k l : ExprKind T) (m : Rc (BTreeMap (RcStr Global) (Expr T)) Global) → k ≡ kind_of e → l ≡ kind_of e → l ≡ RecordOf m → n ≡ m.value → number ≡ kind_number (bare_expr_kind k)
-      → t ≡ fold write s (fed.u8 number) → u ≡ fold write t (fed.usize (field_count (bare_fields n.entries)) ++ fields_fed (bare_fields n.entries)) → u ≡ fold write s (shape_fed (bare_expr e))
-  fed_of_record e k l m at again is same number_is first then =
-      fed_of_pairs first then (bare_expr e) (bare_at_map e m n (sym again ∙ is) same) (number_of e k number at number_is)
+pub in_four : {A : Type 0} (x y z w : List A) → (x ++ (y ++ (z ++ w))) ≡ (x ++ y ++ z ++ w)
+in_four x y z w = sym (append_assoc (x ++ y) z w ∙ append_assoc x y (z ++ w))
+
+-- the texts of pointers are fed as texts are
+texts_one_by_one : (ks : List (RcStr Global)) → flat_map (λ k. fed.str (rc_str_bytes k)) ks ≡ flat_map fed.str (map rc_str_bytes ks)
+texts_one_by_one [] = refl
+texts_one_by_one (k ∷ ks) = ap (λ xs. fed.str (rc_str_bytes k) ++ xs) (texts_one_by_one ks)
+
+pub texts_fed : (ks : List (RcStr Global)) → fed.slice (λ k. fed.str (rc_str_bytes k)) ks ≡ fed.slice fed.str (map rc_str_bytes ks)
+texts_fed ks = (λ i. fed.usize (sym (length-map ks rc_str_bytes) i) ++ texts_one_by_one ks i)
+
+-- what is fed in two steps
+pub then_fed : {S : Type 0} (write : S → List ℕ → S) (t m u : S) (a b : HashWrites) → m ≡ fold write t a → u ≡ fold write m b → u ≡ fold write t (a ++ b)
+then_fed write t m u a b first then = then ∙ ap (λ r. fold write r b) first ∙ sym (fold-append write t a b)
 
 module _ {S : Type 0} (write : S → List ℕ → S) (s t u : S) where
   pub all_fed : {T : Type 0} (es rest : List (Expr T)) → rest ≡ [] → t ≡ fold write s (fed.usize (length es))

@@ -3,9 +3,9 @@ use Rattle.std.specs.Prelude.{Bool, IsTrue, ⊤, List, [], ◌∷◌, map, Optio
 use Rattle.std.specs.Global.{Global}
 use Rattle.std.specs.declared.rc.RcStr.{RcStr}
 use Rattle.cedar_builders.specs.Trees.{bool_of}
-use Rattle.cedar_exprs.specs.BareExpr.{bare_expr}
+use Rattle.cedar_exprs.specs.BareExpr.{ExprKind, bare_expr, map_kind}
 use Rattle.cedar_exprs.specs.declared.expr.Expr.{Expr, Expr-F, fold-Expr}
-use Rattle.cedar_exprs.specs.declared.expr.ExprKind.{ExprKind, ExprKind-F, fold-ExprKind}
+use Rattle.cedar_exprs.specs.declared.expr.KindOf.{KindOf}
 
 mutual
   -- the data of a node and of its children
@@ -37,35 +37,35 @@ values_of [] = no_data
 values_of (e ∷ es) = child e.1 (values_of es)
 
 -- one level, whose children are their data already
-abbrev pub kind_data_step : {T : Type 0} → ExprKind-F T (DataTrees T) (DataTree T) → DataTrees T
-kind_data_step (ExprKind-F.Lit l) = no_data
-kind_data_step (ExprKind-F.Var v) = no_data
-kind_data_step (ExprKind-F.Slot s) = no_data
-kind_data_step (ExprKind-F.Unknown u) = no_data
-kind_data_step (ExprKind-F.If a b c) = child a.value (child b.value (child c.value no_data))
-kind_data_step (ExprKind-F.And a b) = child a.value (child b.value no_data)
-kind_data_step (ExprKind-F.Or a b) = child a.value (child b.value no_data)
-kind_data_step (ExprKind-F.UnaryApp o a) = child a.value no_data
-kind_data_step (ExprKind-F.BinaryApp o a b) = child a.value (child b.value no_data)
-kind_data_step (ExprKind-F.ExtensionFunctionApp n es) = datas_of es.value.items
-kind_data_step (ExprKind-F.GetAttr a k) = child a.value no_data
-kind_data_step (ExprKind-F.HasAttr a k) = child a.value no_data
-kind_data_step (ExprKind-F.ExtHasAttr a ks) = child a.value no_data
-kind_data_step (ExprKind-F.Like a p) = child a.value no_data
-kind_data_step (ExprKind-F.Set es) = datas_of es.value.items
-kind_data_step (ExprKind-F.Record es) = values_of es.value.entries
-kind_data_step (ExprKind-F.Is a n) = child a.value no_data
+abbrev pub kind_data_step : {T : Type 0} → KindOf (DataTree T) → DataTrees T
+kind_data_step (KindOf.Lit l) = no_data
+kind_data_step (KindOf.Var v) = no_data
+kind_data_step (KindOf.Slot s) = no_data
+kind_data_step (KindOf.Unknown u) = no_data
+kind_data_step (KindOf.If a b c) = child a.value (child b.value (child c.value no_data))
+kind_data_step (KindOf.And a b) = child a.value (child b.value no_data)
+kind_data_step (KindOf.Or a b) = child a.value (child b.value no_data)
+kind_data_step (KindOf.UnaryApp o a) = child a.value no_data
+kind_data_step (KindOf.BinaryApp o a b) = child a.value (child b.value no_data)
+kind_data_step (KindOf.ExtensionFunctionApp n es) = datas_of es.value.items
+kind_data_step (KindOf.GetAttr a k) = child a.value no_data
+kind_data_step (KindOf.HasAttr a k) = child a.value no_data
+kind_data_step (KindOf.ExtHasAttr a ks) = child a.value no_data
+kind_data_step (KindOf.Like a p) = child a.value no_data
+kind_data_step (KindOf.Set es) = datas_of es.value.items
+kind_data_step (KindOf.Record es) = values_of es.value.entries
+kind_data_step (KindOf.Is a n) = child a.value no_data
 
-abbrev pub data_tree_step : {T : Type 0} → Expr-F T (DataTrees T) (DataTree T) → DataTree T
-data_tree_step e = holds e.«data» e.expr_kind
-
--- the data of the children of a kind
-abbrev pub kind_data : {T : Type 0} → ExprKind T → DataTrees T
-kind_data {T} = fold-ExprKind T (DataTrees T) (DataTree T) kind_data_step data_tree_step
+abbrev pub data_tree_step : {T : Type 0} → Expr-F T (DataTree T) → DataTree T
+data_tree_step e = holds e.«data» (kind_data_step e.expr_kind)
 
 -- the data at each position
 abbrev pub data_tree : {T : Type 0} → Expr T → DataTree T
-data_tree {T} = fold-Expr T (DataTrees T) (DataTree T) kind_data_step data_tree_step
+data_tree {T} = fold-Expr T (DataTree T) data_tree_step
+
+-- the data of the children of a kind
+abbrev pub kind_data : {T : Type 0} → ExprKind T → DataTrees T
+kind_data k = kind_data_step (map_kind data_tree k)
 
 -- the data of one, two or three children
 abbrev pub one_child : {T : Type 0} → Expr T → DataTrees T

@@ -5,32 +5,31 @@ use Rattle.std.specs.Option.{option_copied}
 use Rattle.cedar_names.specs.Place.{Place}
 use Rattle.cedar_names.specs.declared.slot.SlotId.{SlotId}
 use Rattle.cedar_terms.specs.declared.unknown.Unknown.{Unknown}
-use Rattle.cedar_exprs.specs.BareExpr.{expr_place}
+use Rattle.cedar_exprs.specs.BareExpr.{kind_of, expr_place}
 use Rattle.cedar_exprs.specs.Walks.{given_by, referents}
 use Rattle.cedar_exprs.specs.declared.expr.Expr.{Expr}
-use Rattle.cedar_exprs.specs.declared.expr.ExprKind.{out-ExprKind}
-use Rattle.cedar_exprs.specs.declared.expr.ExprKind.TheOpen.{ExprKind-F}
+use Rattle.cedar_exprs.specs.declared.expr.KindOf.{KindOf}
 use Rattle.cedar_exprs.specs.declared.expr_iterator.ExprIterator.{ExprIterator}
 use Rattle.cedar_exprs.specs.declared.expr_iterator.SlotRef.{SlotRef}
 use Rattle.cedar_exprs.specs.declared.expr_iterator.Slots.{Slots}
 use Rattle.cedar_exprs.specs.declared.expr_iterator.Unknowns.{Unknowns}
 
 -- the unknown that a kind is
-abbrev pub unknown_of_kind : {T K E : Type 0} → ExprKind-F T K E → Option Unknown
-unknown_of_kind (ExprKind-F.Unknown u) = Some u
+abbrev pub unknown_of_kind : {E : Type 0} → KindOf E → Option Unknown
+unknown_of_kind (KindOf.Unknown u) = Some u
 unknown_of_kind k = None
 
 abbrev pub unknown_of : {T : Type 0} → Expr T → Option Unknown
-unknown_of {T} e = unknown_of_kind (out-ExprKind T e.expr_kind)
+unknown_of e = unknown_of_kind (kind_of e)
 
 -- the slot that a kind is, with this place
-abbrev pub slot_of_kind : {T K E : Type 0} → Option Place → ExprKind-F T K E → Option (SlotId × Option Place)
-slot_of_kind place (ExprKind-F.Slot s) = Some (s, place)
+abbrev pub slot_of_kind : {E : Type 0} → Option Place → KindOf E → Option (SlotId × Option Place)
+slot_of_kind place (KindOf.Slot s) = Some (s, place)
 slot_of_kind place k = None
 
 -- the slot that an expression is, with its place
 abbrev pub slot_of : {T : Type 0} → Expr T → Option (SlotId × Option Place)
-slot_of {T} e = slot_of_kind (expr_place e) (out-ExprKind T e.expr_kind)
+slot_of e = slot_of_kind (expr_place e) (kind_of e)
 
 -- what a reference to a slot shows
 abbrev pub slot_at : SlotRef → SlotId × Option Place

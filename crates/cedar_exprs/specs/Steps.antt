@@ -4,9 +4,8 @@ use Rattle.std.specs.Global.{Global}
 use Rattle.std.specs.declared.rc.Rc.{Rc}
 use Rattle.std.specs.declared.rc.RcStr.{RcStr}
 use Rattle.cedar_builders.specs.Count.{count}
-use Rattle.cedar_exprs.specs.BareExpr.{bare_expr, bare_expr_kind}
+use Rattle.cedar_exprs.specs.BareExpr.{ExprKind, bare_expr, bare_expr_kind}
 use Rattle.cedar_exprs.specs.declared.expr.Expr.{Expr}
-use Rattle.cedar_exprs.specs.declared.expr.ExprKind.{ExprKind}
 use Rattle.cedar_exprs.specs.declared.expr.Left.{Left}
 use Rattle.cedar_exprs.specs.declared.expr.Step.{Step}
 use Rattle.cedar_exprs.specs.declared.expr.Step.TheVariants.{Into, On, Watched, Row, Fields, End}

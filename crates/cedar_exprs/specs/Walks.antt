@@ -1,52 +1,48 @@
 -- Walks over whole expressions, with their places and data.
 use Rattle.std.specs.Prelude.{ℕ, ◌-◌, ◌^◌, min, List, [], ◌∷◌, map}
 use Rattle.cedar_builders.specs.Walks.{forward, backward, need, need_from}
-use Rattle.cedar_exprs.specs.BareExpr.{bare_expr}
-use Rattle.cedar_exprs.specs.declared.expr.Expr.{Expr, para-Expr, roll-Expr}
-use Rattle.cedar_exprs.specs.declared.expr.ExprKind.{ExprKind, out-ExprKind}
-use Rattle.cedar_exprs.specs.declared.expr.ExprKind.TheOpen.{ExprKind-F, Expr-F}
+use Rattle.cedar_exprs.specs.BareExpr.{ExprKind, bare_expr, kind_of}
+use Rattle.cedar_exprs.specs.declared.expr.Expr.{Expr, Expr-F, para-Expr, roll-Expr}
+use Rattle.cedar_exprs.specs.declared.expr.Expr.TheFolds.{map-Expr}
+use Rattle.cedar_exprs.specs.declared.expr.KindOf.{KindOf}
 use denote.Ref.{Bor}
 
 -- what stands in the places of the children of a kind (`ExprKind` of Cedar's `expr.rs`): fields in order, values by key
-abbrev pub parts : {T K E : Type 0} → ExprKind-F T K E → List E
-parts (ExprKind-F.Lit l) = []
-parts (ExprKind-F.Var v) = []
-parts (ExprKind-F.Slot s) = []
-parts (ExprKind-F.Unknown u) = []
-parts (ExprKind-F.If a b c) = a.value ∷ b.value ∷ c.value ∷ []
-parts (ExprKind-F.And a b) = a.value ∷ b.value ∷ []
-parts (ExprKind-F.Or a b) = a.value ∷ b.value ∷ []
-parts (ExprKind-F.UnaryApp o a) = a.value ∷ []
-parts (ExprKind-F.BinaryApp o a b) = a.value ∷ b.value ∷ []
-parts (ExprKind-F.ExtensionFunctionApp n es) = es.value.items
-parts (ExprKind-F.GetAttr a k) = a.value ∷ []
-parts (ExprKind-F.HasAttr a k) = a.value ∷ []
-parts (ExprKind-F.ExtHasAttr a ks) = a.value ∷ []
-parts (ExprKind-F.Like a p) = a.value ∷ []
-parts (ExprKind-F.Set es) = es.value.items
-parts (ExprKind-F.Record es) = map (λ e. e.1) es.value.entries
-parts (ExprKind-F.Is a n) = a.value ∷ []
+abbrev pub parts : {E : Type 0} → KindOf E → List E
+parts (KindOf.Lit l) = []
+parts (KindOf.Var v) = []
+parts (KindOf.Slot s) = []
+parts (KindOf.Unknown u) = []
+parts (KindOf.If a b c) = a.value ∷ b.value ∷ c.value ∷ []
+parts (KindOf.And a b) = a.value ∷ b.value ∷ []
+parts (KindOf.Or a b) = a.value ∷ b.value ∷ []
+parts (KindOf.UnaryApp o a) = a.value ∷ []
+parts (KindOf.BinaryApp o a b) = a.value ∷ b.value ∷ []
+parts (KindOf.ExtensionFunctionApp n es) = es.value.items
+parts (KindOf.GetAttr a k) = a.value ∷ []
+parts (KindOf.HasAttr a k) = a.value ∷ []
+parts (KindOf.ExtHasAttr a ks) = a.value ∷ []
+parts (KindOf.Like a p) = a.value ∷ []
+parts (KindOf.Set es) = es.value.items
+parts (KindOf.Record es) = map (λ e. e.1) es.value.entries
+parts (KindOf.Is a n) = a.value ∷ []
 
 -- the children of a kind
 abbrev pub kind_children : {T : Type 0} → ExprKind T → List (Expr T)
-kind_children {T} k = parts (out-ExprKind T k)
+kind_children = parts
 
 -- the children of an expression
 abbrev pub children : {T : Type 0} → Expr T → List (Expr T)
-children e = kind_children e.expr_kind
+children e = kind_children (kind_of e)
 
 -- what a step makes of an expression and of what it made of the children
 module _ {T A : Type 0} (step : Expr T → List A → A) where
-  -- of a kind: what was made of the children
-  abbrev pub kind_walked : ExprKind-F T (ExprKind T × List A) (Expr T × A) → List A
-  kind_walked k = map (λ c. c.1) (parts k)
-
-  -- of a node: the step
-  abbrev pub expr_walked : Expr-F T (ExprKind T × List A) (Expr T × A) → A
-  expr_walked e = step (roll-Expr T (record { expr_kind = e.expr_kind.0; source_loc = e.source_loc; «data» = e.«data» })) e.expr_kind.1
+  -- of a node whose children come with what was made of them
+  abbrev pub walked : Expr-F T (Expr T × A) → A
+  walked e = step (roll-Expr T (map-Expr T (Expr T × A) (Expr T) (λ c. c.0) e)) (map (λ c. c.1) (parts e.expr_kind))
 
   unfoldable pub walk : Expr T → A
-  walk = para-Expr T (List A) A kind_walked expr_walked
+  walk = para-Expr T A walked
 
 -- each node before its children, the first child first
 abbrev pub preorder : {T : Type 0} → Expr T → List (Expr T)

@@ -15,10 +15,12 @@ use std::collections::BTreeMap;
 use std::mem;
 use std::rc::{Rc, RcStr};
 
-/// The kinds of expressions. Match on it to walk over a tree.
-#[cycle(expr)]
+/// The kind of an expression. Match on it to walk over a tree.
+pub type ExprKind<T = ()> = KindOf<Expr<T>>;
+
+/// The kinds of expressions, over children of any type: `ExprKind` has expressions there.
 #[derive(Debug, PartialEq, Eq, Hash, Drop)]
-pub enum ExprKind<T = ()> {
+pub enum KindOf<E> {
     /// A literal.
     Lit(Literal),
     /// A variable of the request.
@@ -29,63 +31,63 @@ pub enum ExprKind<T = ()> {
     Unknown(Unknown),
     /// The second where the first holds, else the third.
     If {
-        test_expr: Rc<Expr<T>>,
-        then_expr: Rc<Expr<T>>,
-        else_expr: Rc<Expr<T>>,
+        test_expr: Rc<E>,
+        then_expr: Rc<E>,
+        else_expr: Rc<E>,
     },
     /// Both sides hold; the right one counts only where the left one holds.
     And {
-        left: Rc<Expr<T>>,
-        right: Rc<Expr<T>>,
+        left: Rc<E>,
+        right: Rc<E>,
     },
     /// Either side holds; the right one counts only where the left one does not hold.
     Or {
-        left: Rc<Expr<T>>,
-        right: Rc<Expr<T>>,
+        left: Rc<E>,
+        right: Rc<E>,
     },
     /// An operator on one argument.
     UnaryApp {
         op: UnaryOp,
-        arg: Rc<Expr<T>>,
+        arg: Rc<E>,
     },
     /// An operator on two arguments.
     BinaryApp {
         op: BinaryOp,
-        arg1: Rc<Expr<T>>,
-        arg2: Rc<Expr<T>>,
+        arg1: Rc<E>,
+        arg2: Rc<E>,
     },
     /// A call of an extension function.
     ExtensionFunctionApp {
         fn_name: Name,
-        args: Rc<Vec<Expr<T>>>,
+        args: Rc<Vec<E>>,
     },
     /// An attribute of an entity or a field of a record.
     GetAttr {
-        expr: Rc<Expr<T>>,
+        expr: Rc<E>,
         attr: RcStr,
     },
     /// Whether an entity has an attribute, or a record a field.
     HasAttr {
-        expr: Rc<Expr<T>>,
+        expr: Rc<E>,
         attr: RcStr,
     },
     /// Whether the first attribute is there, and in it the second, and so on.
     ExtHasAttr {
-        expr: Rc<Expr<T>>,
+        expr: Rc<E>,
         attrs: NonEmpty<RcStr>,
     },
     /// Whether a text matches a pattern.
     Like {
-        expr: Rc<Expr<T>>,
+        expr: Rc<E>,
         pattern: Pattern,
     },
     /// A set by its members, in the order in which they were written.
-    Set(Rc<Vec<Expr<T>>>),
+    Set(Rc<Vec<E>>),
     /// A record by its keys and values.
-    Record(Rc<BTreeMap<RcStr, Expr<T>>>),
+    Record(Rc<BTreeMap<RcStr, E>>),
     /// Whether an entity has a type.
     Is {
-        expr: Rc<Expr<T>>,
+        expr: Rc<E>,
         entity_type: EntityType,
     },
 }
@@ -94,11 +96,10 @@ pub enum ExprKind<T = ()> {
 /// on each node.
 ///
 /// Equality and hash see the kind and the data, and no place.
-#[cycle(expr)]
 #[derive(Debug)]
 #[derive_where(PartialEq, Eq, Hash; T)]
 pub struct Expr<T = ()> {
-    expr_kind: ExprKind<T>,
+    pub(crate) expr_kind: ExprKind<T>,
     #[derive_where(skip(EqHashOrd))]
     source_loc: Option<Loc>,
     data: T,
@@ -257,6 +258,7 @@ fn go_through<T: Drop>(
 }
 
 // Into a child, whose block then holds the rest.
+#[tactic(auto, using(crate::proofs::Fewer::nodes_of, crate::proofs::Fewer::written_node))]
 fn go_down<T: Drop>(child: Rc<Expr<T>>, rest: ExprKind<T>, rows: Option<ExprKind<T>>) -> Step<T>
     ensures { IsStep (suc (nodes child.value))
         (nodes child.value + kind_nodes rest + if_row rows) result }

@@ -26,7 +26,7 @@ mod validation;
 
 pub use builder::ExprBuilder;
 pub use cedar_builders::SubstitutionError;
-pub use expr::{Expr, ExprKind};
+pub use expr::{Expr, ExprKind, KindOf};
 pub use expr_iterator::{ExprIterator, SlotRef, Slots, Unknowns};
 pub use expr_shape_only::ExprShapeOnly;
 pub use function_tables::{CallStyle, ExprValidationError, FunctionTable};

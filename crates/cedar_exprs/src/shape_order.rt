@@ -41,20 +41,20 @@ impl<T> Expr<T> {
 pub(crate) fn cmp_shape<T, U>(a: &Expr<T>, b: &Expr<U>) -> Ordering
     ensures { result ≡ shape_cmp (bare_expr a.now) (bare_expr b.now) }
 {
-    match a.expr_kind() {
-        ExprKind::Lit(literal) => match b.expr_kind() {
+    match &a.expr_kind {
+        ExprKind::Lit(literal) => match &b.expr_kind {
             ExprKind::Lit(other_literal) => literal.cmp(other_literal),
             _ => cmp_kinds(a, b),
         },
-        ExprKind::Var(var) => match b.expr_kind() {
+        ExprKind::Var(var) => match &b.expr_kind {
             ExprKind::Var(other_var) => var.cmp(other_var),
             _ => cmp_kinds(a, b),
         },
-        ExprKind::Slot(slot) => match b.expr_kind() {
+        ExprKind::Slot(slot) => match &b.expr_kind {
             ExprKind::Slot(other_slot) => slot.cmp(other_slot),
             _ => cmp_kinds(a, b),
         },
-        ExprKind::Unknown(unknown) => match b.expr_kind() {
+        ExprKind::Unknown(unknown) => match &b.expr_kind {
             ExprKind::Unknown(other_unknown) => cmp_unknown(unknown, other_unknown),
             _ => cmp_kinds(a, b),
         },
@@ -62,7 +62,7 @@ pub(crate) fn cmp_shape<T, U>(a: &Expr<T>, b: &Expr<U>) -> Ordering
             test_expr,
             then_expr,
             else_expr,
-        } => match b.expr_kind() {
+        } => match &b.expr_kind {
             ExprKind::If {
                 test_expr: other_test_expr,
                 then_expr: other_then_expr,
@@ -76,7 +76,7 @@ pub(crate) fn cmp_shape<T, U>(a: &Expr<T>, b: &Expr<U>) -> Ordering
             },
             _ => cmp_kinds(a, b),
         },
-        ExprKind::And { left, right } => match b.expr_kind() {
+        ExprKind::And { left, right } => match &b.expr_kind {
             ExprKind::And {
                 left: other_left,
                 right: other_right,
@@ -86,7 +86,7 @@ pub(crate) fn cmp_shape<T, U>(a: &Expr<T>, b: &Expr<U>) -> Ordering
             },
             _ => cmp_kinds(a, b),
         },
-        ExprKind::Or { left, right } => match b.expr_kind() {
+        ExprKind::Or { left, right } => match &b.expr_kind {
             ExprKind::Or {
                 left: other_left,
                 right: other_right,
@@ -96,7 +96,7 @@ pub(crate) fn cmp_shape<T, U>(a: &Expr<T>, b: &Expr<U>) -> Ordering
             },
             _ => cmp_kinds(a, b),
         },
-        ExprKind::UnaryApp { op, arg } => match b.expr_kind() {
+        ExprKind::UnaryApp { op, arg } => match &b.expr_kind {
             ExprKind::UnaryApp {
                 op: other_op,
                 arg: other_arg,
@@ -106,7 +106,7 @@ pub(crate) fn cmp_shape<T, U>(a: &Expr<T>, b: &Expr<U>) -> Ordering
             },
             _ => cmp_kinds(a, b),
         },
-        ExprKind::BinaryApp { op, arg1, arg2 } => match b.expr_kind() {
+        ExprKind::BinaryApp { op, arg1, arg2 } => match &b.expr_kind {
             ExprKind::BinaryApp {
                 op: other_op,
                 arg1: other_arg1,
@@ -120,7 +120,7 @@ pub(crate) fn cmp_shape<T, U>(a: &Expr<T>, b: &Expr<U>) -> Ordering
             },
             _ => cmp_kinds(a, b),
         },
-        ExprKind::ExtensionFunctionApp { fn_name, args } => match b.expr_kind() {
+        ExprKind::ExtensionFunctionApp { fn_name, args } => match &b.expr_kind {
             ExprKind::ExtensionFunctionApp {
                 fn_name: other_fn_name,
                 args: other_args,
@@ -130,7 +130,7 @@ pub(crate) fn cmp_shape<T, U>(a: &Expr<T>, b: &Expr<U>) -> Ordering
             },
             _ => cmp_kinds(a, b),
         },
-        ExprKind::GetAttr { expr, attr } => match b.expr_kind() {
+        ExprKind::GetAttr { expr, attr } => match &b.expr_kind {
             ExprKind::GetAttr {
                 expr: other_expr,
                 attr: other_attr,
@@ -140,7 +140,7 @@ pub(crate) fn cmp_shape<T, U>(a: &Expr<T>, b: &Expr<U>) -> Ordering
             },
             _ => cmp_kinds(a, b),
         },
-        ExprKind::HasAttr { expr, attr } => match b.expr_kind() {
+        ExprKind::HasAttr { expr, attr } => match &b.expr_kind {
             ExprKind::HasAttr {
                 expr: other_expr,
                 attr: other_attr,
@@ -150,7 +150,7 @@ pub(crate) fn cmp_shape<T, U>(a: &Expr<T>, b: &Expr<U>) -> Ordering
             },
             _ => cmp_kinds(a, b),
         },
-        ExprKind::ExtHasAttr { expr, attrs } => match b.expr_kind() {
+        ExprKind::ExtHasAttr { expr, attrs } => match &b.expr_kind {
             ExprKind::ExtHasAttr {
                 expr: other_expr,
                 attrs: other_attrs,
@@ -160,7 +160,7 @@ pub(crate) fn cmp_shape<T, U>(a: &Expr<T>, b: &Expr<U>) -> Ordering
             },
             _ => cmp_kinds(a, b),
         },
-        ExprKind::Like { expr, pattern } => match b.expr_kind() {
+        ExprKind::Like { expr, pattern } => match &b.expr_kind {
             ExprKind::Like {
                 expr: other_expr,
                 pattern: other_pattern,
@@ -170,15 +170,15 @@ pub(crate) fn cmp_shape<T, U>(a: &Expr<T>, b: &Expr<U>) -> Ordering
             },
             _ => cmp_kinds(a, b),
         },
-        ExprKind::Set(members) => match b.expr_kind() {
+        ExprKind::Set(members) => match &b.expr_kind {
             ExprKind::Set(other_members) => cmp_members(members, other_members),
             _ => cmp_kinds(a, b),
         },
-        ExprKind::Record(pairs) => match b.expr_kind() {
+        ExprKind::Record(pairs) => match &b.expr_kind {
             ExprKind::Record(other_pairs) => cmp_pairs(pairs, other_pairs),
             _ => cmp_kinds(a, b),
         },
-        ExprKind::Is { expr, entity_type } => match b.expr_kind() {
+        ExprKind::Is { expr, entity_type } => match &b.expr_kind {
             ExprKind::Is {
                 expr: other_expr,
                 entity_type: other_entity_type,
@@ -249,6 +249,7 @@ fn cmp_pairs<T, U>(ps: &BTreeMap<RcStr, Expr<T>>, qs: &BTreeMap<RcStr, Expr<U>>)
 }
 
 // By the numbers of the kinds.
+#[tactic(auto, using(crate::proofs::ShapeWalks::number_of))]
 fn cmp_kinds<T, U>(a: &Expr<T>, b: &Expr<U>) -> Ordering
     ensures { result ≡ nat_cmp (kind_number (bare_expr a.now)) (kind_number (bare_expr b.now)) }
 {

@@ -9,12 +9,10 @@ use Rattle.std.proofs.lemmas.List.Folds.{find-append}
 use Rattle.cedar_names.specs.Place.{Place}
 use Rattle.cedar_builders.specs.Walks as bare
 use Rattle.cedar_builders.specs.Walks.{forward}
-use Rattle.cedar_exprs.specs.BareExpr.{bare_expr, expr_place, kind_of}
-use Rattle.cedar_exprs.specs.Walks.{parts, children, preorder}
+use Rattle.cedar_exprs.specs.BareExpr.{ExprKind, bare_expr, expr_place, kind_of}
+use Rattle.cedar_exprs.specs.Walks.{kind_children, children, preorder}
 use Rattle.cedar_exprs.specs.declared.expr.Expr.{Expr}
-use Rattle.cedar_exprs.specs.declared.expr.ExprKind.{ExprKind, out-ExprKind}
-use Rattle.cedar_exprs.specs.declared.expr.ExprKind.TheOpen.{ExprKind-F}
-use Rattle.cedar_exprs.specs.declared.expr.ExprKind.TheVariants.{Set, Record, outs-Set, outs-Record}
+use Rattle.cedar_exprs.specs.declared.expr.KindOf.TheVariants.{Set, Record}
 use Rattle.value_trees.specs.Reading.{is_readable_node, is_readable}
 use Rattle.cedar_values.specs.NotReadable.{is_not_readable, first_not_readable, first_not_readable_of, IsNotValueAt, IsAnswerWhere}
 use Rattle.cedar_values.specs.declared.not_value.NotValue.{NotValue}
@@ -52,17 +50,17 @@ module _ {T : Type 0} (o : InPreorder T) where
   other e loc h is = ap (option_map expr_place) (at_node false e h) ∙ ap Some (sym is)
 
   -- a set and a record have the first of what is in them
-  below : (e : Expr T) (k : ExprKind T) (x : ExprKind-F T (ExprKind T) (Expr T)) → kind_of e ≡ k → out-ExprKind T k ≡ x → is_readable_node (bare_expr e) ≡ true → first_not_readable_of (parts x) ≡ first_not_readable e
-  below e k x is made h = sym (at_node true e h ∙ ap (λ y. first_not_readable_of (parts y)) (ap (out-ExprKind T) is ∙ made))
+  below : (e : Expr T) (k : ExprKind T) → kind_of e ≡ k → is_readable_node (bare_expr e) ≡ true → first_not_readable_of (kind_children k) ≡ first_not_readable e
+  below e k is h = sym (at_node true e h ∙ ap (λ k. first_not_readable_of (kind_children k)) is)
 
   pub passes_set : (e : Expr T) (es : Rc (Vec (Expr T) Global) Global) (v : Vec (Expr T) Global) → kind_of e ≡ Set es → v ≡ es.value → first_not_readable_of v.items ≡ first_not_readable e
   passes_set e es v is at =
-      ap (λ (w : Vec (Expr T) Global). first_not_readable_of w.items) at ∙ below e (Set es) _ is (outs-Set es) (ap is_readable_node (bare_at_set e es is))
+      ap (λ (w : Vec (Expr T) Global). first_not_readable_of w.items) at ∙ below e (Set es) is (ap is_readable_node (bare_at_set e es is))
 
   pub passes_record : (e : Expr T) (es : Rc (BTreeMap (RcStr Global) (Expr T)) Global) (v : BTreeMap (RcStr Global) (Expr T)) → kind_of e ≡ Record es → v ≡ es.value → first_not_readable_of (map (λ e. e.1) v.entries) ≡ first_not_readable e
   passes_record e es v is at =
       ap (λ (w : BTreeMap (RcStr Global) (Expr T)). first_not_readable_of (map (λ e. e.1) w.entries)) at
-      ∙ below e (Record es) _ is (outs-Record es) (ap is_readable_node (bare_at_record e es is))
+      ∙ below e (Record es) is (ap is_readable_node (bare_at_record e es is))
 
   -- no such node is found just in readable expressions
   decided : (e : Expr T) → is_none (first_not_readable e) ≡ is_readable (bare_expr e)

@@ -13,7 +13,7 @@ use Rattle.rising.specs.Images.{classes_of_images}
 use Rattle.cedar_builders.specs.BareExpr as tree
 use Rattle.cedar_exprs.specs.BareExpr.{bare_expr, bare_exprs, bare_fields, kind_of}
 use Rattle.cedar_exprs.specs.declared.expr.Expr.{Expr}
-use Rattle.cedar_exprs.specs.declared.expr.ExprKind.TheVariants as Kind
+use Rattle.cedar_exprs.specs.declared.expr.KindOf.TheVariants as Kind
 use Rattle.value_trees.specs.BareValue.{RecordValue}
 use Rattle.value_trees.specs.ValueOrder.{value_cmp}
 use Rattle.value_trees.specs.Reading.{IsValueOf, AreValuesOf, ArePairsOf}

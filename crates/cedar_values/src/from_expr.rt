@@ -1,7 +1,7 @@
 //! The value of an expression (`value.rs`).
 ghost use Rattle.std.specs.Prelude.{◌≡◌, IsTrue, IfOk, MatchResult, map};
 ghost use Rattle.std.specs.List.{list_all};
-ghost use Rattle.cedar_exprs.specs.BareExpr.{bare_expr, bare_exprs, bare_fields, expr_place};
+ghost use Rattle.cedar_exprs.specs.BareExpr.{bare_expr, bare_exprs, bare_fields, expr_place, kind_of};
 ghost use Rattle.value_trees.specs.Reading.{IsValueOf, AreValuesOf, ArePairsOf, is_readable};
 ghost use Rattle.cedar_values.specs.BareValues.{bare_value, bare_value_kind, value_place};
 ghost use Rattle.cedar_values.specs.Conversions.{bare_pairs};
@@ -81,7 +81,7 @@ fn kind_of_expr<X: ExtensionValue + Ord>(
 {
     nodes_in_preorder::<()>();
     values_are_ordered::<X>();
-    match expr.expr_kind() {
+    match expr_kind(expr) {
         ExprKind::Lit(literal) => Ok(ValueKind::Lit(literal.clone(alloc)?)),
         ExprKind::Set(members) => {
             let values = values_of(alloc, members)?;
@@ -95,6 +95,14 @@ fn kind_of_expr<X: ExtensionValue + Ord>(
             loc: Loc::clone_option(alloc, expr.source_loc())?,
         }),
     }
+}
+
+// The kind of an expression without data. Where the recursion asks for it itself, the checker
+// compares types without end.
+fn expr_kind(expr: &Expr<()>) -> &ExprKind
+    ensures { result.now ≡ kind_of expr.now }
+{
+    expr.expr_kind()
 }
 
 // The values of a list of expressions.

@@ -1,4 +1,4 @@
-use Rattle.std.proofs.Common.{◌≡◌, Ok, map, ap, ◌∙◌, sym}
+use Rattle.std.proofs.Common.{Ok, map, ap, ◌∙◌}
 use Rattle.cedar_builders.specs.NodeByNode.{keyed}
 use Rattle.cedar_exprs.specs.BareExpr.{bare_fields}
 use Rattle.cedar_exprs.proofs.KeyedValues.{meant_keyed}

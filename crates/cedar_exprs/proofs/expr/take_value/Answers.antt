@@ -1,7 +1,7 @@
 use Rattle.std.proofs.Common.{◌≡◌, arith, sym, ap, ◌∙◌, subst}
 use Rattle.std.specs.Option.{IfNone}
 use Rattle.cedar_exprs.specs.Steps.{if_row, field_nodes}
-use Rattle.cedar_exprs.proofs.Fewer.{last_pair_off, nodes_of, no_fields, has_first, first_replaced}
+use Rattle.cedar_exprs.proofs.Fewer.{last_pair_off, nodes_of, no_fields, has_first, written_kind, first_replaced}
 use Rattle.cedar_exprs.proofs.expr.take_value.Goals as goal
 
 pub returns-in-Some-first_entry-clause-taken : goal.returns-in-Some-first_entry-clause-taken
@@ -11,7 +11,7 @@ returns-in-Some-first_entry-clause-taken g c =
     let first = sym entry.value.0 ∙ c.into_mut.ensures.value in
     let put = ap (λ m. m.entries) ends ∙ entry.update.1 _ in
     let row = ap if_row c.in-Some.is in
-    let sum = first_replaced {T = g.row.T.Denot} c.args.pairs.now.entries _ _ c.into_mut.result.now _ c.replace.result c.in-Some.next entry.key first put c.replace.ensures.value (sym c.replace.ensures.after) in
+    let sum = first_replaced {T = g.row.T.Denot} c.args.pairs.now.entries _ _ c.into_mut.result.now _ c.replace.result c.in-Some.next entry.key first put c.replace.ensures.value (sym c.replace.ensures.after ∙ sym (written_kind _)) in
     omega (arith, sum, row)
 
 pub returns-in-Some-first_entry-clause-smaller : goal.returns-in-Some-first_entry-clause-smaller

@@ -1,4 +1,4 @@
-use Rattle.std.proofs.Common.{◌≡◌, ap, sym, ◌∙◌, subst, ◌<◌, length, []}
+use Rattle.std.proofs.Common.{◌≡◌, ap, sym, ◌∙◌, subst, ◌<◌, length}
 use Rattle.cedar_exprs.specs.Children.{children_left}
 use Rattle.cedar_exprs.specs.Walks.{children, preorder}
 use Rattle.cedar_exprs.proofs.Walks.{counted, fewer_below, fewer_rest}

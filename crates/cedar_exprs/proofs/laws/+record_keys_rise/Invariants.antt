@@ -1,6 +1,5 @@
-use Rattle.std.proofs.Common.{◌<◌, ◌≡◌, length}
-use Rattle.std.specs.Prelude.{All}
-use Rattle.cedar_builders.specs.RisingKeys.{NodeKeysRise, KeysRise}
+use Rattle.std.proofs.Common.{◌<◌, length}
+use Rattle.cedar_builders.specs.RisingKeys.{KeysRise}
 use Rattle.cedar_exprs.specs.BareExpr.{bare_expr}
 use Rattle.cedar_exprs.specs.Children.{children_left}
 use Rattle.cedar_exprs.specs.Walks.{preorder}

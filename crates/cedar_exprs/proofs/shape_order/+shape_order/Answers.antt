@@ -1,10 +1,18 @@
 use Rattle.std.proofs.Common.{◌∙◌, sym, arith, nat_cmp}
-use Rattle.cedar_exprs.proofs.ShapeWalks.{cmp_of_records, uneven, even, uneven_pairs, even_pairs, differ_here, same_so_far}
+use Rattle.cedar_exprs.proofs.ShapeWalks.{cmp_of_records, cmp_of_sets, cmp_of_calls, uneven, even, uneven_pairs, even_pairs, differ_here, same_so_far}
 use Rattle.cedar_exprs.proofs.shape_order.+shape_order.Goals as goal
 
 pub cmp_shape-returns-in-Record-expr_kind : goal.cmp_shape-returns-in-Record-expr_kind
 cmp_shape-returns-in-Record-expr_kind g t c =
-    cmp_of_records c.args.a.now c.args.b.now c.in-Record.pairs c.in-Record-expr_kind.other_pairs _ _ _ (sym c.expr_kind.ensures ∙ c.in-Record.is) (sym c.expr_kind-in-Record.ensures ∙ c.in-Record-expr_kind.is) c.deref-in-Record-expr_kind.ensures c.deref-in-Record-expr_kind-2.ensures c.cmp_pairs.ensures
+    cmp_of_records c.args.a.now c.args.b.now c.in-Record.pairs c.in-Record-expr_kind.other_pairs _ _ _ c.in-Record.is c.in-Record-expr_kind.is c.deref-in-Record-expr_kind.ensures c.deref-in-Record-expr_kind-2.ensures c.cmp_pairs.ensures
+
+pub cmp_shape-returns-in-Set-expr_kind : goal.cmp_shape-returns-in-Set-expr_kind
+cmp_shape-returns-in-Set-expr_kind g t c =
+    cmp_of_sets c.args.a.now c.args.b.now c.in-Set.members c.in-Set-expr_kind.other_members _ _ _ _ _ c.in-Set.is c.in-Set-expr_kind.is c.deref-in-Set-expr_kind.ensures c.deref-in-Set-expr_kind-3.ensures c.deref-in-Set-expr_kind-2.ensures.value c.deref-in-Set-expr_kind-4.ensures.value c.cmp_members-in-Set-expr_kind.ensures
+
+pub cmp_shape-returns-in-Equal-cmp : goal.cmp_shape-returns-in-Equal-cmp
+cmp_shape-returns-in-Equal-cmp g t c =
+    cmp_of_calls c.args.a.now c.args.b.now c.in-ExtensionFunctionApp.args c.in-ExtensionFunctionApp-expr_kind.other_args _ _ _ _ _ c.in-ExtensionFunctionApp.fn_name c.in-ExtensionFunctionApp-expr_kind.other_fn_name c.in-ExtensionFunctionApp.is c.in-ExtensionFunctionApp-expr_kind.is (sym c.cmp-in-ExtensionFunctionApp-expr_kind.ensures ∙ c.in-Equal-cmp.is) c.deref-in-Equal-cmp.ensures c.deref-in-Equal-cmp-3.ensures c.deref-in-Equal-cmp-2.ensures.value c.deref-in-Equal-cmp-4.ensures.value c.cmp_members.ensures
 
 pub cmp_members-returns-then-is_ne : goal.cmp_members-returns-then-is_ne
 cmp_members-returns-then-is_ne g t c = uneven c.args.es.now c.args.fs.now c.cmp-counts.result c.cmp-counts.ensures c.if-is_ne.ensures

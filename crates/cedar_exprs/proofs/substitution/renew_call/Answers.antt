@@ -1,4 +1,4 @@
-use Rattle.std.proofs.Common.{◌≡◌, Ok, map, ap, ◌∙◌, sym, arith}
+use Rattle.std.proofs.Common.{Ok, map, ap, ◌∙◌, sym, arith}
 use Rattle.cedar_names.specs.PlainNames.{bare_name}
 use Rattle.cedar_builders.specs.BareExpr.{ExtensionFunctionApp, trees_of}
 use Rattle.cedar_builders.specs.Rebuilding.{all_new_or}

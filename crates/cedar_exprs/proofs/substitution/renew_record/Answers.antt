@@ -1,8 +1,7 @@
-use Rattle.std.proofs.Common.{◌≡◌, Ok, length, map, ap, ◌∙◌, sym, arith}
+use Rattle.std.proofs.Common.{Ok, map, ap, ◌∙◌, sym}
 use Rattle.cedar_builders.specs.BareExpr.{Record, fields_of}
 use Rattle.cedar_builders.specs.NodeByNode.{keyed}
 use Rattle.cedar_builders.specs.Rebuilding.{all_new_or}
-use Rattle.cedar_builders.specs.Walks.{values_of}
 use Rattle.cedar_exprs.specs.BareExpr.{bare_expr, bare_fields}
 use Rattle.cedar_exprs.specs.Renewal.{new_tree}
 use Rattle.cedar_exprs.proofs.ChildrenOf.{values_of-fields, values-length}

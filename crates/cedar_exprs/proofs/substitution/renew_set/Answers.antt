@@ -1,7 +1,7 @@
-use Rattle.std.proofs.Common.{◌≡◌, Ok, map, ap, ◌∙◌, sym, arith}
+use Rattle.std.proofs.Common.{Ok, map, ap, ◌∙◌, sym, arith}
 use Rattle.cedar_builders.specs.BareExpr.{Set, trees_of}
 use Rattle.cedar_builders.specs.Rebuilding.{all_new_or}
-use Rattle.cedar_exprs.specs.BareExpr.{bare_expr, bare_exprs}
+use Rattle.cedar_exprs.specs.BareExpr.{bare_expr}
 use Rattle.cedar_exprs.specs.Renewal.{new_tree}
 use Rattle.cedar_exprs.proofs.ChildrenOf.{members_of-trees_of, members-length}
 use Rattle.cedar_exprs.proofs.substitution.renew_set.Goals as goal

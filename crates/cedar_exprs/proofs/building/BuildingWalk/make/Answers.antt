@@ -1,10 +1,10 @@
-use Rattle.std.proofs.Common.{◌≡◌, Ok, length, map, ap, ◌∙◌, sym, arith, vec_len}
+use Rattle.std.proofs.Common.{Ok, length, map, ap, ◌∙◌, sym, arith}
 use Rattle.cedar_names.specs.PlainNames.{bare_name}
 use Rattle.cedar_builders.specs.BareExpr.{ExtensionFunctionApp, Set, Record}
 use Rattle.cedar_builders.specs.Environment.{own}
 use Rattle.cedar_builders.specs.NodeByNode.{IsBuiltOf}
-use Rattle.cedar_builders.specs.Walks.{members_of, values_of, children}
-use Rattle.cedar_exprs.specs.BareExpr.{bare_expr, bare_exprs, bare_fields}
+use Rattle.cedar_builders.specs.Walks.{children}
+use Rattle.cedar_exprs.specs.BareExpr.{bare_exprs, bare_fields}
 use Rattle.cedar_exprs.specs.Machine.{IsMade, Takes}
 use Rattle.cedar_exprs.proofs.ChildrenOf.{bare_at_call, bare_at_set, bare_at_map, members-length, values-length, at_tree}
 use Rattle.cedar_exprs.proofs.building.BuildingWalk.make.Goals as goal

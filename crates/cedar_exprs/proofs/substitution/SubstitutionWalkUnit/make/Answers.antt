@@ -1,5 +1,4 @@
-use Rattle.std.proofs.Common.{◌≡◌, Some, Ok, [], length, map, refl, ap, ◌∙◌, sym, arith, append-nil}
-use Rattle.std.specs.Rc.{rc_str_bytes}
+use Rattle.std.proofs.Common.{Some, Ok, [], length, map, refl, ap, ◌∙◌, sym, arith, append-nil}
 use Rattle.cedar_names.specs.PlainNames.{bare_name}
 use Rattle.cedar_terms.specs.Entities.{bare_entity_type}
 use Rattle.cedar_terms.specs.Unknowns.{bare_unknown}
