@@ -1,3 +1,4 @@
+mod answers;
 mod bounded_text;
 mod coin;
 mod deep;

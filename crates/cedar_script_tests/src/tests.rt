@@ -4,56 +4,69 @@ mod readers;
 mod writers;
 
 use cedar_script::{RunFault, run};
-use std::alloc::{AllocError, Global};
+use std::fmt::Debug;
 use std::io::Read;
 use std::process::Abort;
-use std::test::Fail;
 
-// Runs a script, and gives what it writes, the text of its fault, empty where it has none, and its status.
-fn play(alloc: Global, mut script: &[u8]) -> Result<(String, String, u8), Fail> {
-    play_from(alloc, &mut script)
+// What was made; where nothing was, the test ends.
+fn made<T: Drop, E: Debug + Drop>(rt: &impl Abort, answer: Result<T, E>) -> T {
+    answer.expect(rt, "made")
 }
 
-// The same from any reader.
-fn play_from<R: Read>(alloc: Global, reader: &mut R) -> Result<(String, String, u8), Fail> {
-    let mut shown = Vec::new(alloc);
-    let (fault, status) = ended(alloc, run(alloc, reader, &mut shown))?;
-    Ok((String::from_utf8(shown)?, fault, status))
+// What a run wrote, the text of its fault, empty where it has none, and its status.
+#[derive(Drop)]
+struct Played {
+    shown: String,
+    fault: String,
+    status: u8,
 }
 
-// The text of a run's fault, empty where it has none, and its status.
-fn ended(alloc: Global, end: Result<(), RunFault>) -> Result<(String, u8), Fail> {
-    match end {
-        Ok(()) => Ok((String::new(alloc), 0)),
-        Err(fault) => Ok((fault.to_string(alloc)?, fault.status())),
+impl Played {
+    fn new(rt: &(impl Abort + AllocGlobal), shown: Vec<u8>, end: Result<(), RunFault>) -> Played {
+        let shown = made(rt, String::from_utf8(shown));
+        match end {
+            Ok(()) => Played {
+                shown,
+                fault: String::new(rt.alloc()),
+                status: 0,
+            },
+            Err(fault) => Played {
+                shown,
+                fault: made(rt, fault.to_string(rt.alloc())),
+                status: fault.status(),
+            },
+        }
+    }
+
+    fn is(&self, shown: &str, fault: &str, status: u8) -> bool {
+        self.shown.as_str() == shown && self.fault.as_str() == fault && self.status == status
     }
 }
 
-// Checks that a script comes to its end and shows this.
-fn assert_shows(rt: &(impl Abort + AllocGlobal), script: &str, shown: &str) -> Result<(), Fail> {
-    let played = play(rt.alloc(), script.as_bytes())?;
-    assert_eq!(rt; played.0.as_str(), shown, "shown by {script:?}");
-    assert_eq!(rt; played.1.as_str(), "", "fault of {script:?}");
-    assert_eq!(rt; played.2, 0, "status of {script:?}");
-    Ok(())
+// Runs a script.
+fn play(rt: &(impl Abort + AllocGlobal), mut script: &[u8]) -> Played {
+    play_from(rt, &mut script)
 }
 
-// Checks that a line of a script is refused after this was shown.
-fn assert_refused(
-    rt: &(impl Abort + AllocGlobal),
-    script: &[u8],
-    shown: &str,
-    fault: &str,
-) -> Result<(), Fail> {
-    let played = play(rt.alloc(), script)?;
-    assert_eq!(rt; played.0.as_str(), shown, "shown by {script:?}");
-    assert_eq!(rt; played.1.as_str(), fault, "fault of {script:?}");
-    assert_eq!(rt; played.2, 1, "status of {script:?}");
-    Ok(())
+// The same from any reader.
+fn play_from<R: Read>(rt: &(impl Abort + AllocGlobal), reader: &mut R) -> Played {
+    let mut shown = Vec::new(rt.alloc());
+    let end = run(rt.alloc(), reader, &mut shown);
+    Played::new(rt, shown, end)
+}
+
+// Whether a script comes to its end and shows this.
+fn shows(rt: &(impl Abort + AllocGlobal), script: &str, shown: &str) -> bool {
+    play(rt, script.as_bytes()).is(shown, "", 0)
+}
+
+// Whether a line of a script is refused after this was shown.
+fn refuses(rt: &(impl Abort + AllocGlobal), script: &[u8], shown: &str, fault: &str) -> bool {
+    play(rt, script).is(shown, fault, 1)
 }
 
 #[test]
-fn scripts_show_trees(rt: HostRuntime) -> Result<(), Fail> {
+fn scripts_show_trees(rt: HostRuntime) {
     let table = [
         ("", ""),
         ("\n\n\n", ""),
@@ -136,13 +149,12 @@ fn scripts_show_trees(rt: HostRuntime) -> Result<(), Fail> {
         ("long 1\n\n\nshow", "1\n"),
     ];
     for (script, shown) in table {
-        assert_shows(&rt, script, shown)?;
+        assert!(rt; shows(&rt, script, shown), "{script:?}");
     }
-    Ok(())
 }
 
 #[test]
-fn the_kinds_with_names_show(rt: HostRuntime) -> Result<(), Fail> {
+fn the_kinds_with_names_show(rt: HostRuntime) {
     let table = [
         ("slot resource\nis A::B\nshow\n", "(is ?resource A::B)\n"),
         (
@@ -178,14 +190,19 @@ fn the_kinds_with_names_show(rt: HostRuntime) -> Result<(), Fail> {
         ),
     ];
     for (script, shown) in table {
-        assert_shows(&rt, script, shown)?;
+        assert!(rt; shows(&rt, script, shown), "{script:?}");
     }
-    Ok(())
+}
+
+// Whether what stands behind `like` and a space is read as the pattern with this text.
+fn is_read_as(rt: &(impl Abort + AllocGlobal), spelled: &str, pattern: &str) -> bool {
+    let script = format!(in rt.alloc(); "string s\nlike {spelled}\nshow\n");
+    let shown = format!(in rt.alloc(); "(like \"s\" \"{pattern}\")\n");
+    shows(rt, made(rt, script).as_str(), made(rt, shown).as_str())
 }
 
 #[test]
-fn patterns_are_read_and_shown(rt: HostRuntime) -> Result<(), Fail> {
-    // What stands behind `like` and a space, and the text of its pattern.
+fn patterns_are_read_and_shown(rt: HostRuntime) {
     let table = [
         ("", ""),
         ("*", "*"),
@@ -202,15 +219,12 @@ fn patterns_are_read_and_shown(rt: HostRuntime) -> Result<(), Fail> {
         ("é\u{1f600}*", "é\u{1f600}*"),
     ];
     for (spelled, pattern) in table {
-        let script = format!(in rt.alloc(); "string s\nlike {spelled}\nshow\n")?;
-        let shown = format!(in rt.alloc(); "(like \"s\" \"{pattern}\")\n")?;
-        assert_shows(&rt, script.as_str(), shown.as_str())?;
+        assert!(rt; is_read_as(&rt, spelled, pattern), "{spelled:?}");
     }
-    Ok(())
 }
 
 #[test]
-fn substitution_binds_names(rt: HostRuntime) -> Result<(), Fail> {
+fn substitution_binds_names(rt: HostRuntime) {
     let table = [
         (
             "unknown x\nlong 2\n<\nbool true\nand\nlong 1\nbind x\nsubstitute\nshow\n",
@@ -268,20 +282,27 @@ fn substitution_binds_names(rt: HostRuntime) -> Result<(), Fail> {
         ),
     ];
     for (script, shown) in table {
-        assert_shows(&rt, script, shown)?;
+        assert!(rt; shows(&rt, script, shown), "{script:?}");
     }
-    Ok(())
 }
 
 #[test]
-fn typed_substitution_compares_types(rt: HostRuntime) -> Result<(), Fail> {
-    assert_shows(&rt, "unknown x long\nlong 2\nbind x\ntyped\nshow\n", "2\n")?;
-    assert_shows(&rt, "unknown x\nlong 2\nbind x\ntyped\nshow\n", "2\n")?;
-    assert_shows(
-        &rt,
-        "unknown x bool\nlong 2\nbind y\ntyped\nshow\n",
-        "(unknown x bool)\n",
-    )?;
+fn typed_substitution_compares_types(rt: HostRuntime) {
+    let table = [
+        ("unknown x long\nlong 2\nbind x\ntyped\nshow\n", "2\n"),
+        ("unknown x\nlong 2\nbind x\ntyped\nshow\n", "2\n"),
+        (
+            "unknown x bool\nlong 2\nbind y\ntyped\nshow\n",
+            "(unknown x bool)\n",
+        ),
+    ];
+    for (script, shown) in table {
+        assert!(rt; shows(&rt, script, shown), "{script:?}");
+    }
+}
+
+#[test]
+fn typed_substitution_refuses(rt: HostRuntime) {
     let table: [(&[u8], &str, &str); 3] = [
         (b"typed\n", "", "line 1: too few expressions"),
         (
@@ -296,13 +317,12 @@ fn typed_substitution_compares_types(rt: HostRuntime) -> Result<(), Fail> {
         ),
     ];
     for (script, shown, fault) in table {
-        assert_refused(&rt, script, shown, fault)?;
+        assert!(rt; refuses(&rt, script, shown, fault), "{script:?}");
     }
-    Ok(())
 }
 
 #[test]
-fn words_are_read_as_they_are(rt: HostRuntime) -> Result<(), Fail> {
+fn words_are_read_as_they_are(rt: HostRuntime) {
     let table = [
         ("long 9223372036854775807\nshow\n", "9223372036854775807\n"),
         (
@@ -324,13 +344,18 @@ fn words_are_read_as_they_are(rt: HostRuntime) -> Result<(), Fail> {
         ("unknown show\nshow\n", "(unknown show)\n"),
     ];
     for (script, shown) in table {
-        assert_shows(&rt, script, shown)?;
+        assert!(rt; shows(&rt, script, shown), "{script:?}");
     }
-    Ok(())
+}
+
+// Whether a script that begins with this line is refused there.
+fn is_bad(rt: &(impl Abort + AllocGlobal), line: &str) -> bool {
+    let script = made(rt, format!(in rt.alloc(); "{line}\nbool true\nshow\n"));
+    refuses(rt, script.as_bytes(), "", "line 1: bad line")
 }
 
 #[test]
-fn bad_lines_are_refused(rt: HostRuntime) -> Result<(), Fail> {
+fn bad_lines_are_refused(rt: HostRuntime) {
     let table = [
         " ",
         "\t",
@@ -429,14 +454,12 @@ fn bad_lines_are_refused(rt: HostRuntime) -> Result<(), Fail> {
         "is A::__cedar",
     ];
     for line in table {
-        let script = format!(in rt.alloc(); "{line}\nbool true\nshow\n")?;
-        assert_refused(&rt, script.as_bytes(), "", "line 1: bad line")?;
+        assert!(rt; is_bad(&rt, line), "{line:?}");
     }
-    Ok(())
 }
 
 #[test]
-fn short_stacks_are_refused(rt: HostRuntime) -> Result<(), Fail> {
+fn short_stacks_are_refused(rt: HostRuntime) {
     let table = [
         ("show", "", "line 1: too few expressions"),
         ("substitute\n", "", "line 1: too few expressions"),
@@ -482,13 +505,12 @@ fn short_stacks_are_refused(rt: HostRuntime) -> Result<(), Fail> {
         ),
     ];
     for (script, shown, fault) in table {
-        assert_refused(&rt, script.as_bytes(), shown, fault)?;
+        assert!(rt; refuses(&rt, script.as_bytes(), shown, fault), "{script:?}");
     }
-    Ok(())
 }
 
 #[test]
-fn what_is_no_value_record_or_text_is_refused(rt: HostRuntime) -> Result<(), Fail> {
+fn what_is_no_value_record_or_text_is_refused(rt: HostRuntime) {
     let table: [(&[u8], &str, &str); 15] = [
         (
             b"string aab\nlike *ab\nshow\nlike a\\x\n",
@@ -528,46 +550,50 @@ fn what_is_no_value_record_or_text_is_refused(rt: HostRuntime) -> Result<(), Fai
         (b"bad\n\xff\n", "", "line 1: bad line"),
     ];
     for (script, shown, fault) in table {
-        assert_refused(&rt, script, shown, fault)?;
+        assert!(rt; refuses(&rt, script, shown, fault), "{script:?}");
     }
-    Ok(())
+}
+
+// So many copies of one text, between two others.
+fn repeated(
+    rt: &(impl Abort + AllocGlobal),
+    first: &str,
+    text: &str,
+    count: usize,
+    last: &str,
+) -> String {
+    let mut whole = made(rt, String::from_str(rt.alloc(), first));
+    for _ in 0..count {
+        made(rt, whole.push_str(text));
+    }
+    made(rt, whole.push_str(last));
+    whole
+}
+
+fn joined(rt: &(impl Abort + AllocGlobal), mut first: String, second: String) -> String {
+    made(rt, first.push_str(second.as_str()));
+    first
 }
 
 #[test]
-fn long_scripts_run(rt: HostRuntime) -> Result<(), Fail> {
-    let alloc = rt.alloc();
-    let (mut script, mut shown) = (String::from_str(alloc, "long 1\n")?, String::new(alloc));
-    for _ in 0..9_998 {
-        script.push_str("show\n")?;
-        shown.push_str("1\n")?;
-    }
-    script.push_str("show ")?;
-    assert_refused(
-        &rt,
-        script.as_bytes(),
-        shown.as_str(),
-        "line 10000: bad line",
-    )?;
+fn a_line_after_thousands_is_refused(rt: HostRuntime) {
+    let script = repeated(&rt, "long 1\n", "show\n", 9_998, "show ");
+    let shown = repeated(&rt, "", "1\n", 9_998, "");
+    let fault = "line 10000: bad line";
+    assert!(rt; refuses(&rt, script.as_bytes(), shown.as_str(), fault));
+}
 
-    // A wide tree below a deep one, of 10,000 lines too.
-    let mut script = String::new(alloc);
-    for _ in 0..3_000 {
-        script.push_str("unknown x\nlong 2\n+\n")?;
-    }
-    script.push_str("set 3000\n")?;
-    let mut shown = String::new(alloc);
-    for _ in 0..995 {
-        script.push_str("!\n")?;
-        shown.push_str("(! ")?;
-    }
-    script.push_str("long 1\nbind x\nsubstitute\nshow")?;
-    shown.push_str("(set")?;
-    for _ in 0..3_000 {
-        shown.push_str(" (+ 1 2)")?;
-    }
-    for _ in 0..996 {
-        shown.push_str(")")?;
-    }
-    shown.push_str("\n")?;
-    assert_shows(&rt, script.as_str(), shown.as_str())
+// A wide tree below a deep one, of 10,000 lines too.
+#[test]
+fn long_scripts_run(rt: HostRuntime) {
+    let wide = repeated(&rt, "", "unknown x\nlong 2\n+\n", 3_000, "set 3000\n");
+    let end = "long 1\nbind x\nsubstitute\nshow";
+    let script = joined(&rt, wide, repeated(&rt, "", "!\n", 995, end));
+    let shown = joined(
+        &rt,
+        repeated(&rt, "", "(! ", 995, "(set"),
+        repeated(&rt, "", " (+ 1 2)", 3_000, ""),
+    );
+    let shown = joined(&rt, shown, repeated(&rt, "", ")", 996, "\n"));
+    assert!(rt; shows(&rt, script.as_str(), shown.as_str()));
 }

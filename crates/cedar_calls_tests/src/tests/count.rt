@@ -4,11 +4,12 @@ ghost use Rattle.cedar_names.specs.Names.{unqualified};
 ghost use Rattle.cedar_names.specs.PlainNames.{bare_name};
 ghost use Rattle.cedar_builders.specs.BareExpr.{no_trees};
 
+use crate::tests::answers::made;
 use cedar_exprs::RestrictedExpr;
 use cedar_names::Name;
 use cedar_values::ExtensionValue;
 use std::alloc::{AllocError, Global};
-use std::test::Fail;
+use std::process::Abort;
 
 // A count, whose type and whose canonical function are `count`.
 #[derive(Debug, PartialEq, Eq, PartialOrd, Ord, Drop)]
@@ -52,6 +53,6 @@ impl ExtensionValue for Count {
     }
 }
 
-pub fn name(rt: &HostRuntime, s: &str) -> Result<Name, Fail> {
-    Ok(Name::parse_unqualified_name(rt.alloc(), s)?)
+pub fn name(rt: &(impl Abort + AllocGlobal), s: &str) -> Name {
+    made(rt, Name::parse_unqualified_name(rt.alloc(), s))
 }

@@ -1,106 +1,107 @@
 // Functions of extensions, one of each count.
+use crate::tests::answers::made;
 use crate::tests::count::{Count, name};
 use crate::tests::functions::{First, Further, One, Reading, Third};
 use cedar_calls::{CallStyle, ExtensionFunction};
 use cedar_terms::SchemaType;
-use std::test::Fail;
+use std::process::Abort;
 
 pub type CountFunction = ExtensionFunction<Count>;
 
 // The function of no arguments.
-pub fn one(rt: &HostRuntime, s: &str) -> Result<CountFunction, Fail> {
-    let name = name(rt, s)?;
-    let style = CallStyle::FunctionStyle;
-    Ok(ExtensionFunction::nullary(name, style, One, SchemaType::Long))
+pub fn one(rt: &(impl Abort + AllocGlobal), s: &str) -> CountFunction {
+    ExtensionFunction::nullary(name(rt, s), CallStyle::FunctionStyle, One, SchemaType::Long)
 }
 
 // The function of a number, called as a method.
-pub fn same(rt: &HostRuntime, s: &str, has_memory: bool) -> Result<CountFunction, Fail> {
-    let name = name(rt, s)?;
+pub fn same(rt: &(impl Abort + AllocGlobal), s: &str, has_memory: bool) -> CountFunction {
     let func = Reading {
         numbers: true,
         has_memory,
     };
-    let style = CallStyle::MethodStyle;
-    let made = ExtensionFunction::unary(
+    let function = ExtensionFunction::unary(
         rt.alloc(),
-        name,
-        style,
+        name(rt, s),
+        CallStyle::MethodStyle,
         func,
         SchemaType::Long,
         SchemaType::Long,
     );
-    Ok(made?)
+    made(rt, function)
 }
 
 // The function whose answers are unknown.
-pub fn unsure(rt: &HostRuntime, s: &str) -> Result<CountFunction, Fail> {
-    let name = name(rt, s)?;
+pub fn unsure(rt: &(impl Abort + AllocGlobal), s: &str) -> CountFunction {
     let func = Reading {
         numbers: false,
         has_memory: true,
     };
-    let style = CallStyle::FunctionStyle;
-    let made = ExtensionFunction::partial_eval_unknown(
+    let function = ExtensionFunction::partial_eval_unknown(
         rt.alloc(),
-        name,
-        style,
+        name(rt, s),
+        CallStyle::FunctionStyle,
         func,
         SchemaType::String,
     );
-    Ok(made?)
+    made(rt, function)
 }
 
 // The function of two arguments that answers the first.
-pub fn first(rt: &HostRuntime, s: &str) -> Result<CountFunction, Fail> {
-    let name = name(rt, s)?;
-    let types = (SchemaType::Long, SchemaType::String);
-    let style = CallStyle::FunctionStyle;
-    let made = ExtensionFunction::binary(rt.alloc(), name, style, First, SchemaType::Long, types);
-    Ok(made?)
+pub fn first(rt: &(impl Abort + AllocGlobal), s: &str) -> CountFunction {
+    let function = ExtensionFunction::binary(
+        rt.alloc(),
+        name(rt, s),
+        CallStyle::FunctionStyle,
+        First,
+        SchemaType::Long,
+        (SchemaType::Long, SchemaType::String),
+    );
+    made(rt, function)
 }
 
 // The function of three arguments that answers the third.
-pub fn third(rt: &HostRuntime, s: &str) -> Result<CountFunction, Fail> {
-    let name = name(rt, s)?;
-    let types = (SchemaType::Long, SchemaType::Long, SchemaType::Bool);
-    let style = CallStyle::FunctionStyle;
-    let made = ExtensionFunction::ternary(rt.alloc(), name, style, Third, SchemaType::Long, types);
-    Ok(made?)
+pub fn third(rt: &(impl Abort + AllocGlobal), s: &str) -> CountFunction {
+    let function = ExtensionFunction::ternary(
+        rt.alloc(),
+        name(rt, s),
+        CallStyle::FunctionStyle,
+        Third,
+        SchemaType::Long,
+        (SchemaType::Long, SchemaType::Long, SchemaType::Bool),
+    );
+    made(rt, function)
 }
 
 // The function of two or more arguments that counts the further ones.
-pub fn further(rt: &HostRuntime, s: &str) -> Result<CountFunction, Fail> {
-    let name = name(rt, s)?;
-    let types = (SchemaType::Long, SchemaType::String);
-    let style = CallStyle::MethodStyle;
-    let made = ExtensionFunction::variadic(
+pub fn further(rt: &(impl Abort + AllocGlobal), s: &str) -> CountFunction {
+    let function = ExtensionFunction::variadic(
         rt.alloc(),
-        name,
-        style,
+        name(rt, s),
+        CallStyle::MethodStyle,
         Further,
         SchemaType::Long,
-        types,
+        (SchemaType::Long, SchemaType::String),
     );
-    Ok(made?)
+    made(rt, function)
 }
 
 // A function that is declared to make counts of texts.
 #[tactic(auto, using(cedar_calls::specs::Types::no_value_keeps))]
-pub fn count_of(rt: &HostRuntime, s: &str) -> Result<CountFunction, Fail> {
+pub fn count_of(rt: &(impl Abort + AllocGlobal), s: &str) -> CountFunction {
     let func = Reading {
         numbers: false,
         has_memory: true,
     };
-    let made = ExtensionFunction::unary(
+    let count = SchemaType::Extension {
+        name: name(rt, "count"),
+    };
+    let function = ExtensionFunction::unary(
         rt.alloc(),
-        name(rt, s)?,
+        name(rt, s),
         CallStyle::FunctionStyle,
         func,
-        SchemaType::Extension {
-            name: name(rt, "count")?,
-        },
+        count,
         SchemaType::String,
     );
-    Ok(made?)
+    made(rt, function)
 }

@@ -1,11 +1,13 @@
 // Texts of values, whole and with a bound on the members that they show.
+use crate::tests::answers::{is_text, made, one};
 use crate::tests::coin::{
     Coin, add, entity, given_coin, longs, record, record_of, set, single, string,
 };
 use crate::tests::refusing::Refusing;
 use cedar_values::{BoundedDisplay, BoundedToString, Value};
 use std::alloc::Global;
-use std::test::Fail;
+use std::fmt::Display;
+use std::process::Abort;
 
 // The values that the tests show.
 #[derive(Clone, Copy)]
@@ -27,61 +29,64 @@ enum Sample<'a> {
     Coin(&'a str),
 }
 
-fn value(rt: &HostRuntime, sample: Sample) -> Result<Value<Coin>, Fail> {
+fn value(rt: &(impl Abort + AllocGlobal), sample: Sample) -> Value<Coin> {
     match sample {
         Sample::Longs(numbers) => longs(rt, numbers),
         Sample::Record(pairs) => record(rt, pairs),
         Sample::Nested => nested(rt),
         Sample::Mixed => mixed(rt),
-        Sample::Inner => inner(rt),
-        Sample::Long(number) => Ok(Value::from(number)),
+        Sample::Inner => single(rt, "k", longs(rt, &[1, 2, 3])),
+        Sample::Long(number) => Value::from(number),
         Sample::Text(s) => string(rt, s),
-        Sample::Entity(eid) => Ok(Value::from(entity(rt, eid)?)),
+        Sample::Entity(eid) => Value::from(entity(rt, eid)),
         Sample::Coin(shown) => given_coin(rt, shown, "a"),
     }
 }
 
-fn nested(rt: &HostRuntime) -> Result<Value<Coin>, Fail> {
-    let mut members = Vec::new(rt.alloc());
-    members.push(longs(rt, &[1, 2])?)?;
-    members.push(Value::from(5))?;
+fn nested(rt: &(impl Abort + AllocGlobal)) -> Value<Coin> {
+    let members = vec![in rt.alloc(); longs(rt, &[1, 2]), Value::from(5)];
+    set(rt, made(rt, members))
+}
+
+fn mixed(rt: &(impl Abort + AllocGlobal)) -> Value<Coin> {
+    let mut members = one(rt, longs(rt, &[1]));
+    made(rt, members.push(string(rt, "a")));
+    made(rt, members.push(Value::from(1)));
+    made(rt, members.push(Value::from(true)));
     set(rt, members)
 }
 
-fn mixed(rt: &HostRuntime) -> Result<Value<Coin>, Fail> {
-    let mut members = Vec::new(rt.alloc());
-    members.push(longs(rt, &[1])?)?;
-    members.push(string(rt, "a")?)?;
-    members.push(Value::from(1))?;
-    members.push(Value::from(true))?;
-    set(rt, members)
+// Whether it has this text at this bound.
+fn shows<T: BoundedToString>(
+    rt: &(impl Abort + AllocGlobal),
+    x: &T,
+    n: Option<usize>,
+    wanted: &str,
+) -> bool {
+    is_text(rt, BoundedToString::to_string(x, rt.alloc(), n), wanted)
 }
 
-fn inner(rt: &HostRuntime) -> Result<Value<Coin>, Fail> {
-    single(rt, "k", longs(rt, &[1, 2, 3])?)
-}
-
-// Whether a value has this text at this bound, by itself and as a kind.
+// Whether a value has it, by itself and as a kind.
 fn has_text(
-    alloc: Global,
+    rt: &(impl Abort + AllocGlobal),
     value: &Value<Coin>,
     n: Option<usize>,
     wanted: &str,
-) -> Result<bool, Fail> {
-    let whole = BoundedToString::to_string(value, alloc, n)?;
-    let kind = BoundedToString::to_string(value.value_kind(), alloc, n)?;
-    Ok(whole.as_str() == wanted && kind.as_str() == wanted)
+) -> bool {
+    shows(rt, value, n, wanted) && shows(rt, value.value_kind(), n, wanted)
 }
 
-fn is_displayed_as(alloc: Global, value: &Value<Coin>, wanted: &str) -> Result<bool, Fail> {
-    let whole = format!(in alloc; "{value}")?;
-    let kind = format!(in alloc; "{}", value.value_kind())?;
-    Ok(whole.as_str() == wanted && kind.as_str() == wanted)
+fn displays<T: Display>(rt: &(impl Abort + AllocGlobal), x: &T, wanted: &str) -> bool {
+    is_text(rt, format!(in rt.alloc(); "{x}"), wanted)
+}
+
+fn is_displayed_as(rt: &(impl Abort + AllocGlobal), value: &Value<Coin>, wanted: &str) -> bool {
+    displays(rt, value, wanted) && displays(rt, value.value_kind(), wanted)
 }
 
 // The bound is that of each set and record; `.. ` stands just where something is left out.
 #[test]
-fn bounded_texts(rt: HostRuntime) -> Result<(), Fail> {
+fn bounded_texts(rt: HostRuntime) {
     for (sample, n, wanted) in [
         (Sample::Longs(&[3, 1, 2]), 0, "[.. ]"),
         (Sample::Longs(&[3, 1, 2]), 1, "[1, .. ]"),
@@ -97,16 +102,17 @@ fn bounded_texts(rt: HostRuntime) -> Result<(), Fail> {
         (Sample::Inner, 0, "{.. }"),
         (Sample::Inner, 1, "{k: [1, .. ]}"),
     ] {
-        let value = value(&rt, sample)?;
-        assert!(rt; has_text(rt.alloc(), &value, Some(n), wanted)?, "{wanted}");
+        assert!(rt;
+            has_text(&rt, &value(&rt, sample), Some(n), wanted),
+            "{wanted}"
+        );
     }
-    Ok(())
 }
 
 // Of equal keys the last counts. A key stands bare just where it is an identifier that a user may
 // define.
 #[test]
-fn whole_texts(rt: HostRuntime) -> Result<(), Fail> {
+fn whole_texts(rt: HostRuntime) {
     for (sample, wanted) in [
         (Sample::Longs(&[]), "[]"),
         (Sample::Longs(&[3, 1, 2]), "[1, 2, 3]"),
@@ -133,64 +139,52 @@ fn whole_texts(rt: HostRuntime) -> Result<(), Fail> {
             "{\" a\": 1, \"__cedar\": 1}",
         ),
     ] {
-        let value = value(&rt, sample)?;
-        assert!(rt; has_text(rt.alloc(), &value, None, wanted)?, "{wanted}");
-        assert!(rt; is_displayed_as(rt.alloc(), &value, wanted)?, "{wanted}");
+        let value = value(&rt, sample);
+        assert!(rt; has_text(&rt, &value, None, wanted), "{wanted}");
+        assert!(rt; is_displayed_as(&rt, &value, wanted), "{wanted}");
     }
-    Ok(())
 }
 
-// What the value writes by each call, one after the other.
-fn written(alloc: Global, value: &Value<Coin>, n: usize) -> Result<String, Fail> {
-    let mut text = String::new(alloc);
-    value.fmt_bounded(&mut text, n)?;
-    value.fmt_unbounded(&mut text)?;
-    Ok(text)
-}
-
-fn written_as_kind(alloc: Global, value: &Value<Coin>, n: usize) -> Result<String, Fail> {
-    let mut text = String::new(alloc);
-    value.value_kind().fmt_bounded(&mut text, n)?;
-    value.value_kind().fmt_unbounded(&mut text)?;
-    Ok(text)
+// Whether it writes this by each call, one after the other.
+fn writes_both<T: BoundedDisplay>(
+    rt: &(impl Abort + AllocGlobal),
+    x: &T,
+    n: usize,
+    wanted: &str,
+) -> bool {
+    let mut text = String::new(rt.alloc());
+    made(rt, x.fmt_bounded(&mut text, n));
+    made(rt, x.fmt_unbounded(&mut text));
+    text.as_str() == wanted
 }
 
 #[test]
-fn writes_by_each_call(rt: HostRuntime) -> Result<(), Fail> {
-    let value = longs(&rt, &[2, 1])?;
-    assert_eq!(rt; written(rt.alloc(), &value, 1)?.as_str(), "[1, .. ][1, 2]");
-    assert_eq!(rt;
-        written_as_kind(rt.alloc(), &value, 1)?.as_str(),
-        "[1, .. ][1, 2]"
-    );
-    Ok(())
+fn writes_by_each_call(rt: HostRuntime) {
+    let value = longs(&rt, &[2, 1]);
+    assert!(rt; writes_both(&rt, &value, 1, "[1, .. ][1, 2]"));
+    assert!(rt; writes_both(&rt, value.value_kind(), 1, "[1, .. ][1, 2]"));
 }
 
 #[test]
-fn strings_by_each_call(rt: HostRuntime) -> Result<(), Fail> {
-    let value = longs(&rt, &[2, 1])?;
-    assert_eq!(rt;
-        value.to_string_bounded(rt.alloc(), 1)?.as_str(),
-        "[1, .. ]"
-    );
-    assert_eq!(rt; value.to_string_unbounded(rt.alloc())?.as_str(), "[1, 2]");
-    Ok(())
+fn strings_by_each_call(rt: HostRuntime) {
+    let value = longs(&rt, &[2, 1]);
+    assert!(rt; is_text(&rt, value.to_string_bounded(rt.alloc(), 1), "[1, .. ]"));
+    assert!(rt; is_text(&rt, value.to_string_unbounded(rt.alloc()), "[1, 2]"));
 }
 
 #[test]
-fn strings_of_a_kind_by_each_call(rt: HostRuntime) -> Result<(), Fail> {
-    let value = longs(&rt, &[2, 1])?;
+fn strings_of_a_kind_by_each_call(rt: HostRuntime) {
+    let value = longs(&rt, &[2, 1]);
     let kind = value.value_kind();
-    assert_eq!(rt; kind.to_string_bounded(rt.alloc(), 1)?.as_str(), "[1, .. ]");
-    assert_eq!(rt; kind.to_string_unbounded(rt.alloc())?.as_str(), "[1, 2]");
-    Ok(())
+    assert!(rt; is_text(&rt, kind.to_string_bounded(rt.alloc(), 1), "[1, .. ]"));
+    assert!(rt; is_text(&rt, kind.to_string_unbounded(rt.alloc()), "[1, 2]"));
 }
 
 // {k: {1, 2, 3}, "l m": true}.
-fn refused_sample(rt: &HostRuntime) -> Result<Value<Coin>, Fail> {
+fn refused_sample(rt: &(impl Abort + AllocGlobal)) -> Value<Coin> {
     let mut entries = Vec::new(rt.alloc());
-    add(rt, &mut entries, "k", longs(rt, &[1, 2, 3])?)?;
-    add(rt, &mut entries, "l m", Value::from(true))?;
+    add(rt, &mut entries, "k", longs(rt, &[1, 2, 3]));
+    add(rt, &mut entries, "l m", Value::from(true));
     record_of(rt, entries)
 }
 
@@ -216,18 +210,16 @@ fn writes(alloc: Global, value: &Value<Coin>) -> usize {
 
 // Each write in turn is refused.
 #[test]
-fn an_error_is_the_writers(rt: HostRuntime) -> Result<(), Fail> {
-    let value = refused_sample(&rt)?;
+fn an_error_is_the_writers(rt: HostRuntime) {
+    let value = refused_sample(&rt);
     let wanted = "{k: [1, 2, .. ], \"l m\": true}";
     let writes = writes(rt.alloc(), &value);
     assert!(rt; 9 < writes && writes < 1000, "{writes}");
     for room in 0..writes {
-        assert_eq!(rt;
-            is_refused(rt.alloc(), &value, room, wanted),
-            Some(true),
+        assert!(rt;
+            is_refused(rt.alloc(), &value, room, wanted) == Some(true),
             "{room}"
         );
     }
-    assert_eq!(rt; is_refused(rt.alloc(), &value, writes, wanted), Some(false));
-    Ok(())
+    assert!(rt; is_refused(rt.alloc(), &value, writes, wanted) == Some(false));
 }

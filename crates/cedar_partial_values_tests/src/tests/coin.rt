@@ -3,14 +3,15 @@ ghost use Rattle.std.specs.Rc.{rc_str_bytes};
 ghost use Rattle.cedar_names.specs.PlainNames.{bare_name};
 ghost use Rattle.cedar_builders.specs.BareExpr.{no_trees};
 
+use crate::tests::answers::{made, one};
 use cedar_exprs::{RestrictedExpr, SubstituteValue};
 use cedar_names::Name;
 use cedar_terms::{EntityUID, Literal};
 use cedar_values::{ExtensionValue, RepresentableExtensionValue, Value, ValueKind};
 use expr_samples::{name, text};
 use std::alloc::{AllocError, Global};
+use std::process::Abort;
 use std::rc::{Rc, RcStr};
-use std::test::Fail;
 
 // A coin, which the function of this name makes. It compares by its text.
 #[derive(Debug, Drop)]
@@ -50,45 +51,41 @@ impl ExtensionValue for Coin {
 }
 
 // The literal of an entity.
-pub fn entity(rt: &HostRuntime, eid: &str) -> Result<Literal, Fail> {
-    let uid = EntityUID::with_eid(rt.alloc(), eid)?;
-    Ok(Literal::from_uid(rt.alloc(), uid)?)
+pub fn entity(rt: &(impl Abort + AllocGlobal), eid: &str) -> Literal {
+    let uid = made(rt, EntityUID::with_eid(rt.alloc(), eid));
+    made(rt, Literal::from_uid(rt.alloc(), uid))
 }
 
 // The arguments of a call on this entity.
-fn arguments(rt: &HostRuntime, eid: &str) -> Result<Vec<RestrictedExpr>, Fail> {
-    let mut args = Vec::new(rt.alloc());
-    args.push(entity(rt, eid)?.value_expr(rt.alloc())?)?;
-    Ok(args)
+fn arguments(rt: &(impl Abort + AllocGlobal), eid: &str) -> Vec<RestrictedExpr> {
+    one(rt, made(rt, entity(rt, eid).value_expr(rt.alloc())))
 }
 
-fn make_coin(rt: &HostRuntime, shown: &str) -> Result<Coin, Fail> {
-    let text = text(rt, shown)?;
-    Ok(Coin {
-        text,
-        name: name(rt, "coin")?,
-    })
+fn make_coin(rt: &(impl Abort + AllocGlobal), shown: &str) -> Coin {
+    Coin {
+        text: made(rt, text(rt, shown)),
+        name: made(rt, name(rt, "coin")),
+    }
 }
 
 // The coin with this text, which f made of this entity.
-pub fn given_coin(rt: &HostRuntime, shown: &str, eid: &str) -> Result<Value<Coin>, Fail> {
-    let args = arguments(rt, eid)?;
-    let coin = make_coin(rt, shown)?;
-    let value = RepresentableExtensionValue::new(coin, name(rt, "f")?, args);
-    let shared = Rc::new(rt.alloc(), value)?;
-    Ok(Value::new(ValueKind::ExtensionValue(shared), None))
+pub fn given_coin(rt: &(impl Abort + AllocGlobal), shown: &str, eid: &str) -> Value<Coin> {
+    let func = made(rt, name(rt, "f"));
+    let coin = RepresentableExtensionValue::new(make_coin(rt, shown), func, arguments(rt, eid));
+    let shared = made(rt, Rc::new(rt.alloc(), coin));
+    Value::new(ValueKind::ExtensionValue(shared), None)
 }
 
 // The set of these values.
-pub fn set(rt: &HostRuntime, members: Vec<Value<Coin>>) -> Result<Value<Coin>, Fail> {
-    Ok(Value::set(rt.alloc(), members, None)?)
+pub fn set(rt: &(impl Abort + AllocGlobal), members: Vec<Value<Coin>>) -> Value<Coin> {
+    made(rt, Value::set(rt.alloc(), members, None))
 }
 
 // The set of these integers.
-pub fn longs(rt: &HostRuntime, numbers: &[i64]) -> Result<Value<Coin>, Fail> {
+pub fn longs(rt: &(impl Abort + AllocGlobal), numbers: &[i64]) -> Value<Coin> {
     let mut members = Vec::new(rt.alloc());
     for number in numbers {
-        members.push(Value::from(*number))?;
+        made(rt, members.push(Value::from(*number)));
     }
     set(rt, members)
 }
@@ -97,34 +94,30 @@ pub fn longs(rt: &HostRuntime, numbers: &[i64]) -> Result<Value<Coin>, Fail> {
 pub type Entries = Vec<(RcStr, Value<Coin>)>;
 
 // Puts one more pair there.
-pub fn add(rt: &HostRuntime, to: &mut Entries, key: &str, value: Value<Coin>) -> Result<(), Fail> {
-    let key = text(rt, key)?;
-    to.push((key, value))?;
-    Ok(())
+pub fn add(rt: &(impl Abort + AllocGlobal), to: &mut Entries, key: &str, value: Value<Coin>) {
+    made(rt, to.push((made(rt, text(rt, key)), value)));
 }
 
 // The record of these pairs.
-pub fn record_of(rt: &HostRuntime, entries: Entries) -> Result<Value<Coin>, Fail> {
-    Ok(Value::record(rt.alloc(), entries, None)?)
+pub fn record_of(rt: &(impl Abort + AllocGlobal), entries: Entries) -> Value<Coin> {
+    made(rt, Value::record(rt.alloc(), entries, None))
 }
 
 // The record of these integers.
-pub fn record(rt: &HostRuntime, pairs: &[(&str, i64)]) -> Result<Value<Coin>, Fail> {
+pub fn record(rt: &(impl Abort + AllocGlobal), pairs: &[(&str, i64)]) -> Value<Coin> {
     let mut entries = Vec::new(rt.alloc());
     for (key, number) in pairs {
-        add(rt, &mut entries, key, Value::from(*number))?;
+        add(rt, &mut entries, key, Value::from(*number));
     }
     record_of(rt, entries)
 }
 
 // The record with this one pair.
-pub fn single(rt: &HostRuntime, key: &str, value: Value<Coin>) -> Result<Value<Coin>, Fail> {
-    let mut entries = Vec::new(rt.alloc());
-    add(rt, &mut entries, key, value)?;
-    record_of(rt, entries)
+pub fn single(rt: &(impl Abort + AllocGlobal), key: &str, value: Value<Coin>) -> Value<Coin> {
+    record_of(rt, one(rt, (made(rt, text(rt, key)), value)))
 }
 
 // The literal of this text.
-pub fn string(rt: &HostRuntime, s: &str) -> Result<Value<Coin>, Fail> {
-    Ok(Value::from(Literal::from_text(rt.alloc(), s)?))
+pub fn string(rt: &(impl Abort + AllocGlobal), s: &str) -> Value<Coin> {
+    Value::from(made(rt, Literal::from_text(rt.alloc(), s)))
 }

@@ -1,28 +1,25 @@
 // Texts of sets inside one another.
+use crate::tests::answers::{made, one};
 use crate::tests::coin::{Coin, set};
 use cedar_values::{BoundedToString, Value};
-use std::test::Fail;
-
-// The set of this value alone.
-fn set_of(rt: &HostRuntime, value: Value<Coin>) -> Result<Value<Coin>, Fail> {
-    let mut members = Vec::new(rt.alloc());
-    members.push(value)?;
-    set(rt, members)
-}
+use std::process::Abort;
 
 // Sets inside one another, so many.
-fn chain(rt: &HostRuntime, depth: usize) -> Result<Value<Coin>, Fail> {
+fn chain(rt: &(impl Abort + AllocGlobal), depth: usize) -> Value<Coin> {
     let mut value = Value::from(7);
     for _ in 0..depth {
-        value = set_of(rt, value)?;
+        value = set(rt, one(rt, value));
     }
-    Ok(value)
+    value
+}
+
+// Whether a text is of so many bytes, of which the first open sets.
+fn is_deep(text: String, length: usize) -> bool {
+    text.len() == length && text.as_str().starts_with("[[[[")
 }
 
 #[test]
-fn deep_sets(rt: HostRuntime) -> Result<(), Fail> {
-    let text = chain(&rt, 1000)?.to_string_bounded(rt.alloc(), 1)?;
-    assert_eq!(rt; text.len(), 2001);
-    assert!(rt; text.as_str().starts_with("[[[["));
-    Ok(())
+fn deep_sets(rt: HostRuntime) {
+    let text = chain(&rt, 1000).to_string_bounded(rt.alloc(), 1);
+    assert!(rt; is_deep(made(&rt, text), 2001));
 }

@@ -1,7 +1,6 @@
 // Scripts that are cut off, and bytes that are no text.
-use crate::tests::{assert_refused, play};
-use std::alloc::Global;
-use std::test::Fail;
+use crate::tests::{Played, made, play, refuses, shows};
+use std::process::Abort;
 
 // Its lines are all good.
 const SHORT: &str = "long 12\nshow\nbool true\nand\nshow\n";
@@ -25,27 +24,31 @@ fn cut(script: &str, length: usize) -> &[u8] {
     script.as_bytes().get(..length).unwrap_or(&[])
 }
 
-// What a refusal of the last of these lines begins with.
-fn at_last_line(alloc: Global, script: &[u8]) -> Result<String, Fail> {
+// What a refusal of the last of these lines begins with, and ends with this.
+fn at_last_line(rt: &(impl Abort + AllocGlobal), script: &[u8], rest: &str) -> String {
     let feeds = script.iter().filter(|byte| **byte == b'\n').count();
-    Ok(format!(in alloc; "line {}: ", feeds.saturating_add(1))?)
+    made(
+        rt,
+        format!(in rt.alloc(); "line {}: {rest}", feeds.saturating_add(1)),
+    )
+}
+
+// Whether the script that is cut to this length ends so.
+fn is_cut_to(rt: &(impl Abort + AllocGlobal), length: usize, end: char) -> bool {
+    let script = cut(SHORT, length);
+    if end == '-' {
+        let fault = at_last_line(rt, script, "bad line");
+        refuses(rt, script, shown_by(length), fault.as_str())
+    } else {
+        play(rt, script).is(shown_by(length), "", 0)
+    }
 }
 
 #[test]
-fn a_cut_line_is_read_as_it_stands(rt: HostRuntime) -> Result<(), Fail> {
+fn a_cut_line_is_read_as_it_stands(rt: HostRuntime) {
     for (length, end) in ENDS.chars().enumerate() {
-        let script = cut(SHORT, length);
-        if end == '-' {
-            let mut fault = at_last_line(rt.alloc(), script)?;
-            fault.push_str("bad line")?;
-            assert_refused(&rt, script, shown_by(length), fault.as_str())?;
-        } else {
-            let (shown, fault, _) = play(rt.alloc(), script)?;
-            assert_eq!(rt; shown.as_str(), shown_by(length), "cut to {length}");
-            assert_eq!(rt; fault.as_str(), "", "cut to {length}");
-        }
+        assert!(rt; is_cut_to(&rt, length, end), "cut to {length}");
     }
-    Ok(())
 }
 
 // Its lines are all good, and every command stands in it.
@@ -67,44 +70,63 @@ const LONG_SHOWN: &str = "false\ntrue\n(and true false)\n(or true false)\n\
     (record (\"a\" (set 1 (unknown x))) (\"b\" (call n::f (unknown x) (unknown y long))))\n\
     (record (\"a\" (set 1 (set \"v\"))) (\"b\" (call n::f (set \"v\") 3)))\n3\n";
 
+// Whether a script that is cut off shows a beginning of what the whole shows, and has no fault or
+// is refused at its last line.
+fn is_beginning(rt: &(impl Abort + AllocGlobal), script: &[u8], played: Played) -> bool {
+    let ends_well = match played.status {
+        0 => played.fault.as_str() == "",
+        1 => played
+            .fault
+            .starts_with(at_last_line(rt, script, "").as_str()),
+        _ => false,
+    };
+    ends_well && LONG_SHOWN.starts_with(played.shown.as_str())
+}
+
 #[test]
-fn a_cut_script_shows_a_beginning(rt: HostRuntime) -> Result<(), Fail> {
-    let whole = play(rt.alloc(), LONG.as_bytes())?;
-    assert_eq!(rt;
-        (whole.0.as_str(), whole.1.as_str(), whole.2),
-        (LONG_SHOWN, "", 0)
-    );
+fn a_cut_script_shows_a_beginning(rt: HostRuntime) {
+    assert!(rt; shows(&rt, LONG, LONG_SHOWN));
     for length in 0..LONG.len() {
         let script = cut(LONG, length);
-        let (shown, fault, status) = play(rt.alloc(), script)?;
-        assert!(rt; LONG_SHOWN.starts_with(shown.as_str()), "cut to {length}");
-        if status == 0 {
-            assert_eq!(rt; fault.as_str(), "", "cut to {length}");
-        } else {
-            assert_eq!(rt; status, 1, "cut to {length}");
-            let beginning = at_last_line(rt.alloc(), script)?;
-            assert!(rt; fault.starts_with(beginning.as_str()), "cut to {length}");
-        }
+        assert!(rt;
+            is_beginning(&rt, script, play(&rt, script)),
+            "cut to {length}"
+        );
     }
-    Ok(())
 }
 
 // A good script with these bytes in its third line, behind so many of its own.
-fn with_bytes(alloc: Global, behind: usize, bytes: &[u8]) -> Result<Vec<u8>, Fail> {
+fn with_bytes(rt: &(impl Abort + AllocGlobal), behind: usize, bytes: &[u8]) -> Vec<u8> {
     let line = b"string ab";
-    let mut script = Vec::new(alloc);
-    script.extend_from_slice(b"long 1\nshow\n")?;
-    script.extend_from_slice(line.get(..behind).unwrap_or(&[]))?;
-    script.extend_from_slice(bytes)?;
-    script.extend_from_slice(line.get(behind..).unwrap_or(&[]))?;
-    script.extend_from_slice(b"\nshow\n")?;
-    Ok(script)
+    let (before, after) = (line.get(..behind), line.get(behind..));
+    let parts: [&[u8]; 5] = [
+        b"long 1\nshow\n",
+        before.unwrap_or(&[]),
+        bytes,
+        after.unwrap_or(&[]),
+        b"\nshow\n",
+    ];
+    let mut script = Vec::new(rt.alloc());
+    for part in parts {
+        made(rt, script.extend_from_slice(part));
+    }
+    script
+}
+
+// Whether a script with these bytes there is refused for them.
+fn is_no_text(rt: &(impl Abort + AllocGlobal), behind: usize, bytes: &[u8]) -> bool {
+    refuses(
+        rt,
+        &with_bytes(rt, behind, bytes),
+        "1\n",
+        "line 3: not UTF-8",
+    )
 }
 
 // A byte that begins no character, one that goes on with none, characters that are cut off, one
 // that is written too long, half of a surrogate pair, and one past the last.
 #[test]
-fn bytes_that_are_no_text_are_refused_anywhere(rt: HostRuntime) -> Result<(), Fail> {
+fn bytes_that_are_no_text_are_refused_anywhere(rt: HostRuntime) {
     let table: [&[u8]; 8] = [
         b"\xff",
         b"\x80",
@@ -117,9 +139,7 @@ fn bytes_that_are_no_text_are_refused_anywhere(rt: HostRuntime) -> Result<(), Fa
     ];
     for bytes in table {
         for behind in 0..10 {
-            let script = with_bytes(rt.alloc(), behind, bytes)?;
-            assert_refused(&rt, &script, "1\n", "line 3: not UTF-8")?;
+            assert!(rt; is_no_text(&rt, behind, bytes), "{bytes:?} behind {behind}");
         }
     }
-    Ok(())
 }

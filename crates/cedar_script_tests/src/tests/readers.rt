@@ -2,9 +2,8 @@
 ghost use Rattle.std.specs.Prelude.{◌≤◌, length};
 
 use crate::tests::play_from;
-use std::alloc::Global;
 use std::io::{self, ErrorKind, Read};
-use std::test::Fail;
+use std::process::Abort;
 
 const SCRIPT: &str = "long 1\nshow\nstring ab\nshow\n";
 
@@ -42,33 +41,36 @@ fn give_byte(bytes: &mut &[u8], buf: &mut [u8]) -> usize
     }
 }
 
-// Whether a run ends so where the reader fails after so many reads.
+// Whether a run shows this and has this fault and this status where the reader fails after so many
+// reads.
 fn ends(
-    alloc: Global,
-    reads: usize,
-    kind: ErrorKind,
-    wanted: (&str, &str, u8),
-) -> Result<bool, Fail> {
+    rt: &(impl Abort + AllocGlobal),
+    (reads, kind): (usize, ErrorKind),
+    (shown, fault, status): (&str, &str, u8),
+) -> bool {
     let mut reader = BrokenReader {
         bytes: SCRIPT.as_bytes(),
         reads,
         kind,
     };
-    let (shown, fault, status) = play_from(alloc, &mut reader)?;
-    Ok((shown.as_str(), fault.as_str(), status) == wanted)
+    play_from(rt, &mut reader).is(shown, fault, status)
 }
 
 // One read for each byte, and one that meets the end.
 #[test]
-fn readers_that_fail_end_the_run(rt: HostRuntime) -> Result<(), Fail> {
+fn readers_that_fail_end_the_run(rt: HostRuntime) {
+    let (broken, full) = (ErrorKind::BrokenPipe, ErrorKind::OutOfMemory);
     for reads in 0..28 {
-        let (kind, fault) = (ErrorKind::BrokenPipe, ("", "input fault", 2));
-        assert!(rt; ends(rt.alloc(), reads, kind, fault)?, "read {reads}");
-        let (kind, fault) = (ErrorKind::OutOfMemory, ("", "no memory", 2));
-        assert!(rt; ends(rt.alloc(), reads, kind, fault)?, "read {reads}");
+        assert!(rt;
+            ends(&rt, (reads, broken), ("", "input fault", 2)),
+            "read {reads}"
+        );
+        assert!(rt;
+            ends(&rt, (reads, full), ("", "no memory", 2)),
+            "read {reads}"
+        );
     }
-    assert!(rt; ends(rt.alloc(), 28, ErrorKind::BrokenPipe, (SHOWN, "", 0))?);
-    Ok(())
+    assert!(rt; ends(&rt, (28, broken), (SHOWN, "", 0)));
 }
 
 // Is interrupted before each byte that it gives, and before the end.
@@ -90,12 +92,10 @@ impl Read for InterruptedReader<'_> {
 }
 
 #[test]
-fn interrupted_reads_are_tried_again(rt: HostRuntime) -> Result<(), Fail> {
+fn interrupted_reads_are_tried_again(rt: HostRuntime) {
     let mut reader = InterruptedReader {
         bytes: SCRIPT.as_bytes(),
         is_ready: true,
     };
-    let (shown, fault, status) = play_from(rt.alloc(), &mut reader)?;
-    assert_eq!(rt; (shown.as_str(), fault.as_str(), status), (SHOWN, "", 0));
-    Ok(())
+    assert!(rt; play_from(&rt, &mut reader).is(SHOWN, "", 0));
 }

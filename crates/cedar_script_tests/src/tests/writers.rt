@@ -1,9 +1,8 @@
 // Writers that fail, that take a byte at a time, and that take none.
-use crate::tests::ended;
+use crate::tests::{Played, made};
 use cedar_script::run;
-use std::alloc::Global;
 use std::io::{self, ErrorKind, Write};
-use std::test::Fail;
+use std::process::Abort;
 
 const SCRIPT: &str = "long 1\nshow\nstring ab\nshow\nbad";
 
@@ -39,37 +38,33 @@ impl Write for BrokenWriter {
 }
 
 // What the writer takes before it fails, and what the run ends with.
-fn written(alloc: Global, calls: usize) -> Result<(String, String, u8), Fail> {
-    let mut script = SCRIPT.as_bytes();
+fn written(rt: &(impl Abort + AllocGlobal), calls: usize) -> Played {
     let mut writer = BrokenWriter {
-        taken: Vec::new(alloc),
+        taken: Vec::new(rt.alloc()),
         calls,
     };
-    let (fault, status) = ended(alloc, run(alloc, &mut script, &mut writer))?;
-    Ok((String::from_utf8(writer.taken)?, fault, status))
+    let end = run(rt.alloc(), &mut SCRIPT.as_bytes(), &mut writer);
+    Played::new(rt, writer.taken, end)
 }
 
 // Each text that is shown takes three calls: the text, its line feed, and a flush.
 #[test]
-fn writers_that_fail_end_the_run(rt: HostRuntime) -> Result<(), Fail> {
+fn writers_that_fail_end_the_run(rt: HostRuntime) {
     let table = [
-        (0, ("", "output fault", 2)),
-        (1, ("1", "output fault", 2)),
-        (2, ("1\n", "output fault", 2)),
-        (3, ("1\n", "output fault", 2)),
-        (4, ("1\n\"ab\"", "output fault", 2)),
-        (5, ("1\n\"ab\"\n", "output fault", 2)),
-        (6, ("1\n\"ab\"\n", "line 5: bad line", 1)),
+        (0, "", "output fault", 2),
+        (1, "1", "output fault", 2),
+        (2, "1\n", "output fault", 2),
+        (3, "1\n", "output fault", 2),
+        (4, "1\n\"ab\"", "output fault", 2),
+        (5, "1\n\"ab\"\n", "output fault", 2),
+        (6, "1\n\"ab\"\n", "line 5: bad line", 1),
     ];
-    for (calls, wanted) in table {
-        let (taken, fault, status) = written(rt.alloc(), calls)?;
-        assert_eq!(rt;
-            (taken.as_str(), fault.as_str(), status),
-            wanted,
+    for (calls, taken, fault, status) in table {
+        assert!(rt;
+            written(&rt, calls).is(taken, fault, status),
             "call {calls}"
         );
     }
-    Ok(())
 }
 
 // Takes so many bytes of a buffer, and fails where its room is full.
@@ -97,9 +92,19 @@ impl Write for NarrowWriter<'_> {
     }
 }
 
+// What stands in such a buffer after the run, and what the run ends with.
+fn written_in(rt: &(impl Abort + AllocGlobal), room: usize) -> Played {
+    let mut bytes = made(rt, vec![in rt.alloc(); 0u8; room]);
+    let mut writer = NarrowWriter {
+        room: bytes.as_mut_slice(),
+        used: 0,
+    };
+    let end = run(rt.alloc(), &mut SCRIPT.as_bytes(), &mut writer);
+    Played::new(rt, bytes, end)
+}
+
 #[test]
-fn a_byte_is_written_at_a_time(rt: HostRuntime) -> Result<(), Fail> {
-    let alloc = rt.alloc();
+fn a_byte_is_written_at_a_time(rt: HostRuntime) {
     let table = [
         (0, "", "output fault", 2),
         (1, "1", "output fault", 2),
@@ -111,17 +116,11 @@ fn a_byte_is_written_at_a_time(rt: HostRuntime) -> Result<(), Fail> {
         (7, "1\n\"ab\"\n", "line 5: bad line", 1),
     ];
     for (room, shown, fault, status) in table {
-        let mut bytes = vec![in alloc; 0u8; room]?;
-        let mut script = SCRIPT.as_bytes();
-        let mut writer = NarrowWriter {
-            room: bytes.as_mut_slice(),
-            used: 0,
-        };
-        let found = ended(alloc, run(alloc, &mut script, &mut writer))?;
-        assert_eq!(rt; (found.0.as_str(), found.1), (fault, status), "room {room}");
-        assert_eq!(rt; bytes.as_slice(), shown.as_bytes());
+        assert!(rt;
+            written_in(&rt, room).is(shown, fault, status),
+            "room {room}"
+        );
     }
-    Ok(())
 }
 
 // Takes nothing.
@@ -139,9 +138,7 @@ impl Write for FullWriter {
 }
 
 #[test]
-fn a_writer_that_takes_nothing_ends_the_run(rt: HostRuntime) -> Result<(), Fail> {
-    let mut script = SCRIPT.as_bytes();
-    let found = ended(rt.alloc(), run(rt.alloc(), &mut script, &mut FullWriter))?;
-    assert_eq!(rt; (found.0.as_str(), found.1), ("output fault", 2));
-    Ok(())
+fn a_writer_that_takes_nothing_ends_the_run(rt: HostRuntime) {
+    let end = run(rt.alloc(), &mut SCRIPT.as_bytes(), &mut FullWriter);
+    assert!(rt; Played::new(&rt, Vec::new(rt.alloc()), end).is("", "output fault", 2));
 }
