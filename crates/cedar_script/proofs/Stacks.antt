@@ -1,8 +1,10 @@
 -- Stacks, whose top stands first.
 use Rattle.std.proofs.Common.{◌≡◌, ℕ, ◌+◌, ◌-◌, List, [], ◌∷◌, ◌++◌, length, take, drop, ap, sym, subst, ◌∙◌, arith}
-use Rattle.std.specs.Prelude.{reverse}
+use Rattle.std.specs.Prelude.{reverse, Result, Ok, Err, OnOk}
 use Rattle.std.proofs.lemmas.List.{reverse-append, reverse-reverse, length-reverse, take-append-drop, length-drop}
 use Rattle.std.proofs.Math.Seq.{take-append_seam, drop-append_seam}
+use Rattle.cedar_exprs.specs.declared.expr.Expr.{Expr}
+use Rattle.cedar_script.specs.Stack.{Stack, ReplacesMany}
 
 pub reverse_push : {A : Type 0} → (xs : List A) (x : A) → reverse (xs ++ x ∷ []) ≡ x ∷ reverse xs
 reverse_push xs x = reverse-append xs (x ∷ [])
@@ -28,3 +30,10 @@ past_index xs kept count h =
 pub before_index : {A : Type 0} → (xs : List A) (kept count : ℕ) → kept + count ≡ length xs → reverse (take kept xs) ≡ drop count (reverse xs)
 before_index xs kept count h =
     sym ((seam (reverse (drop kept xs)) (reverse (take kept xs)) count (length_past xs kept count h)).1) ∙ ap (drop count) (sym (reverse_split xs kept))
+
+-- what is pushed onto a stack without its topmost stands in their place
+pub replaced : {A E : Type 0} (P : Stack → Expr Unit → Type 0) (count n : ℕ) (old below new items : Stack) (e : Expr Unit) (r : Result A E)
+    → n ≡ count → items ≡ reverse (take n old) → below ≡ drop n old → P items e → OnOk r (new ≡ e ∷ below) → OnOk r (ReplacesMany count P old new)
+replaced P count n old below new items e (Ok x) same taken rest holds pushed =
+    subst (λ m. ReplacesMany m P old new) same (subst (ReplacesMany n P old) (sym pushed) (subst (λ xs. P xs e) taken holds, rest))
+replaced P count n old below new items e (Err x) same taken rest holds pushed = tt
