@@ -119,7 +119,7 @@ fn a_value_is_one(rt: HostRuntime) {
 
 // An expression of an unknown.
 fn residual(rt: &(impl Abort + AllocGlobal)) -> PartialValue<Coin> {
-    PartialValue::from_expr(unknown_expr(rt))
+    PartialValue::from_expr(Expr::unknown(unknown(rt)))
 }
 
 // Whether its copy at some place is equal to it.
