@@ -1,4 +1,4 @@
-//! The scripts of a corpus worked, and compared with what was recorded of them.
+//! The scripts of a corpus worked, and compared with their records.
 ghost use Rattle.std.specs.Prelude.{◌≡◌, ◌↔◌, ◌≤◌, IfErr, IfOk, IfSome, IsTrue, OnOk};
 ghost use Rattle.std.specs.Io.KnownBytes.{IsAtEnd};
 ghost use Rattle.cedar_likeness.specs.Comparisons.{AreAlike, IsInputFault, status_of};
@@ -9,8 +9,8 @@ use std::alloc::{AllocError, Global};
 use std::io::{self, Read, Write};
 use thiserror::Error;
 
-/// How many scripts a corpus has, and how many of them ended otherwise than recorded.
-#[derive(Clone, Copy, Debug, PartialEq, Eq)]
+/// How many scripts a corpus has, and how many of them do otherwise than their records say.
+#[derive(Clone, Copy)]
 pub struct Tally {
     pub scripts: usize,
     pub different: usize,
@@ -29,7 +29,7 @@ impl Tally {
 }
 
 /// Why a corpus is not compared to its end.
-#[derive(Debug, PartialEq, Eq, Drop, Error)]
+#[derive(Debug, Drop, Error)]
 pub enum CompareFault {
     /// A line of it can't be read.
     #[error("corpus, {0}")]
@@ -69,7 +69,8 @@ pub fn status(compared: &Result<Tally, CompareFault>) -> u8
 }
 
 /// Works each script of the corpus that the reader gives, and writes a line for each one that shows
-/// or ends otherwise than recorded, and last a line with both counts.
+/// or ends otherwise than its record says, with the line of the record, and last one with both
+/// counts.
 pub fn compare<R: Read, W: Write>(
     alloc: Global,
     reader: &mut R,
@@ -85,8 +86,7 @@ pub fn compare<R: Read, W: Write>(
         different: 0,
     };
     while let Some(record) = corpus.next_record()? {
-        let number = tally.scripts.saturating_add(1);
-        tally.count(is_as_recorded(alloc, number, &record, writer)?);
+        tally.count(is_as_recorded(alloc, &record, writer)?);
     }
     write_tally(writer, &tally)?;
     Ok(tally)
@@ -116,10 +116,10 @@ fn read_input<R: Read>(alloc: Global, reader: &mut R) -> Result<Vec<u8>, Compare
     }
 }
 
-// Whether a script shows and ends as recorded; else a line says what was wanted, and what came.
+// Whether a script shows and ends as its record says; else a line says what was wanted, and what
+// came.
 fn is_as_recorded<W: Write>(
     alloc: Global,
-    number: usize,
     record: &Record,
     writer: &mut W,
 ) -> Result<bool, CompareFault> {
@@ -136,20 +136,22 @@ fn is_as_recorded<W: Write>(
     };
     let alike = are_alike(&record.outcome, &came);
     if !alike {
-        write_difference(writer, number, &record.outcome, &came)?;
+        write_difference(writer, record, &came)?;
     }
     Ok(alike)
 }
 
 fn write_difference<W: Write>(
     writer: &mut W,
-    number: usize,
-    wanted: &Outcome,
+    record: &Record,
     came: &Outcome,
 ) -> Result<(), CompareFault> {
-    writeln!(writer, "script {number}: wanted {wanted}; came {came}").map_err(
-        |_| CompareFault::Output,
+    writeln!(
+        writer,
+        "line {}: wanted {}; came {came}",
+        record.line, record.outcome
     )
+    .map_err(|_| CompareFault::Output)
 }
 
 // Whether two runs show and end alike.

@@ -1,8 +1,9 @@
-//! A corpus of scripts, each with what was recorded of its run.
+//! A corpus of scripts, each with what its run is to show and how it is to end.
 //!
 //! One stands as `script N` and its N lines, `shows M` and the M lines that it shows, and `ends S`,
 //! where S is the status; after a space there follows the line on standard error, if there is one.
-//! Lines end at line feeds alone, and may hold any other byte.
+//! Lines end at line feeds alone, and may hold any other byte. Lines that begin with `#` may stand
+//! before a record, and are for the reader alone.
 ghost use Rattle.std.specs.Prelude.{
   ◌≡◌,
   ◌↔◌,
@@ -27,15 +28,17 @@ ghost use Rattle.cedar_likeness.specs.Lines.{line_feeds, AreLines};
 use std::{fmt, str};
 use thiserror::Error;
 
-/// A script, and what was recorded of its run.
-#[derive(Clone, Copy, Debug, PartialEq, Eq)]
+/// A script, and the outcome that its run is to have.
+#[derive(Clone, Copy)]
 pub struct Record<'a> {
+    /// The line of the corpus that it begins at; they count from 1.
+    pub line: usize,
     pub script: &'a [u8],
     pub outcome: Outcome<'a>,
 }
 
 /// What a run shows, and how it ends.
-#[derive(Clone, Copy, Debug, PartialEq, Eq)]
+#[derive(Clone, Copy, PartialEq, Eq)]
 pub struct Outcome<'a> {
     /// The lines on standard output, with their line feeds.
     pub shown: &'a [u8],
@@ -57,7 +60,7 @@ impl fmt::Display for Outcome<'_> {
 }
 
 /// Why a corpus can't be read, and at which of its lines; they count from 1.
-#[derive(Clone, Copy, Debug, PartialEq, Eq, Error)]
+#[derive(Clone, Copy, Debug, Error)]
 #[error("line {line}: {fault}")]
 pub struct Malformed {
     pub line: usize,
@@ -65,7 +68,7 @@ pub struct Malformed {
 }
 
 /// What is wrong with a line of a corpus.
-#[derive(Clone, Copy, Debug, PartialEq, Eq, Error)]
+#[derive(Clone, Copy, Debug, Error)]
 pub enum Fault {
     /// It does not begin with the word that has to stand there.
     #[error("no `{0}`")]
@@ -82,7 +85,7 @@ pub enum Fault {
 }
 
 /// What is left of a corpus, and the number of its first line.
-#[derive(Clone, Copy, Debug)]
+#[derive(Clone, Copy)]
 pub struct Corpus<'a> {
     text: &'a [u8],
     line: usize,
@@ -105,6 +108,8 @@ impl<'a> Corpus<'a> {
     pub fn next_record(&mut self) -> Result<Option<Record<'a>>, Malformed>
         ensures end { result ≡ Ok None ↔ left self.old ≡ [] }
         ensures place { IfErr result (λ error. error.line ≤ last_line self.old) }
+        ensures named { IfOk result (λ found. IfSome found (λ it.
+            it.line ≤ last_line self.old)) }
         ensures lines { last_line self.new ≡ last_line self.old }
         ensures shorter { IfOk result (λ found. IsSome found →
             length (left self.new) < length (left self.old)) }
@@ -112,10 +117,13 @@ impl<'a> Corpus<'a> {
         if self.text.is_empty() {
             return Ok(None);
         }
+        self.pass_headings()?;
+        let line = self.line;
         let script = self.block("script")?;
         let shown = self.block("shows")?;
         let (status, refusal) = self.ending()?;
         Ok(Some(Record {
+            line,
             script,
             outcome: Outcome {
                 shown,
@@ -123,6 +131,18 @@ impl<'a> Corpus<'a> {
                 refusal,
             },
         }))
+    }
+
+    // Passes the lines that begin with `#`.
+    fn pass_headings(&mut self) -> Result<(), Malformed>
+        ensures place { IfErr result (λ error. error.line ≤ last_line self.old) }
+        ensures lines { last_line self.new ≡ last_line self.old }
+        ensures shorter { IfOk result (λ _. length (left self.new) ≤ length (left self.old)) }
+    {
+        while self.text.first() == Some(&b'#') {
+            self.lines(1)?;
+        }
+        Ok(())
     }
 
     // The lines below a line that has their number after a word.

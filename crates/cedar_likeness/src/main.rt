@@ -1,5 +1,5 @@
 //! Works the scripts of a corpus from standard input, and compares what they show and how they end
-//! with what was recorded of them.
+//! with their records.
 #![tactic(auto)]
 
 mod comparison;
