@@ -1,6 +1,7 @@
 -- Tests that decide: of what stands at the leaves of an expression.
-use Rattle.std.proofs.Common.{◌≡◌, Bool, true, false, ◌&&◌, nat_eq, List, [], ◌∷◌, map, refl, ap}
-use Rattle.std.proofs.lemmas.Bool.{false≢true}
+use Rattle.std.proofs.Common.{◌≡◌, ℕ, Bool, true, false, ◌&&◌, nat_eq, List, [], ◌∷◌, map, refl, sym, ap, ◌∙◌}
+use Rattle.std.proofs.Math.Dec.{eqb}
+use Rattle.std.proofs.lemmas.Bool.{eq-eqb, false≢true}
 use Rattle.std.proofs.lemmas.Bool.Decides.{Decides-and, Decides-like}
 use Rattle.std.specs.Bool.{Decides}
 use Rattle.std.specs.Cmp.Lexicographic.{pointwise, bytes_decides}
@@ -21,7 +22,9 @@ use Rattle.cedar_terms.specs.contracts.ops.BinaryOpPartialEq.TheImpl as binary_e
 use Rattle.cedar_terms.specs.declared.var.Var.{Var}
 use Rattle.cedar_terms.specs.declared.var.Var.TheVariants as variable
 use Rattle.cedar_terms.specs.contracts.var.VarPartialEq.TheImpl as var_eq
+use Rattle.cedar_terms.specs.Ops.{var_number, unary_op_number, binary_op_number}
 use Rattle.cedar_terms.specs.Unknowns.{BareUnknown, unknown_eq, unknown_eq_decides}
+use Rattle.cedar_builders.specs.Shapes.{slot_number}
 use Rattle.cedar_exprs.specs.BareExpr.{further, unknown_tree}
 
 pub both : {A B : Type 0} (x y : Bool) → Decides x A → Decides y B → Decides (x && y) (A × B)
@@ -32,6 +35,10 @@ exactly x p f g = Decides-like x f g p
 
 pub never : {A : Type 0} → (A → ⊥) → Decides false A
 never f = (λ e. absurd (false≢true e), λ a. absurd (f a))
+
+-- what has different numbers is not the same
+pub differ : {A : Type 0} (number : A → ℕ) (a b : A) → eqb (number a) (number b) ≡ false → a ≡ b → ⊥
+differ number a b e is = false≢true (sym e ∙ eq-eqb (number a) (number b) (ap number is))
 
 here : {A : Type 0} {a : A} → Decides true (a ≡ a)
 here = (λ e. refl, λ e. refl)
@@ -53,20 +60,20 @@ same_binary = (binary_eq.ghosts).eq
 pub slots_decide : (a b : SlotId) → Decides (same_slot a b) (a ≡ b)
 slots_decide slot.Principal slot.Principal = here
 slots_decide slot.Resource slot.Resource = here
-slots_decide a b = never (λ e. cc)
+slots_decide a b = never (differ slot_number a b refl)
 
 pub vars_decide : (a b : Var) → Decides (same_var a b) (a ≡ b)
 vars_decide variable.Principal variable.Principal = here
 vars_decide variable.Action variable.Action = here
 vars_decide variable.Resource variable.Resource = here
 vars_decide variable.Context variable.Context = here
-vars_decide a b = never (λ e. cc)
+vars_decide a b = never (differ var_number a b refl)
 
 pub unaries_decide : (a b : UnaryOp) → Decides (same_unary a b) (a ≡ b)
 unaries_decide unary.Not unary.Not = here
 unaries_decide unary.Neg unary.Neg = here
 unaries_decide unary.IsEmpty unary.IsEmpty = here
-unaries_decide a b = never (λ e. cc)
+unaries_decide a b = never (differ unary_op_number a b refl)
 
 pub binaries_decide : (a b : BinaryOp) → Decides (same_binary a b) (a ≡ b)
 binaries_decide binary.Eq binary.Eq = here
@@ -81,7 +88,7 @@ binaries_decide binary.ContainsAll binary.ContainsAll = here
 binaries_decide binary.ContainsAny binary.ContainsAny = here
 binaries_decide binary.GetTag binary.GetTag = here
 binaries_decide binary.HasTag binary.HasTag = here
-binaries_decide a b = never (λ e. cc)
+binaries_decide a b = never (differ binary_op_number a b refl)
 
 -- ---- unknowns and paths of attributes
 

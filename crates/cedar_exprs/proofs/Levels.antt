@@ -13,11 +13,12 @@ use Rattle.cedar_terms.specs.Literals.{bare_literal}
 use Rattle.cedar_terms.specs.PatternOrder.{pattern_eq, pattern_eq_decides}
 use Rattle.cedar_terms.specs.Unknowns.{bare_unknown, unknown_eq}
 use Rattle.cedar_builders.specs.BareExpr.{BareExpr}
+use Rattle.cedar_builders.specs.Shapes.{kind_number}
 use Rattle.cedar_exprs.specs.ExprData.{DataTree, holds, SameData, SameDatas, data_tree_step, kind_data, data_tree, data_trees, values_data}
 use Rattle.cedar_exprs.specs.BareExpr.{ExprKind, node_step, map_kind, bare_expr_kind, bare_expr, bare_exprs, bare_fields, kind_of, data_of}
 use Rattle.cedar_exprs.specs.declared.expr.Expr.{Expr, Expr-F, roll-Expr, out-roll-Expr, fold-roll-Expr, fold_out-Expr, ind-Expr}
 use Rattle.cedar_exprs.specs.declared.expr.KindOf.{KindOf}
-use Rattle.cedar_exprs.proofs.Leaves.{both, exactly, never, same_slot, same_var, same_unary, same_binary, same_text, slots_decide, vars_decide, unaries_decide, binaries_decide, unknowns_decide, texts_decide, paths_decide}
+use Rattle.cedar_exprs.proofs.Leaves.{both, exactly, never, differ, same_slot, same_var, same_unary, same_binary, same_text, slots_decide, vars_decide, unaries_decide, binaries_decide, unknowns_decide, texts_decide, paths_decide}
 
 -- a key with its value
 abbrev same_pair : {Y : Type 0} → (Y → Y → Bool) → RcStr Global × Y → RcStr Global × Y → Bool
@@ -117,7 +118,7 @@ module _ {T : Type 0} (E : T → T → Bool) where
         exactly _ (pairs es.value.entries es'.value.entries) (λ h. (cc (h.0), h.1)) (λ h. (cc (h.0), h.1))
     layer (KindOf.Is a n) (KindOf.Is a' n') =
         exactly _ (both _ _ (a.value.1 a'.value) (name_eq_decides (bare_entity_type n) (bare_entity_type n'))) (λ h. (cc (h.0.0, h.1), (h.0.1, tt))) (λ h. ((cc (h.0), h.1.0), cc (h.0)))
-    layer a b = never (λ h. cc (h.0))
+    layer a b = never (λ h. differ kind_number (bare_expr_kind (map_kind (λ (m : Member). m.0) a)) (bare_expr_kind b) refl h.0)
 
     at_exprs : {x y : Bool} {a b c d : BareExpr} {p q r s : DataTree T} → x ≡ y → a ≡ c → b ≡ d → p ≡ r → q ≡ s → Decides y (Same c d r s) → Decides x (Same a b p q)
     at_exprs e f g h k l = subst (λ x. x) (λ i. Decides (sym e i) ((sym f i ≡ sym g i) × SameData E (sym h i) (sym k i))) l
