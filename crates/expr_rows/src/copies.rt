@@ -1,0 +1,60 @@
+//! Copies of expressions, and other places for their outermost node.
+use crate::arguments::maybe_place;
+use cedar_builders::ExprBuilder as _;
+use cedar_exprs::{Expr, ExprBuilder, ExprKind, ExprShapeOnly};
+use row_parts::{NoAnswer, Part, hash};
+use row_trees::placed;
+use std::alloc::Global;
+
+/// Each position of a copy with its place. The copies of its kind and of its shape agree with it,
+/// and so does the node that its parts make.
+pub fn copy(alloc: Global, e: &Expr) -> Result<String, NoAnswer> {
+    let copy = e.clone(alloc)?;
+    is_same(&copy, e)?;
+    is_kind(&e.expr_kind().clone(alloc)?, e.expr_kind())?;
+    is_shape(alloc, e)?;
+    let copy = put_together(copy);
+    is_same(&copy, e)?;
+    placed(alloc, &copy)
+}
+
+fn is_same(a: &Expr, b: &Expr) -> Result<(), NoAnswer> {
+    if a == b && hash(a) == hash(b) {
+        Ok(())
+    } else {
+        Err(NoAnswer::Disagree("an expression and its copy"))
+    }
+}
+
+fn is_kind(a: &ExprKind, b: &ExprKind) -> Result<(), NoAnswer> {
+    if a == b && hash(a) == hash(b) {
+        Ok(())
+    } else {
+        Err(NoAnswer::Disagree("a kind and its copy"))
+    }
+}
+
+// The copy of a shape that is lent is that of one that is owned.
+fn is_shape(alloc: Global, e: &Expr) -> Result<(), NoAnswer> {
+    let lent = ExprShapeOnly::new_from_borrowed(e);
+    let copy = lent.clone(alloc)?;
+    if copy == ExprShapeOnly::new_from_owned(e.clone(alloc)?) {
+        Ok(())
+    } else {
+        Err(NoAnswer::Disagree("a shape and its copy"))
+    }
+}
+
+// The node of what the expression is taken apart into.
+fn put_together(e: Expr) -> Expr {
+    let (kind, loc, data) = e.into_parts();
+    ExprBuilder::with_data(data)
+        .with_maybe_source_loc(loc)
+        .with_expr_kind(kind)
+}
+
+/// Each position with its place, the outermost at this one.
+pub fn put(alloc: Global, place: &Part, e: Expr) -> Result<String, NoAnswer> {
+    let place = maybe_place(alloc, place)?;
+    placed(alloc, &e.with_maybe_source_loc(place))
+}

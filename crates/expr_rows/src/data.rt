@@ -1,0 +1,97 @@
+//! Trees with data: what constructors give no data, by the struct `ExprBuilder`.
+use crate::arguments::Data;
+use crate::building::rebuilt;
+use crate::constructors::constructed;
+use crate::shapes::shape_hash;
+use crate::struct_calls::made_by;
+use cedar_builders::ExprBuilder as _;
+use cedar_exprs::{Expr, ExprBuilder};
+use row_parts::{NoAnswer, Part, join};
+use row_trees::sketch;
+use std::alloc::Global;
+
+/// Each position with its data. Shapes do not see data.
+pub fn tree(alloc: Global, args: &[Part]) -> Result<String, NoAnswer> {
+    match args {
+        [data, call @ ..] => {
+            let data = number(data)?;
+            let e = with_data(alloc, data, call)?;
+            has_shape(&e, &constructed(alloc, call)?)?;
+            is_alike(&e, &with_data(alloc, data.wrapping_add(1), call)?)?;
+            data_text(alloc, &e)
+        }
+        [] => Err(NoAnswer::NotTaken),
+    }
+}
+
+/// Each position with its data, where the outermost is given this one.
+pub fn put(alloc: Global, args: &[Part]) -> Result<String, NoAnswer> {
+    match args {
+        [data, call @ ..] => {
+            let data = number(data)?;
+            let mut e = with_data(alloc, data.wrapping_add(1), call)?;
+            e.set_data(data);
+            let text = data_text(alloc, &e)?;
+            is_data(e, data)?;
+            Ok(text)
+        }
+        [] => Err(NoAnswer::NotTaken),
+    }
+}
+
+fn is_data(e: Expr<u8>, data: u8) -> Result<(), NoAnswer> {
+    if e.into_data() == data {
+        Ok(())
+    } else {
+        Err(NoAnswer::Disagree("the data"))
+    }
+}
+
+/// Each position with its data, where the struct makes the tree again.
+pub fn rebuild(alloc: Global, args: &[Part]) -> Result<String, NoAnswer> {
+    match args {
+        [data, call @ ..] => {
+            let e = with_data(alloc, number(data)?, call)?;
+            data_text(alloc, &rebuilt(alloc, &e)?)
+        }
+        [] => Err(NoAnswer::NotTaken),
+    }
+}
+
+fn number(part: &Part) -> Result<u8, NoAnswer> {
+    part.word()?.parse().map_err(|_| NoAnswer::NotTaken)
+}
+
+fn with_data<T: Data>(alloc: Global, data: T, call: &[Part]) -> Result<Expr<T>, NoAnswer> {
+    let builder = ExprBuilder::with_data(data);
+    made_by(alloc, builder.clone(alloc)?, call)
+}
+
+// The tree has the shape of one without data.
+fn has_shape(e: &Expr<u8>, plain: &Expr) -> Result<(), NoAnswer> {
+    let is_equal = e.eq_shape(plain);
+    if is_equal && plain.eq_shape(e) && shape_hash(e) == shape_hash(plain) {
+        Ok(())
+    } else {
+        Err(NoAnswer::Disagree("a shape and data"))
+    }
+}
+
+// The trees have one shape.
+fn is_alike(a: &Expr<u8>, b: &Expr<u8>) -> Result<(), NoAnswer> {
+    if a.cmp_shape(b).is_eq() {
+        Ok(())
+    } else {
+        Err(NoAnswer::Disagree("the order of shapes and data"))
+    }
+}
+
+fn data_text(alloc: Global, e: &Expr<u8>) -> Result<String, NoAnswer> {
+    let mut text = String::new(alloc);
+    for position in e.subexpressions(alloc)? {
+        let data = *position.data();
+        let position = sketch(alloc, position)?;
+        join(&mut text, format!(in alloc; "{position} {data}")?.as_str())?;
+    }
+    Ok(text)
+}

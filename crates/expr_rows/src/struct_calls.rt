@@ -1,0 +1,256 @@
+//! The calls of the struct `ExprBuilder`, by their names.
+use crate::arguments::{
+    Data, Leaf, attributes, entity_type, function, leaf_of, maybe_place, members, pairs, shared,
+    values,
+};
+use cedar_builders::{BuildFault, ExprBuilder as _, ExpressionConstructionError};
+use cedar_exprs::{Expr, ExprBuilder};
+use cedar_names::Loc;
+use row_parts::{NoAnswer, Part, pattern, shared_text};
+use row_trees::{binary, expr, placed, unary};
+use std::alloc::{AllocError, Global};
+use std::rc::RcStr;
+
+/// What a copy of the builder with this place makes.
+pub fn built(alloc: Global, args: &[Part]) -> Result<String, NoAnswer> {
+    match args {
+        [place, call @ ..] => {
+            let place = maybe_place(alloc, place)?;
+            let builder = ExprBuilder::<()>::new().with_maybe_source_loc(place);
+            placed(alloc, &made_by(alloc, builder.clone(alloc)?, call)?)
+        }
+        [] => Err(NoAnswer::NotTaken),
+    }
+}
+
+/// What the builder with the place of an expression makes.
+pub fn same(alloc: Global, args: &[Part]) -> Result<String, NoAnswer> {
+    match args {
+        [e, call @ ..] => {
+            let builder = builder_at(alloc, &expr(alloc, e)?)?;
+            placed(alloc, &made_by(alloc, builder, call)?)
+        }
+        [] => Err(NoAnswer::NotTaken),
+    }
+}
+
+// The place of the expression, also none, replaces that of the builder.
+fn builder_at(alloc: Global, e: &Expr) -> Result<ExprBuilder<()>, NoAnswer> {
+    let place = Loc::new(0, 0, RcStr::from_str(alloc, "src")?);
+    let builder = ExprBuilder::new().with_maybe_source_loc(Some(place));
+    Ok(builder.with_same_source_loc(alloc, e)?)
+}
+
+/// The expression that the builder's call makes which the first word names.
+pub fn made_by<T: Data>(
+    alloc: Global,
+    builder: ExprBuilder<T>,
+    call: &[Part],
+) -> Result<Expr<T>, NoAnswer> {
+    match call {
+        [f, args @ ..] => of_many(alloc, builder, f.word()?, args),
+        [] => Err(NoAnswer::NotTaken),
+    }
+}
+
+// The calls of any number of parts, or of a number that tells them apart.
+fn of_many<T: Data>(
+    alloc: Global,
+    builder: ExprBuilder<T>,
+    f: &str,
+    args: &[Part],
+) -> Result<Expr<T>, NoAnswer> {
+    match f {
+        "set" => Ok(builder.set(alloc, members(alloc, args)?)?),
+        "record" => record(alloc, builder, args),
+        "record_arc" => Ok(builder.record_arc(values(alloc, args)?)),
+        "call_extension_fn" => call(alloc, builder, args),
+        "extended_has_attr" => path(alloc, builder, args),
+        _ => match args {
+            [a] => of_one(alloc, builder, f, a),
+            [a, b] => of_two(alloc, builder, f, a, b),
+            [a, b, c] => of_three(alloc, builder, f, a, b, c),
+            _ => Err(NoAnswer::NotTaken),
+        },
+    }
+}
+
+fn record<T: Data>(
+    alloc: Global,
+    builder: ExprBuilder<T>,
+    args: &[Part],
+) -> Result<Expr<T>, NoAnswer> {
+    match builder.record(alloc, pairs(alloc, args)?) {
+        Ok(record) => Ok(record),
+        Err(ExpressionConstructionError::Memory) => Err(NoAnswer::Memory),
+        Err(ExpressionConstructionError::DuplicateKey(_)) => Err(NoAnswer::NotTaken),
+    }
+}
+
+fn call<T: Data>(
+    alloc: Global,
+    builder: ExprBuilder<T>,
+    args: &[Part],
+) -> Result<Expr<T>, NoAnswer> {
+    match args {
+        [f, args @ ..] => called(alloc, builder, f, args),
+        [] => Err(NoAnswer::NotTaken),
+    }
+}
+
+fn called<T: Data>(
+    alloc: Global,
+    builder: ExprBuilder<T>,
+    f: &Part,
+    args: &[Part],
+) -> Result<Expr<T>, NoAnswer> {
+    let fn_name = function(alloc, f)?;
+    match builder.call_extension_fn(alloc, fn_name, members(alloc, args)?) {
+        Ok(call) => Ok(call),
+        Err(BuildFault::Build(never)) => match never {},
+        Err(BuildFault::Memory) => Err(NoAnswer::Memory),
+    }
+}
+
+fn path<T: Data>(
+    alloc: Global,
+    builder: ExprBuilder<T>,
+    args: &[Part],
+) -> Result<Expr<T>, NoAnswer> {
+    match args {
+        [e, first, further @ ..] => {
+            let attrs = attributes(alloc, first, further)?;
+            Ok(builder.extended_has_attr(alloc, T::read(alloc, e)?, attrs)?)
+        }
+        _ => Err(NoAnswer::NotTaken),
+    }
+}
+
+fn of_one<T: Data>(
+    alloc: Global,
+    builder: ExprBuilder<T>,
+    f: &str,
+    a: &Part,
+) -> Result<Expr<T>, NoAnswer> {
+    match f {
+        "val" | "var" | "slot" | "unknown" => Ok(leaf_expr(alloc, builder, leaf_of(alloc, f, a)?)?),
+        "with_expr_kind" => Ok(builder.with_expr_kind(T::read(alloc, a)?.into_expr_kind())),
+        _ => negated_or_tested(alloc, builder, f, T::read(alloc, a)?),
+    }
+}
+
+/// The leaf that the builder makes of what it holds.
+pub fn leaf_expr<T: Default + Copy>(
+    alloc: Global,
+    builder: ExprBuilder<T>,
+    leaf: Leaf,
+) -> Result<Expr<T>, AllocError> {
+    match leaf {
+        Leaf::Literal(literal) => builder.val(alloc, literal),
+        Leaf::Var(var) => builder.var(alloc, var),
+        Leaf::Slot(slot) => builder.slot(alloc, slot),
+        Leaf::Unknown(unknown) => builder.unknown(alloc, unknown),
+    }
+}
+
+fn negated_or_tested<T: Data>(
+    alloc: Global,
+    builder: ExprBuilder<T>,
+    f: &str,
+    arg: Expr<T>,
+) -> Result<Expr<T>, NoAnswer> {
+    let made = match f {
+        "not" => builder.not(alloc, arg),
+        "neg" => builder.neg(alloc, arg),
+        "is_empty" => builder.is_empty(alloc, arg),
+        _ => return Err(NoAnswer::NotTaken),
+    };
+    Ok(made?)
+}
+
+fn of_two<T: Data>(
+    alloc: Global,
+    builder: ExprBuilder<T>,
+    f: &str,
+    a: &Part,
+    b: &Part,
+) -> Result<Expr<T>, NoAnswer> {
+    match f {
+        "unary_app" => Ok(builder.unary_app(alloc, unary(a.word()?)?, T::read(alloc, b)?)?),
+        "get_attr" => Ok(builder.get_attr(alloc, T::read(alloc, a)?, shared_text(alloc, b)?)?),
+        "has_attr" => Ok(builder.has_attr(alloc, T::read(alloc, a)?, shared_text(alloc, b)?)?),
+        "like" => Ok(builder.like(alloc, T::read(alloc, a)?, pattern(alloc, b)?)?),
+        "is_entity_type" => {
+            let entity_type = entity_type(alloc, b)?;
+            Ok(builder.is_entity_type(alloc, T::read(alloc, a)?, entity_type)?)
+        }
+        _ => connected(alloc, builder, f, T::read(alloc, a)?, T::read(alloc, b)?),
+    }
+}
+
+fn connected<T: Data>(
+    alloc: Global,
+    builder: ExprBuilder<T>,
+    f: &str,
+    a: Expr<T>,
+    b: Expr<T>,
+) -> Result<Expr<T>, NoAnswer> {
+    match f {
+        "and" => Ok(builder.and(alloc, a, b)?),
+        "or" => Ok(builder.or(alloc, a, b)?),
+        "noteq" => Ok(builder.noteq(alloc, a, b)?),
+        "greater" => Ok(builder.greater(alloc, a, b)?),
+        "greatereq" => Ok(builder.greatereq(alloc, a, b)?),
+        _ => operated(alloc, builder, f, a, b),
+    }
+}
+
+fn operated<T: Data>(
+    alloc: Global,
+    builder: ExprBuilder<T>,
+    f: &str,
+    a: Expr<T>,
+    b: Expr<T>,
+) -> Result<Expr<T>, NoAnswer> {
+    let made = match f {
+        "is_eq" => builder.is_eq(alloc, a, b),
+        "less" => builder.less(alloc, a, b),
+        "lesseq" => builder.lesseq(alloc, a, b),
+        "add" => builder.add(alloc, a, b),
+        "sub" => builder.sub(alloc, a, b),
+        "mul" => builder.mul(alloc, a, b),
+        "is_in" => builder.is_in(alloc, a, b),
+        "contains" => builder.contains(alloc, a, b),
+        "contains_all" => builder.contains_all(alloc, a, b),
+        "contains_any" => builder.contains_any(alloc, a, b),
+        "get_tag" => builder.get_tag(alloc, a, b),
+        "has_tag" => builder.has_tag(alloc, a, b),
+        _ => return Err(NoAnswer::NotTaken),
+    };
+    Ok(made?)
+}
+
+fn of_three<T: Data>(
+    alloc: Global,
+    builder: ExprBuilder<T>,
+    f: &str,
+    a: &Part,
+    b: &Part,
+    c: &Part,
+) -> Result<Expr<T>, NoAnswer> {
+    match f {
+        "binary_app" => {
+            let op = binary(a.word()?)?;
+            Ok(builder.binary_app(alloc, op, T::read(alloc, b)?, T::read(alloc, c)?)?)
+        }
+        "ite" => {
+            let (test, then) = (T::read(alloc, a)?, T::read(alloc, b)?);
+            Ok(builder.ite(alloc, test, then, T::read(alloc, c)?)?)
+        }
+        "ite_arc" => {
+            let (test, then) = (shared(alloc, a)?, shared(alloc, b)?);
+            Ok(builder.ite_arc(test, then, shared(alloc, c)?))
+        }
+        _ => Err(NoAnswer::NotTaken),
+    }
+}

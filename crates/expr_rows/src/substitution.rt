@@ -1,0 +1,58 @@
+//! Substitution, untyped and typed.
+use crate::errors::substitution_text;
+use cedar_exprs::{Expr, SubstitutionError};
+use cedar_terms::Type;
+use row_parts::{NoAnswer, Part};
+use row_trees::{bindings, placed, sketch};
+use std::alloc::Global;
+
+/// The tree after substitution.
+pub fn subst(alloc: Global, e: &Expr, env: &Part) -> Result<String, NoAnswer> {
+    sketch(alloc, &substituted(alloc, e, env)?)
+}
+
+/// Each position after substitution, with its place.
+pub fn subst_placed(alloc: Global, e: &Expr, env: &Part) -> Result<String, NoAnswer> {
+    placed(alloc, &substituted(alloc, e, env)?)
+}
+
+/// The expression after substitution.
+pub fn substituted(alloc: Global, e: &Expr, env: &Part) -> Result<Expr, NoAnswer> {
+    let values = bindings(alloc, env)?;
+    Ok(e.substitute(alloc, &values)?)
+}
+
+/// The tree after typed substitution, or the types that clash.
+pub fn typed(alloc: Global, e: &Expr, env: &Part) -> Result<String, NoAnswer> {
+    match substituted_typed(alloc, e, env)? {
+        Ok(e) => Ok(format!(in alloc; "ok {}", sketch(alloc, &e)?)?),
+        Err(SubstitutionError::TypeError { expected, actual }) => {
+            clash_text(alloc, &expected, &actual)
+        }
+        Err(SubstitutionError::Memory) => Err(NoAnswer::Memory),
+    }
+}
+
+/// What the error of typed substitution says.
+pub fn clash(alloc: Global, e: &Expr, env: &Part) -> Result<String, NoAnswer> {
+    match substituted_typed(alloc, e, env)? {
+        Ok(_) => Ok(format!(in alloc; "none")?),
+        Err(SubstitutionError::Memory) => Err(NoAnswer::Memory),
+        Err(e) => substitution_text(alloc, &e),
+    }
+}
+
+/// What typed substitution gives.
+pub fn substituted_typed(
+    alloc: Global,
+    e: &Expr,
+    env: &Part,
+) -> Result<Result<Expr, SubstitutionError>, NoAnswer> {
+    let values = bindings(alloc, env)?;
+    Ok(e.substitute_typed(alloc, &values))
+}
+
+/// The types that clash.
+pub fn clash_text(alloc: Global, expected: &Type, actual: &Type) -> Result<String, NoAnswer> {
+    Ok(format!(in alloc; "type-clash {expected} | {actual}")?)
+}

@@ -1,0 +1,56 @@
+//! What walks over an expression give.
+use cedar_exprs::{Expr, ExprIterator, SlotRef};
+use cedar_terms::Unknown;
+use row_parts::{NoAnswer, join, place};
+use row_trees::sketch;
+use std::alloc::Global;
+
+/// Each position.
+pub fn positions(alloc: Global, e: &Expr) -> Result<String, NoAnswer> {
+    let mut text = String::new(alloc);
+    for position in e.subexpressions(alloc)? {
+        join(&mut text, sketch(alloc, position)?.as_str())?;
+    }
+    Ok(text)
+}
+
+/// How many positions there are.
+pub fn count(alloc: Global, e: &Expr) -> Result<String, NoAnswer> {
+    let mut count = 0u64;
+    for _ in ExprIterator::new(alloc, e)? {
+        count = count.saturating_add(1);
+    }
+    Ok(format!(in alloc; "{count}")?)
+}
+
+/// Each slot with its place.
+pub fn slots(alloc: Global, e: &Expr) -> Result<String, NoAnswer> {
+    let mut text = String::new(alloc);
+    for slot in e.slots(alloc)? {
+        join(&mut text, slot_text(alloc, &slot)?.as_str())?;
+    }
+    Ok(text)
+}
+
+// The slot has its own place as it is lent.
+fn slot_text(alloc: Global, lent: &SlotRef) -> Result<String, NoAnswer> {
+    let slot = lent.to_slot(alloc)?;
+    if slot.loc.as_ref() != lent.loc || slot.id != lent.id {
+        return Err(NoAnswer::Disagree("a slot and its copy"));
+    }
+    let loc = place(alloc, slot.loc.as_ref())?;
+    Ok(format!(in alloc; "{} @{loc}", slot.id)?)
+}
+
+/// Each unknown.
+pub fn unknowns(alloc: Global, e: &Expr) -> Result<String, NoAnswer> {
+    let mut text = String::new(alloc);
+    for unknown in e.unknowns(alloc)? {
+        join(&mut text, unknown_text(alloc, unknown)?.as_str())?;
+    }
+    Ok(text)
+}
+
+fn unknown_text(alloc: Global, unknown: &Unknown) -> Result<String, NoAnswer> {
+    sketch(alloc, &Expr::unknown(unknown.clone(alloc)?))
+}

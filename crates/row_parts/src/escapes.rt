@@ -1,0 +1,107 @@
+//! Texts and patterns by their escapes.
+use crate::no_answer::NoAnswer;
+use crate::part::Part;
+use cedar_terms::{Pattern, PatternElem};
+use std::alloc::Global;
+
+// How much of an escape was read: nothing, the backslash, the `u`, or the digits so far.
+#[derive(Clone, Copy)]
+enum Escape {
+    Nothing,
+    Backslash,
+    Unicode,
+    Digits(Option<u32>),
+}
+
+/// The text that a part in quotes stands for.
+pub fn text(alloc: Global, part: &Part) -> Result<String, NoAnswer> {
+    unescaped(alloc, part.escaped_text()?)
+}
+
+/// The text that escapes stand for.
+pub fn unescaped(alloc: Global, escaped: &str) -> Result<String, NoAnswer> {
+    let mut text = String::new(alloc);
+    let mut at = Escape::Nothing;
+    for c in escaped.chars() {
+        let (next, read) = step(at, c)?;
+        if let Some(c) = read {
+            text.push(c)?;
+        }
+        at = next;
+    }
+    ended(at)?;
+    Ok(text)
+}
+
+/// The pattern that a part in quotes stands for: `*` is the wildcard, `\*` the star.
+pub fn pattern(alloc: Global, part: &Part) -> Result<Pattern, NoAnswer> {
+    let mut elems = Vec::new(alloc);
+    let mut at = Escape::Nothing;
+    for c in part.escaped_text()?.chars() {
+        match (at, c) {
+            (Escape::Nothing, '*') => elems.push(PatternElem::Wildcard)?,
+            (Escape::Backslash, '*') => {
+                elems.push(PatternElem::Char('*'))?;
+                at = Escape::Nothing;
+            }
+            _ => {
+                let (next, read) = step(at, c)?;
+                if let Some(c) = read {
+                    elems.push(PatternElem::Char(c))?;
+                }
+                at = next;
+            }
+        }
+    }
+    ended(at)?;
+    Ok(Pattern::from_vec(alloc, elems)?)
+}
+
+// What follows, and the character that was read, if one ended here.
+fn step(at: Escape, c: char) -> Result<(Escape, Option<char>), NoAnswer> {
+    match at {
+        Escape::Nothing => match c {
+            '\\' => Ok((Escape::Backslash, None)),
+            _ => Ok((Escape::Nothing, Some(c))),
+        },
+        Escape::Backslash => match c {
+            '0' => Ok((Escape::Nothing, Some('\0'))),
+            't' => Ok((Escape::Nothing, Some('\t'))),
+            'r' => Ok((Escape::Nothing, Some('\r'))),
+            'n' => Ok((Escape::Nothing, Some('\n'))),
+            '\\' | '"' | '\'' => Ok((Escape::Nothing, Some(c))),
+            'u' => Ok((Escape::Unicode, None)),
+            _ => Err(NoAnswer::NotTaken),
+        },
+        Escape::Unicode => match c {
+            '{' => Ok((Escape::Digits(None), None)),
+            _ => Err(NoAnswer::NotTaken),
+        },
+        Escape::Digits(number) => match c {
+            '}' => Ok((Escape::Nothing, Some(character(number)?))),
+            _ => Ok((Escape::Digits(Some(with_digit(number, c)?)), None)),
+        },
+    }
+}
+
+fn character(number: Option<u32>) -> Result<char, NoAnswer> {
+    number.and_then(char::from_u32).ok_or(NoAnswer::NotTaken)
+}
+
+// The number with one more digit.
+fn with_digit(number: Option<u32>, c: char) -> Result<u32, NoAnswer> {
+    let Some(digit) = c.to_digit(16) else {
+        return Err(NoAnswer::NotTaken);
+    };
+    let Some(shifted) = number.unwrap_or(0).checked_mul(16) else {
+        return Err(NoAnswer::NotTaken);
+    };
+    shifted.checked_add(digit).ok_or(NoAnswer::NotTaken)
+}
+
+fn ended(at: Escape) -> Result<(), NoAnswer> {
+    match at {
+        Escape::Nothing => Ok(()),
+        _ => Err(NoAnswer::NotTaken),
+    }
+}

@@ -1,0 +1,293 @@
+//! The expressions that parts of a row stand for, each node as it is written and never simplified.
+use cedar_builders::{ExprBuilder as _, ExpressionConstructionError};
+use cedar_exprs::{Expr, ExprBuilder, ExprKind};
+use cedar_names::{Loc, NonEmpty, SlotId};
+use cedar_terms::{BinaryOp, EntityType, UnaryOp, Unknown, Var};
+use row_parts::{
+    NoAnswer, Part, literal, loc, name, pattern, shared_text, term_type, word_literal,
+};
+use std::alloc::Global;
+use std::rc::{Rc, RcStr};
+
+/// The expression that a part stands for: as the sketch writes it, beside it `(exthas E "a" ..)` and
+/// `(@ 3 7 E)`, E at the place 3..7; and of shared nodes `(thrice E)`, an `if` of E three times, and
+/// `(thirds E)`, an `if` of a set of E twice and of another set of the same row.
+#[cycle(trees)]
+pub fn expr(alloc: Global, part: &Part) -> Result<Expr, NoAnswer> {
+    match part {
+        Part::List(parts) => compound(alloc, parts),
+        Part::Word(word) => word_expr(word),
+        _ => text_expr(alloc, part),
+    }
+}
+
+// The literal of a text or an entity.
+fn text_expr(alloc: Global, part: &Part) -> Result<Expr, NoAnswer> {
+    match literal(alloc, part)? {
+        Some(literal) => Ok(Expr::val(literal)),
+        None => Err(NoAnswer::NotTaken),
+    }
+}
+
+fn word_expr(word: &str) -> Result<Expr, NoAnswer> {
+    if let Some(literal) = word_literal(word) {
+        return Ok(Expr::val(literal));
+    }
+    match word {
+        "principal" => Ok(Expr::var(Var::Principal)),
+        "action" => Ok(Expr::var(Var::Action)),
+        "resource" => Ok(Expr::var(Var::Resource)),
+        "context" => Ok(Expr::var(Var::Context)),
+        "?principal" => Ok(Expr::slot(SlotId::principal())),
+        "?resource" => Ok(Expr::slot(SlotId::resource())),
+        _ => Err(NoAnswer::NotTaken),
+    }
+}
+
+#[cycle(trees)]
+fn compound(alloc: Global, parts: &[Part]) -> Result<Expr, NoAnswer> {
+    match parts {
+        [head, a] => match head.word()? {
+            "unknown" => untyped(alloc, a.word()?),
+            "set" | "record" | "call" => several(alloc, head.word()?, parts),
+            "thrice" => thrice(alloc, expr(alloc, a)?),
+            "thirds" => thirds(alloc, expr(alloc, a)?),
+            op => of_one(alloc, op, expr(alloc, a)?),
+        },
+        [head, a, b] => match head.word()? {
+            "set" | "record" | "call" | "exthas" => several(alloc, head.word()?, parts),
+            "unknown" => typed(alloc, a.word()?, b),
+            "get" | "has" | "like" | "is" => of_text(alloc, head.word()?, expr(alloc, a)?, b),
+            op => of_two(alloc, op, expr(alloc, a)?, expr(alloc, b)?),
+        },
+        [head, a, b, c] => match head.word()? {
+            "@" => at_place(loc(alloc, a, b)?, expr(alloc, c)?),
+            "if" => of_three(alloc, expr(alloc, a)?, expr(alloc, b)?, expr(alloc, c)?),
+            head => several(alloc, head, parts),
+        },
+        [head, ..] => several(alloc, head.word()?, parts),
+        [] => Err(NoAnswer::NotTaken),
+    }
+}
+
+fn of_one(alloc: Global, op: &str, arg: Expr) -> Result<Expr, NoAnswer> {
+    let op = unary(op)?;
+    let arg = Rc::new(alloc, arg)?;
+    Ok(made(ExprKind::UnaryApp { op, arg }))
+}
+
+// An `if` of one shared node three times.
+fn thrice(alloc: Global, child: Expr) -> Result<Expr, NoAnswer> {
+    let child = Rc::new(alloc, child)?;
+    Ok(Expr::ite_arc(child.clone()?, child.clone()?, child))
+}
+
+// An `if` of one shared set twice, and of a set that shares its row.
+fn thirds(alloc: Global, member: Expr) -> Result<Expr, NoAnswer> {
+    let row = Rc::new(alloc, row(alloc, member)?)?;
+    let twice = Rc::new(alloc, made(ExprKind::Set(row.clone()?)))?;
+    let last = Rc::new(alloc, made(ExprKind::Set(row)))?;
+    Ok(Expr::ite_arc(twice.clone()?, twice, last))
+}
+
+fn row(alloc: Global, member: Expr) -> Result<Vec<Expr>, NoAnswer> {
+    let mut row = Vec::new(alloc);
+    row.push(member)?;
+    Ok(row)
+}
+
+fn at_place(place: Loc, inner: Expr) -> Result<Expr, NoAnswer> {
+    Ok(inner.with_maybe_source_loc(Some(place)))
+}
+
+fn of_three(alloc: Global, a: Expr, b: Expr, c: Expr) -> Result<Expr, NoAnswer> {
+    let test_expr = Rc::new(alloc, a)?;
+    let then_expr = Rc::new(alloc, b)?;
+    let else_expr = Rc::new(alloc, c)?;
+    Ok(made(ExprKind::If {
+        test_expr,
+        then_expr,
+        else_expr,
+    }))
+}
+
+fn untyped(alloc: Global, name: &str) -> Result<Expr, NoAnswer> {
+    let name = RcStr::from_str(alloc, name)?;
+    Ok(Expr::unknown(Unknown::new_untyped(name)))
+}
+
+fn typed(alloc: Global, name: &str, ty: &Part) -> Result<Expr, NoAnswer> {
+    let ty = term_type(alloc, ty)?;
+    let name = RcStr::from_str(alloc, name)?;
+    Ok(Expr::unknown(Unknown::new_with_type(name, ty)))
+}
+
+fn of_two(alloc: Global, op: &str, a: Expr, b: Expr) -> Result<Expr, NoAnswer> {
+    let left = Rc::new(alloc, a)?;
+    let right = Rc::new(alloc, b)?;
+    match op {
+        "and" => Ok(made(ExprKind::And { left, right })),
+        "or" => Ok(made(ExprKind::Or { left, right })),
+        _ => {
+            let op = binary(op)?;
+            Ok(made(ExprKind::BinaryApp {
+                op,
+                arg1: left,
+                arg2: right,
+            }))
+        }
+    }
+}
+
+fn of_text(alloc: Global, op: &str, e: Expr, b: &Part) -> Result<Expr, NoAnswer> {
+    let expr = Rc::new(alloc, e)?;
+    match op {
+        "get" => {
+            let attr = shared_text(alloc, b)?;
+            Ok(made(ExprKind::GetAttr { expr, attr }))
+        }
+        "has" => {
+            let attr = shared_text(alloc, b)?;
+            Ok(made(ExprKind::HasAttr { expr, attr }))
+        }
+        "like" => {
+            let pattern = pattern(alloc, b)?;
+            Ok(made(ExprKind::Like { expr, pattern }))
+        }
+        _ => {
+            let entity_type = EntityType::from(name(alloc, b.word()?)?);
+            Ok(made(ExprKind::Is { expr, entity_type }))
+        }
+    }
+}
+
+// The part of a count of parts of its own, from the list's word on.
+#[cycle(trees)]
+fn several(alloc: Global, head: &str, parts: &[Part]) -> Result<Expr, NoAnswer> {
+    match head {
+        "set" => set(alloc, exprs(alloc, parts, 1)?),
+        "record" => record(alloc, pairs(alloc, parts, 1)?),
+        "call" => call(alloc, parts, exprs(alloc, parts, 2)?),
+        "has" | "exthas" => match parts {
+            [_, e, ..] => ext_has(alloc, expr(alloc, e)?, parts),
+            _ => Err(NoAnswer::NotTaken),
+        },
+        _ => Err(NoAnswer::NotTaken),
+    }
+}
+
+fn set(alloc: Global, members: Vec<Expr>) -> Result<Expr, NoAnswer> {
+    Ok(made(ExprKind::Set(Rc::new(alloc, members)?)))
+}
+
+fn record(alloc: Global, pairs: Vec<(RcStr, Expr)>) -> Result<Expr, NoAnswer> {
+    match Expr::record(alloc, pairs) {
+        Ok(record) => Ok(record),
+        Err(ExpressionConstructionError::DuplicateKey(_)) => Err(NoAnswer::NotTaken),
+        Err(ExpressionConstructionError::Memory) => Err(NoAnswer::Memory),
+    }
+}
+
+fn call(alloc: Global, parts: &[Part], args: Vec<Expr>) -> Result<Expr, NoAnswer> {
+    match parts {
+        [_, f, ..] => {
+            let fn_name = name(alloc, f.word()?)?;
+            let args = Rc::new(alloc, args)?;
+            Ok(made(ExprKind::ExtensionFunctionApp { fn_name, args }))
+        }
+        _ => Err(NoAnswer::NotTaken),
+    }
+}
+
+fn ext_has(alloc: Global, e: Expr, parts: &[Part]) -> Result<Expr, NoAnswer> {
+    let expr = Rc::new(alloc, e)?;
+    match parts {
+        [_, _, first, more @ ..] => {
+            let first = shared_text(alloc, first)?;
+            let attrs = NonEmpty::new(first, texts(alloc, more)?);
+            Ok(made(ExprKind::ExtHasAttr { expr, attrs }))
+        }
+        _ => Err(NoAnswer::NotTaken),
+    }
+}
+
+// The node of this kind, as it stands.
+fn made(kind: ExprKind) -> Expr {
+    ExprBuilder::new().with_expr_kind(kind)
+}
+
+/// The expressions that the parts from an index on stand for.
+#[cycle(trees)]
+pub fn exprs(alloc: Global, parts: &[Part], from: usize) -> Result<Vec<Expr>, NoAnswer> {
+    let mut exprs = Vec::new(alloc);
+    for (index, part) in parts.iter().enumerate() {
+        if index >= from {
+            exprs.push(expr(alloc, part)?)?;
+        }
+    }
+    Ok(exprs)
+}
+
+/// The pairs `("key" E)` that stand from an index on.
+#[cycle(trees)]
+pub fn pairs(alloc: Global, parts: &[Part], from: usize) -> Result<Vec<(RcStr, Expr)>, NoAnswer> {
+    let mut pairs = Vec::new(alloc);
+    for (index, part) in parts.iter().enumerate() {
+        if index >= from {
+            pairs.push(pair(alloc, part)?)?;
+        }
+    }
+    Ok(pairs)
+}
+
+#[cycle(trees)]
+fn pair(alloc: Global, part: &Part) -> Result<(RcStr, Expr), NoAnswer> {
+    match part {
+        Part::List(parts) => match parts.as_slice() {
+            [key, value] => {
+                let key = shared_text(alloc, key)?;
+                Ok((key, expr(alloc, value)?))
+            }
+            _ => Err(NoAnswer::NotTaken),
+        },
+        _ => Err(NoAnswer::NotTaken),
+    }
+}
+
+/// The texts that parts in quotes stand for.
+pub fn texts(alloc: Global, parts: &[Part]) -> Result<Vec<RcStr>, NoAnswer> {
+    let mut texts = Vec::new(alloc);
+    for part in parts {
+        texts.push(shared_text(alloc, part)?)?;
+    }
+    Ok(texts)
+}
+
+/// The operator on one argument that a word spells.
+pub fn unary(op: &str) -> Result<UnaryOp, NoAnswer> {
+    match op {
+        "!" => Ok(UnaryOp::Not),
+        "-" => Ok(UnaryOp::Neg),
+        "isEmpty" => Ok(UnaryOp::IsEmpty),
+        _ => Err(NoAnswer::NotTaken),
+    }
+}
+
+/// The operator on two arguments that a word spells.
+pub fn binary(op: &str) -> Result<BinaryOp, NoAnswer> {
+    match op {
+        "==" => Ok(BinaryOp::Eq),
+        "<" => Ok(BinaryOp::Less),
+        "<=" => Ok(BinaryOp::LessEq),
+        "+" => Ok(BinaryOp::Add),
+        "-" => Ok(BinaryOp::Sub),
+        "*" => Ok(BinaryOp::Mul),
+        "in" => Ok(BinaryOp::In),
+        "contains" => Ok(BinaryOp::Contains),
+        "containsAll" => Ok(BinaryOp::ContainsAll),
+        "containsAny" => Ok(BinaryOp::ContainsAny),
+        "getTag" => Ok(BinaryOp::GetTag),
+        "hasTag" => Ok(BinaryOp::HasTag),
+        _ => Err(NoAnswer::NotTaken),
+    }
+}

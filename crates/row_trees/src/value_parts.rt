@@ -1,0 +1,228 @@
+//! The values that parts of a row stand for.
+use crate::expr_parts::expr;
+use crate::keyed::Keyed;
+use crate::sketched::sketch;
+use cedar_exprs::{Expr, ExprKind, RestrictedExpr, RestrictedExprError};
+use cedar_names::Loc;
+use cedar_terms::Literal;
+use cedar_values::{RepresentableExtensionValue, Set, Value, ValueKind};
+use row_parts::{NoAnswer, Part, count, literal, loc, name, shared_text, text};
+use std::alloc::Global;
+use std::collections::HashMap;
+use std::rc::{Rc, RcStr};
+
+/// A value whose extension values are keyed.
+pub type KeyedValue = Value<Keyed>;
+
+/// What unknowns are bound to: `(("x" V) ..)`; of equal names the last stands.
+pub fn bindings(alloc: Global, part: &Part) -> Result<HashMap<RcStr, KeyedValue>, NoAnswer> {
+    let mut values = HashMap::new(alloc);
+    for (key, bound) in value_pairs(alloc, part.list()?, 0)? {
+        drop(values.insert(key, bound)?);
+    }
+    Ok(values)
+}
+
+/// The value that a part stands for: a literal, `(set V ..)`, `(setfrom V ..)`, `(setlits V ..)`,
+/// `(record ("k" V) ..)`, `(@ 3 7 V)` at a place, `(@ - V)` at none, `(ext K "NOTE")`,
+/// `(lazy K "NOTE")`, `(extas K CALL)`, or `(within 3 V)`, V in three sets inside one another.
+#[cycle(values)]
+pub fn value(alloc: Global, part: &Part) -> Result<KeyedValue, NoAnswer> {
+    match part {
+        Part::List(parts) => compound(alloc, parts),
+        _ => match literal(alloc, part)? {
+            Some(literal) => from_literal(literal),
+            None => Err(NoAnswer::NotTaken),
+        },
+    }
+}
+
+#[cycle(values)]
+fn compound(alloc: Global, parts: &[Part]) -> Result<KeyedValue, NoAnswer> {
+    match parts {
+        [head, a, b] => match head.word()? {
+            "ext" => given(alloc, number(alloc, a)?, text(alloc, b)?),
+            "lazy" => lazy(alloc, number(alloc, a)?),
+            "extas" => called(alloc, number(alloc, a)?, &expr(alloc, b)?),
+            "within" => within(alloc, count(a)?, value(alloc, b)?),
+            "@" => at_no_place(a, value(alloc, b)?),
+            head => several(alloc, head, parts),
+        },
+        [head, a, b, c] => match head.word()? {
+            "@" => at_place(loc(alloc, a, b)?, value(alloc, c)?),
+            head => several(alloc, head, parts),
+        },
+        [head, ..] => several(alloc, head.word()?, parts),
+        [] => Err(NoAnswer::NotTaken),
+    }
+}
+
+#[cycle(values)]
+fn several(alloc: Global, head: &str, parts: &[Part]) -> Result<KeyedValue, NoAnswer> {
+    match head {
+        "set" => sorted(alloc, values(alloc, parts, 1)?),
+        "setfrom" => set_from(alloc, values(alloc, parts, 1)?),
+        "setlits" => set_of_lits(alloc, literals(alloc, parts, 1)?),
+        "record" => record(alloc, value_pairs(alloc, parts, 1)?),
+        _ => Err(NoAnswer::NotTaken),
+    }
+}
+
+fn from_literal(literal: Literal) -> Result<KeyedValue, NoAnswer> {
+    Ok(Value::from(literal))
+}
+
+fn at_place(place: Loc, inner: KeyedValue) -> Result<KeyedValue, NoAnswer> {
+    Ok(inner.with_maybe_source_loc(Some(place)))
+}
+
+// What stands in the place of a place has to be `-`.
+fn at_no_place(place: &Part, inner: KeyedValue) -> Result<KeyedValue, NoAnswer> {
+    match place.word()? {
+        "-" => Ok(inner.with_maybe_source_loc(None)),
+        _ => Err(NoAnswer::NotTaken),
+    }
+}
+
+fn within(alloc: Global, depth: usize, inner: KeyedValue) -> Result<KeyedValue, NoAnswer> {
+    let mut value = inner;
+    for _ in 0..depth {
+        let mut member = Vec::new(alloc);
+        member.push(value)?;
+        value = Value::set(alloc, member, None)?;
+    }
+    Ok(value)
+}
+
+fn sorted(alloc: Global, values: Vec<KeyedValue>) -> Result<KeyedValue, NoAnswer> {
+    Ok(Value::set(alloc, values, None)?)
+}
+
+fn set_from(alloc: Global, values: Vec<KeyedValue>) -> Result<KeyedValue, NoAnswer> {
+    let set = Set::from_values(alloc, values)?;
+    Ok(Value::new(ValueKind::Set(set), None))
+}
+
+fn set_of_lits(alloc: Global, literals: Vec<Literal>) -> Result<KeyedValue, NoAnswer> {
+    Ok(Value::set_of_lits(alloc, literals, None)?)
+}
+
+fn record(alloc: Global, pairs: Vec<(RcStr, KeyedValue)>) -> Result<KeyedValue, NoAnswer> {
+    Ok(Value::record(alloc, pairs, None)?)
+}
+
+fn given(alloc: Global, key: i64, note: String) -> Result<KeyedValue, NoAnswer> {
+    let mut args = Vec::new(alloc);
+    args.push(Expr::val(Literal::from(key)))?;
+    args.push(Expr::val(Literal::from(RcStr::from_string(note)?)))?;
+    let call = Expr::call_extension_fn(alloc, name(alloc, "ext")?, args)?;
+    called(alloc, key, &call)
+}
+
+fn lazy(alloc: Global, key: i64) -> Result<KeyedValue, NoAnswer> {
+    let keyed = Keyed::new(key, format!(in alloc; "(call canon {key})")?);
+    extension(alloc, RepresentableExtensionValue::new_lazy(keyed))
+}
+
+/// The values that the parts from an index on stand for.
+#[cycle(values)]
+pub fn values(alloc: Global, parts: &[Part], from: usize) -> Result<Vec<KeyedValue>, NoAnswer> {
+    let mut values = Vec::new(alloc);
+    for (index, part) in parts.iter().enumerate() {
+        if index >= from {
+            values.push(value(alloc, part)?)?;
+        }
+    }
+    Ok(values)
+}
+
+/// The pairs `("key" V)` that stand from an index on.
+#[cycle(values)]
+pub fn value_pairs(
+    alloc: Global,
+    parts: &[Part],
+    from: usize,
+) -> Result<Vec<(RcStr, KeyedValue)>, NoAnswer> {
+    let mut pairs = Vec::new(alloc);
+    for (index, part) in parts.iter().enumerate() {
+        if index >= from {
+            pairs.push(pair(alloc, part)?)?;
+        }
+    }
+    Ok(pairs)
+}
+
+#[cycle(values)]
+fn pair(alloc: Global, part: &Part) -> Result<(RcStr, KeyedValue), NoAnswer> {
+    match part {
+        Part::List(parts) => match parts.as_slice() {
+            [key, bound] => {
+                let key = shared_text(alloc, key)?;
+                Ok((key, value(alloc, bound)?))
+            }
+            _ => Err(NoAnswer::NotTaken),
+        },
+        _ => Err(NoAnswer::NotTaken),
+    }
+}
+
+/// The literals that the parts from an index on stand for.
+pub fn literals(alloc: Global, parts: &[Part], from: usize) -> Result<Vec<Literal>, NoAnswer> {
+    let mut literals = Vec::new(alloc);
+    for (index, part) in parts.iter().enumerate() {
+        if index >= from {
+            match literal(alloc, part)? {
+                Some(literal) => literals.push(literal)?,
+                None => return Err(NoAnswer::NotTaken),
+            }
+        }
+    }
+    Ok(literals)
+}
+
+fn number(alloc: Global, part: &Part) -> Result<i64, NoAnswer> {
+    match literal(alloc, part)? {
+        Some(Literal::Long(key)) => Ok(key),
+        _ => Err(NoAnswer::NotTaken),
+    }
+}
+
+// The extension value that this call stands for.
+fn called(alloc: Global, key: i64, call: &Expr) -> Result<KeyedValue, NoAnswer> {
+    match kind_of(call) {
+        ExprKind::ExtensionFunctionApp { fn_name, args } => {
+            let restricted = restricted(alloc, args)?;
+            let keyed = Keyed::new(key, sketch(alloc, call)?);
+            let func = fn_name.clone(alloc)?;
+            extension(
+                alloc,
+                RepresentableExtensionValue::new(keyed, func, restricted),
+            )
+        }
+        _ => Err(NoAnswer::NotTaken),
+    }
+}
+
+fn kind_of(e: &Expr) -> &ExprKind {
+    e.expr_kind()
+}
+
+fn restricted(alloc: Global, args: &[Expr]) -> Result<Vec<RestrictedExpr>, NoAnswer> {
+    let mut restricted = Vec::new(alloc);
+    for arg in args {
+        restricted.push(restricted_expr(alloc, arg.clone(alloc)?)?)?;
+    }
+    Ok(restricted)
+}
+
+fn restricted_expr(alloc: Global, e: Expr) -> Result<RestrictedExpr, NoAnswer> {
+    match RestrictedExpr::new(alloc, e) {
+        Ok(e) => Ok(e),
+        Err(RestrictedExprError::NotRestricted { .. }) => Err(NoAnswer::NotTaken),
+        Err(RestrictedExprError::Memory) => Err(NoAnswer::Memory),
+    }
+}
+
+fn extension(alloc: Global, x: RepresentableExtensionValue<Keyed>) -> Result<KeyedValue, NoAnswer> {
+    Ok(Value::new(ValueKind::ExtensionValue(Rc::new(alloc, x)?), None))
+}

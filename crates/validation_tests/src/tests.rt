@@ -1,3 +1,0 @@
-mod samples;
-mod types;
-mod validation;

@@ -1,0 +1,81 @@
+//! Sets of values that are ordered in reverse.
+use crate::answers::{agreed, list};
+use crate::flip::Flip;
+use cedar_terms::Literal;
+use cedar_values::{RepresentableExtensionValue, Set, Value, ValueKind};
+use row_parts::{NoAnswer, Part, boolean, literal};
+use std::alloc::Global;
+use std::rc::Rc;
+
+/// The answer to a call on values that are ordered in reverse.
+pub fn answer(alloc: Global, call: &str, args: &[Part]) -> Result<String, NoAnswer> {
+    match (call, args) {
+        ("flips", [a, b]) => compared(alloc, set(alloc, a)?, set(alloc, b)?),
+        ("flipin", [k, a]) => found(alloc, number(alloc, k)?, set(alloc, a)?),
+        _ => Err(NoAnswer::OtherCall),
+    }
+}
+
+fn number(alloc: Global, part: &Part) -> Result<i64, NoAnswer> {
+    match literal(alloc, part)? {
+        Some(Literal::Long(number)) => Ok(number),
+        _ => Err(NoAnswer::NotTaken),
+    }
+}
+
+fn flip(alloc: Global, number: i64) -> Result<Value<Flip>, NoAnswer> {
+    let x = RepresentableExtensionValue::new_lazy(Flip::new(number));
+    Ok(Value::new(ValueKind::ExtensionValue(Rc::new(alloc, x)?), None))
+}
+
+// The set of these, which those gathered twice have to make too.
+fn set(alloc: Global, part: &Part) -> Result<Set<Flip>, NoAnswer> {
+    let set = Set::new(alloc, flips(alloc, part.list()?, 1)?)?;
+    let gathered = Set::from_values(alloc, flips(alloc, part.list()?, 2)?)?;
+    agreed(gathered == set, "sets made and gathered")?;
+    Ok(set)
+}
+
+// The values of the numbers, each so many times.
+fn flips(alloc: Global, parts: &[Part], times: usize) -> Result<Vec<Value<Flip>>, NoAnswer> {
+    let mut flips = Vec::new(alloc);
+    for _ in 0..times {
+        for part in parts {
+            flips.push(flip(alloc, number(alloc, part)?)?)?;
+        }
+    }
+    Ok(flips)
+}
+
+fn compared(alloc: Global, a: Set<Flip>, b: Set<Flip>) -> Result<String, NoAnswer> {
+    let listed = listed(alloc, &a)?;
+    let subset = a.is_subset(&b);
+    let disjoint = a.is_disjoint(&b);
+    Ok(format!(in alloc;
+        "{listed} subset={subset} disjoint={disjoint} equal={}",
+        a == b
+    )?)
+}
+
+// The numbers of the members, in their order, and whether the set is well formed.
+fn listed(alloc: Global, set: &Set<Flip>) -> Result<String, NoAnswer> {
+    let mut text = String::new(alloc);
+    for member in set.authoritative() {
+        if let ValueKind::ExtensionValue(x) = member.value_kind() {
+            list(
+                &mut text,
+                format!(in alloc; "{}", x.value().number())?.as_str(),
+            )?;
+        }
+    }
+    Ok(format!(in alloc; "{text} {}", set.is_well_formed())?)
+}
+
+// Whether it is in the set, and its number as a literal is not.
+fn found(alloc: Global, number: i64, set: Set<Flip>) -> Result<String, NoAnswer> {
+    agreed(
+        !set.contains(&Value::from(number)),
+        "numbers and values that are made of them",
+    )?;
+    boolean(alloc, set.contains(&flip(alloc, number)?))
+}

@@ -1,0 +1,108 @@
+//! Sets of values, by what is in them.
+use crate::answers::agreed;
+use cedar_values::{Set, ValueKind};
+use row_parts::{NoAnswer, Part, boolean};
+use row_trees::{Keyed, KeyedValue, value, values};
+use std::alloc::Global;
+
+/// The answer to a call on sets.
+pub fn answer(alloc: Global, call: &str, args: &[Part]) -> Result<String, NoAnswer> {
+    match call {
+        "kept" => kept(alloc, values(alloc, args, 0)?, values(alloc, args, 0)?),
+        _ => match args {
+            [v] => match call {
+                "members" => members(alloc, value(alloc, v)?),
+                _ => Err(NoAnswer::OtherCall),
+            },
+            [v, w] => match call {
+                "contains" => contains(alloc, value(alloc, v)?, value(alloc, w)?),
+                "subset" => subset(alloc, value(alloc, v)?, value(alloc, w)?),
+                "disjoint" => disjoint(alloc, value(alloc, v)?, value(alloc, w)?),
+                _ => Err(NoAnswer::OtherCall),
+            },
+            _ => Err(NoAnswer::OtherCall),
+        },
+    }
+}
+
+fn set(v: &KeyedValue) -> Result<&Set<Keyed>, NoAnswer> {
+    match v.value_kind() {
+        ValueKind::Set(set) => Ok(set),
+        _ => Err(NoAnswer::NotTaken),
+    }
+}
+
+fn contains(alloc: Global, v: KeyedValue, w: KeyedValue) -> Result<String, NoAnswer> {
+    boolean(alloc, set(&v)?.contains(&w))
+}
+
+fn subset(alloc: Global, v: KeyedValue, w: KeyedValue) -> Result<String, NoAnswer> {
+    boolean(alloc, set(&v)?.is_subset(set(&w)?))
+}
+
+fn disjoint(alloc: Global, v: KeyedValue, w: KeyedValue) -> Result<String, NoAnswer> {
+    let (v, w) = (set(&v)?, set(&w)?);
+    let answer = v.is_disjoint(w);
+    agreed(w.is_disjoint(v) == answer, "the two ways round")?;
+    boolean(alloc, answer)
+}
+
+fn members(alloc: Global, v: KeyedValue) -> Result<String, NoAnswer> {
+    let set = set(&v)?;
+    agreed(
+        set.is_well_formed() == v.is_well_formed(),
+        "a value and its set",
+    )?;
+    agreed(
+        v.value_kind().is_well_formed() == v.is_well_formed(),
+        "a value and its kind",
+    )?;
+    agreed(set.is_empty() == (set.len() == 0), "the counts of a set")?;
+    agreed(
+        set.authoritative().len() == set.len(),
+        "the counts of a set",
+    )?;
+    let counts = counts(alloc, set, v.is_well_formed())?;
+    listed(alloc, counts, set)
+}
+
+fn counts(alloc: Global, set: &Set<Keyed>, is_well_formed: bool) -> Result<String, NoAnswer> {
+    let len = set.len();
+    match set.fast() {
+        Some(literals) => Ok(format!(in alloc; "{len} {} {is_well_formed}", literals.len())?),
+        None => Ok(format!(in alloc; "{len} none {is_well_formed}")?),
+    }
+}
+
+// The text and then the members' texts.
+fn listed(alloc: Global, text: String, set: &Set<Keyed>) -> Result<String, NoAnswer> {
+    let mut text = text;
+    if set.is_empty() {
+        text.push(' ')?;
+    }
+    for member in set.iter() {
+        text.push_str(format!(in alloc; " {member}")?.as_str())?;
+    }
+    Ok(text)
+}
+
+fn kept(
+    alloc: Global,
+    given: Vec<KeyedValue>,
+    values: Vec<KeyedValue>,
+) -> Result<String, NoAnswer> {
+    let set = Set::new(alloc, values)?;
+    let mut are_kept = true;
+    for member in set.iter() {
+        are_kept = are_kept && is_among(member, given.as_slice());
+    }
+    boolean(alloc, are_kept)
+}
+
+fn is_among(member: &KeyedValue, given: &[KeyedValue]) -> bool {
+    let mut is_among = false;
+    for value in given {
+        is_among = is_among || member.eq_and_same_source_loc(value);
+    }
+    is_among
+}

@@ -1,0 +1,59 @@
+//! What a builder gets where values are put for unknowns.
+use cedar_exprs::{Expr, ExprBuilder, TypedBuildFault};
+use cedar_values::{substitute_typed_values_into_expr, substitute_values_into_expr};
+use row_parts::{NoAnswer, Part};
+use row_trees::{Keyed, KeyedValue, bindings, expr, sketch};
+use std::alloc::Global;
+use std::collections::HashMap;
+use std::rc::RcStr;
+
+type Values = HashMap<RcStr, KeyedValue>;
+
+/// The answer to a call that builds after substitution.
+pub fn answer(alloc: Global, call: &str, args: &[Part]) -> Result<String, NoAnswer> {
+    match args {
+        [e, env] => match call {
+            "valuesinto" => built(alloc, expr(alloc, e)?, bindings(alloc, env)?),
+            "typedvaluesinto" => built_typed(alloc, expr(alloc, e)?, bindings(alloc, env)?),
+            _ => Err(NoAnswer::OtherCall),
+        },
+        _ => Err(NoAnswer::OtherCall),
+    }
+}
+
+fn built(alloc: Global, e: Expr, values: Values) -> Result<String, NoAnswer> {
+    sketch(alloc, &by_struct::<()>(alloc, &e, &values)?)
+}
+
+fn built_typed(alloc: Global, e: Expr, values: Values) -> Result<String, NoAnswer> {
+    match typed_by_struct::<()>(alloc, &e, &values)? {
+        Ok(made) => Ok(format!(in alloc; "ok {}", sketch(alloc, &made)?)?),
+        Err(clash) => Ok(clash),
+    }
+}
+
+// The struct refuses nothing, so want of memory is all that can be the matter. The type of data is
+// a parameter: at a concrete one the check of the call's bound takes long.
+fn by_struct<T: Default + Copy>(
+    alloc: Global,
+    e: &Expr,
+    values: &Values,
+) -> Result<Expr<T>, NoAnswer> {
+    let made = substitute_values_into_expr::<ExprBuilder<T>, Keyed>(alloc, e, values);
+    made.ok().ok_or(NoAnswer::Memory)
+}
+
+fn typed_by_struct<T: Default + Copy>(
+    alloc: Global,
+    e: &Expr,
+    values: &Values,
+) -> Result<Result<Expr<T>, String>, NoAnswer> {
+    match substitute_typed_values_into_expr::<ExprBuilder<T>, Keyed>(alloc, e, values) {
+        Ok(made) => Ok(Ok(made)),
+        Err(TypedBuildFault::TypeError { expected, actual }) => {
+            Ok(Err(format!(in alloc; "type-clash {expected} | {actual}")?))
+        }
+        Err(TypedBuildFault::Build(never)) => match never {},
+        Err(TypedBuildFault::Memory) => Err(NoAnswer::Memory),
+    }
+}

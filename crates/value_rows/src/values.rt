@@ -1,0 +1,107 @@
+//! Comparisons of values, what is inside them, and what they say of themselves.
+use crate::answers::{agreed, are_equal};
+use cedar_exprs::SubstituteValue;
+use cedar_terms::{EntityUID, StaticallyTyped};
+use cedar_values::{ExtensionValue, RepresentableExtensionValue, ValueKind};
+use row_parts::{NoAnswer, Part, boolean, sign};
+use row_trees::{Keyed, KeyedValue, sketch, value};
+use std::alloc::Global;
+use std::collections::HashSet;
+
+/// The answer to a call on values.
+pub fn answer(alloc: Global, call: &str, args: &[Part]) -> Result<String, NoAnswer> {
+    match args {
+        [v] => match call {
+            "valtype" => typed(alloc, value(alloc, v)?),
+            "uids" => uids(alloc, value(alloc, v)?),
+            "extval" => said(alloc, value(alloc, v)?),
+            _ => Err(NoAnswer::OtherCall),
+        },
+        [v, w] => match call {
+            "cmpval" => compared(alloc, value(alloc, v)?, value(alloc, w)?),
+            "eqval" => boolean(alloc, are_equal(value(alloc, v)?, value(alloc, w)?)),
+            "eqloc" => equal_at_place(alloc, value(alloc, v)?, value(alloc, w)?),
+            _ => Err(NoAnswer::OtherCall),
+        },
+        _ => Err(NoAnswer::OtherCall),
+    }
+}
+
+fn equal_at_place(alloc: Global, v: KeyedValue, w: KeyedValue) -> Result<String, NoAnswer> {
+    boolean(alloc, v.eq_and_same_source_loc(&w))
+}
+
+fn compared(alloc: Global, v: KeyedValue, w: KeyedValue) -> Result<String, NoAnswer> {
+    let order = v.cmp(&w);
+    agreed((v == w) == order.is_eq(), "equality and order")?;
+    agreed(w.cmp(&v) == order.reverse(), "the order and its reverse")?;
+    agreed(v.partial_cmp(&w) == Some(order), "the orders")?;
+    agreed(
+        v.value_kind().cmp(w.value_kind()) == order,
+        "values and kinds",
+    )?;
+    sign(alloc, order)
+}
+
+fn typed(alloc: Global, v: KeyedValue) -> Result<String, NoAnswer> {
+    let ty = v.type_of(alloc)?;
+    agreed(v.value_kind().type_of(alloc)? == ty, "values and kinds")?;
+    agreed(v.value_type(alloc)? == ty, "the types")?;
+    Ok(format!(in alloc; "{ty}")?)
+}
+
+fn uids(alloc: Global, v: KeyedValue) -> Result<String, NoAnswer> {
+    let uids = sorted(alloc, v.all_literal_uids(alloc)?)?;
+    let of_kind = sorted(alloc, v.value_kind().all_literal_uids(alloc)?)?;
+    agreed(uids == of_kind, "values and kinds")?;
+    let mut text = String::new(alloc);
+    for uid in &uids {
+        if !text.is_empty() {
+            text.push(' ')?;
+        }
+        text.push_str(format!(in alloc; "{uid}")?.as_str())?;
+    }
+    Ok(text)
+}
+
+fn sorted(alloc: Global, found: HashSet<EntityUID>) -> Result<Vec<EntityUID>, NoAnswer> {
+    let mut uids = Vec::new(alloc);
+    for uid in found {
+        uids.push(uid)?;
+    }
+    uids.sort()?;
+    Ok(uids)
+}
+
+fn said(alloc: Global, v: KeyedValue) -> Result<String, NoAnswer> {
+    match v.value_kind() {
+        ValueKind::ExtensionValue(x) => said_by(alloc, x),
+        _ => Err(NoAnswer::NotTaken),
+    }
+}
+
+fn said_by(alloc: Global, x: &RepresentableExtensionValue<Keyed>) -> Result<String, NoAnswer> {
+    let types = type_texts(alloc, x)?;
+    let own = own_text(alloc, x.value())?;
+    let call = called(alloc, x)?;
+    Ok(format!(in alloc; "{types} {own} {call}")?)
+}
+
+fn type_texts(alloc: Global, x: &RepresentableExtensionValue<Keyed>) -> Result<String, NoAnswer> {
+    let name = format!(in alloc; "{}", x.typename(alloc)?)?;
+    Ok(format!(in alloc; "{name} {}", x.type_of(alloc)?)?)
+}
+
+fn own_text(alloc: Global, x: &Keyed) -> Result<String, NoAnswer> {
+    Ok(format!(in alloc;
+        "{} overloaded={}",
+        x.text(),
+        x.supports_operator_overloading()
+    )?)
+}
+
+// The call that stands for an extension value.
+pub fn called(alloc: Global, x: &RepresentableExtensionValue<Keyed>) -> Result<String, NoAnswer> {
+    let call = x.to_restricted_expr(alloc)?;
+    sketch(alloc, call.as_expr())
+}

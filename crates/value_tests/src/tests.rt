@@ -1,0 +1,6 @@
+mod laws;
+mod made;
+mod plain;
+mod refusals;
+mod shared;
+mod writing;
