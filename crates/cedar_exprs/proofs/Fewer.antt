@@ -27,6 +27,9 @@ fewer n k m j c less in_all fits =
     let one : suc m * (c + 1) ≡ m * (c + 1) + (c + 1) = suc-mul m (c + 1) in
     omega (arith, up, one, in_all, fits)
 
+pub no_more : (n k m j c : ℕ) → m ≤ n → j < k → m * (c + 1) + j < n * (c + 1) + k
+no_more n k m j c all less = let up : m * (c + 1) ≤ n * (c + 1) = mul-le-mul_right (c + 1) all in omega (arith, up, less)
+
 pub smaller : (n k m j c : ℕ) → m ≡ n → j < k → m * (c + 1) + j < n * (c + 1) + k
 smaller n k m j c same less = let e = ap (λ x. x * (c + 1)) same in omega (arith, e, less)
 
@@ -93,6 +96,18 @@ module _ {T : Type 0} where
   pub first_fits : (es : List (Expr T)) (e : Expr T) (old : ExprKind T) → 0 < length es → e ≡ slice_index_or es 0 e → old ≡ kind_of e → kind_nodes old ≤ row_nodes es
   first_fits [] e old some at is = omega (arith, some)
   first_fits (x ∷ es) e old some at is = let here = nodes_of e old is in let same : nodes e ≡ nodes x = ap nodes at in omega (arith, here, same)
+
+  -- what is left of such a row, where the first member was a leaf
+  pub first_dropped : (es : List (Expr T)) (e : Expr T) (old : ExprKind T) (n : Expr-F T (Expr T)) (m w : ℕ) → 0 < length es → e ≡ slice_index_or es 0 e → old ≡ kind_of e → kind_nodes n.expr_kind ≡ w → m ≤ row_nodes (slice_set es 0 (roll-Expr T n)) → m < row_nodes es + w
+  first_dropped es e old n m w some at is put within = let all = first_written es e old n some at is in let one = some_nodes old in omega (arith, all, one, put, within)
+
+  -- the first member and such a row
+  pub first_taken : (es : List (Expr T)) (e : Expr T) (old : ExprKind T) (n : Expr-F T (Expr T)) (b w : ℕ) → 0 < length es → e ≡ slice_index_or es 0 e → old ≡ kind_of e → b ≡ kind_nodes old → kind_nodes n.expr_kind ≡ w
+      → (b ≤ row_nodes es) × (b + row_nodes (slice_set es 0 (roll-Expr T n)) ≤ row_nodes es + w)
+  first_taken es e old n b w some at is part put =
+      let all = first_written es e old n some at is in
+      let fits = first_fits es e old some at is in
+      (omega (arith, fits, part), omega (arith, all, part, put))
 
   pub one_pair_off : (all es : List (RcStr Global × Expr T)) (k : RcStr Global) (e : Expr T) → all ≡ (k, e) ∷ es → field_nodes all ≡ field_nodes es + nodes e
   one_pair_off all es k e is = let here = ap field_nodes is in omega (arith, here)

@@ -1,11 +1,14 @@
 -- Steps of a drop, by the nodes that they leave.
-use Rattle.std.specs.Prelude.{◌≡◌, ℕ, ◌+◌, ◌<◌, ⊤, List, [], ◌∷◌, Option, Some, None, IfSome}
+use Rattle.std.specs.Prelude.{ℕ, ◌+◌, ◌<◌, ◌≤◌, suc, ⊤, Bool, true, false, List, [], ◌∷◌, Option, Some, None, IfSome}
 use Rattle.std.specs.Global.{Global}
 use Rattle.std.specs.declared.rc.Rc.{Rc}
 use Rattle.std.specs.declared.rc.RcStr.{RcStr}
 use Rattle.cedar_builders.specs.Count.{count}
 use Rattle.cedar_exprs.specs.BareExpr.{ExprKind, bare_expr, bare_expr_kind}
 use Rattle.cedar_exprs.specs.declared.expr.Expr.{Expr}
+use Rattle.cedar_exprs.specs.declared.expr.Below.{Below}
+use Rattle.cedar_exprs.specs.declared.expr.Item.{Item}
+use Rattle.cedar_exprs.specs.declared.expr.KindOf.{KindOf}
 use Rattle.cedar_exprs.specs.declared.expr.Left.{Left}
 use Rattle.cedar_exprs.specs.declared.expr.Step.{Step}
 use Rattle.cedar_exprs.specs.declared.expr.Step.TheVariants.{Into, On, Watched, Row, Fields, End}
@@ -21,10 +24,6 @@ abbrev pub if_node : {T : Type 0} → Option (Rc (Expr T) Global) → ℕ
 if_node None = 0
 if_node (Some e) = nodes e.value
 
-abbrev pub if_row : {T : Type 0} → Option (ExprKind T) → ℕ
-if_row None = 0
-if_row (Some k) = kind_nodes k
-
 abbrev pub row_nodes : {T : Type 0} → List (Expr T) → ℕ
 row_nodes [] = 0
 row_nodes (e ∷ es) = nodes e + row_nodes es
@@ -33,15 +32,42 @@ abbrev pub field_nodes : {T : Type 0} → List (RcStr Global × Expr T) → ℕ
 field_nodes [] = 0
 field_nodes (e ∷ es) = nodes e.1 + field_nodes es
 
+-- the nodes of a node with this below it
+abbrev pub below_nodes : {T : Type 0} → Below T → ℕ
+below_nodes Below.Nothing = 1
+below_nodes (Below.One a) = suc (nodes a.value)
+below_nodes (Below.Two a b) = suc (nodes a.value + nodes b.value)
+below_nodes (Below.Three a b c) = suc (nodes a.value + (nodes b.value + nodes c.value))
+below_nodes (Below.Row es) = suc (row_nodes es.value.items)
+below_nodes (Below.Fields es) = suc (field_nodes es.value.entries)
+
+abbrev pub if_row : {T : Type 0} → Option (Below T) → ℕ
+if_row None = 0
+if_row (Some b) = below_nodes b
+
+-- whether nothing stands below a node of this kind
+abbrev pub is_leaf : {E : Type 0} → KindOf E → Bool
+is_leaf (KindOf.Lit l) = true
+is_leaf (KindOf.Var v) = true
+is_leaf (KindOf.Slot s) = true
+is_leaf (KindOf.Unknown u) = true
+is_leaf _ = false
+
+-- from a row of m nodes, beside w that wait, to one of n: as many nodes and a part of the row, or fewer nodes
+abbrev pub IsItem : {T : Type 0} → ℕ → ℕ → ℕ → Item T → Type 0
+IsItem m w n (Item.Of b) = (below_nodes b ≤ m) × (below_nodes b + n ≤ m + w)
+IsItem m w n (Item.After b) = below_nodes b + n < m + w
+IsItem m w n (Item.None rows) = if_row rows + n ≤ m + w
+
 -- the nodes of all that is left
 abbrev pub all_nodes : {T : Type 0} → Left T → ℕ
-all_nodes l = kind_nodes l.kind + (if_node l.waiting + if_row l.rows)
+all_nodes l = below_nodes l.below + (if_node l.waiting + if_row l.rows)
 
--- from a kind of k nodes, of n in all: as many nodes and a smaller kind, or fewer nodes
+-- from k nodes, of n in all: no more nodes and a smaller part, or fewer nodes
 abbrev pub IsStep : {T : Type 0} → ℕ → ℕ → Step T → Type 0
-IsStep k n (Into left) = (kind_nodes left.kind < k) × (all_nodes left ≡ n)
+IsStep k n (Into left) = (below_nodes left.below < k) × (all_nodes left ≤ n)
 IsStep k n (On left) = all_nodes left < n
-IsStep k n (Watched rest left) = (all_nodes left + kind_nodes rest ≡ n) × (0 < all_nodes left) × (0 < kind_nodes rest)
+IsStep k n (Watched rest left) = (all_nodes left + below_nodes rest ≤ n) × (0 < all_nodes left) × (0 < below_nodes rest)
 IsStep k n (Row row next) = (row_nodes row.value.items < n) × IfSome next (λ left. all_nodes left < n)
 IsStep k n (Fields fields next) = (field_nodes fields.value.entries < n) × IfSome next (λ left. all_nodes left < n)
 IsStep k n End = ⊤

@@ -1,5 +1,5 @@
 -- The values that the steps of a drop leave.
-use Rattle.std.proofs.Common.{◌≡◌, ℕ, ◌+◌, ◌*◌, ◌≤◌, ◌<◌, suc, refl, sym, ap, ◌∙◌, arith, Global, List, [], ◌∷◌, ◌++◌, length, true, false, Equal, Some, subst, BTreeMap}
+use Rattle.std.proofs.Common.{◌≡◌, ℕ, ◌+◌, ◌*◌, ◌≤◌, ◌<◌, suc, refl, sym, ap, ◌∙◌, arith, Global, List, [], ◌∷◌, ◌++◌, length, slice_index_or, slice_set, true, false, Equal, Some, subst, BTreeMap}
 use Rattle.std.proofs.Math.Nat.{mul-le-mul_right, suc-mul}
 use Rattle.std.proofs.lemmas.Bool.{false≢true}
 use Rattle.std.proofs.lemmas.Cmp.{nat_list_cmp_total, tied_itself}
@@ -27,6 +27,9 @@ fewer n k m j c less in_all fits =
     let up : suc m * (c + 1) ≤ n * (c + 1) = mul-le-mul_right (c + 1) less in
     let one : suc m * (c + 1) ≡ m * (c + 1) + (c + 1) = suc-mul m (c + 1) in
     omega (arith, up, one, in_all, fits)
+
+pub no_more : (n k m j c : ℕ) → m ≤ n → j < k → m * (c + 1) + j < n * (c + 1) + k
+no_more n k m j c all less = let up : m * (c + 1) ≤ n * (c + 1) = mul-le-mul_right (c + 1) all in omega (arith, up, less)
 
 module _ {X : Type 0} where
   -- the nodes of a set and of a record
@@ -63,6 +66,33 @@ module _ {X : Type 0} where
   -- a row without its last member
   pub one_off : (all es : List (Value X)) (e : Value X) → all ≡ es ++ e ∷ [] → nodes_of all ≡ nodes_of es + nodes (bare_value e)
   one_off all es e is = ap nodes_of is ∙ row-snoc es e
+
+  -- a row whose first member v was replaced by w
+  pub first_written : (es : List (Value X)) (v w : Value X) (old new : ValueKind X) → 0 < length es → v ≡ slice_index_or es 0 v → old ≡ kind_of v → kind_of w ≡ new → kind_nodes old + nodes_of (slice_set es 0 w) ≡ nodes_of es + kind_nodes new
+  first_written [] v w old new some at is put = omega (arith, some)
+  first_written (x ∷ es) v w old new some at is put =
+      let here = nodes_of_kind v old is in
+      let same : nodes (bare_value v) ≡ nodes (bare_value x) = ap (λ y. nodes (bare_value y)) at in
+      let there = nodes_of_kind w new (sym put) in
+      omega (arith, here, same, there)
+
+  first_fits : (es : List (Value X)) (v : Value X) (old : ValueKind X) → 0 < length es → v ≡ slice_index_or es 0 v → old ≡ kind_of v → kind_nodes old ≤ nodes_of es
+  first_fits [] v old some at is = omega (arith, some)
+  first_fits (x ∷ es) v old some at is =
+      let here = nodes_of_kind v old is in
+      let same : nodes (bare_value v) ≡ nodes (bare_value x) = ap (λ y. nodes (bare_value y)) at in
+      omega (arith, here, same)
+
+  -- what is left of such a row, where the first member was a leaf
+  pub first_dropped : (es : List (Value X)) (v w : Value X) (old new : ValueKind X) (m : ℕ) → 0 < length es → v ≡ slice_index_or es 0 v → old ≡ kind_of v → kind_of w ≡ new → m ≤ nodes_of (slice_set es 0 w) → m < nodes_of es + kind_nodes new
+  first_dropped es v w old new m some at is put within = let all = first_written es v w old new some at is put in let one = some_nodes old in omega (arith, all, one, within)
+
+  -- the first member and such a row
+  pub first_taken : (es : List (Value X)) (v w : Value X) (old new : ValueKind X) → 0 < length es → v ≡ slice_index_or es 0 v → old ≡ kind_of v → kind_of w ≡ new
+      → (kind_nodes old ≤ nodes_of es) × (kind_nodes old + nodes_of (slice_set es 0 w) ≤ nodes_of es + kind_nodes new)
+  first_taken es v w old new some at is put =
+      let all = first_written es v w old new some at is put in
+      (first_fits es v old some at is, omega (arith, all))
 
   pub one_pair_off : (all es : List (RcStr Global × Value X)) (k : RcStr Global) (e : Value X) → all ≡ (k, e) ∷ es → entry_nodes all ≡ entry_nodes es + nodes (bare_value e)
   one_pair_off all es k e is = let here = ap entry_nodes is in omega (arith, here)

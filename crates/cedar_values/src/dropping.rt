@@ -1,7 +1,7 @@
 //! How a value is dropped.
-ghost use Rattle.std.specs.Prelude.{◌≡◌, ℕ, ◌+◌, ◌<◌, ◌≤◌, suc, IfOk, IfErr, IfSome};
+ghost use Rattle.std.specs.Prelude.{◌≡◌, ℕ, ◌+◌, ◌<◌, ◌≤◌, suc, IsTrue, IfSome};
 ghost use Rattle.cedar_values.specs.Counts.{entry_nodes, kind_nodes, nodes_of};
-ghost use Rattle.cedar_values.specs.Drops.{IsStep, all_nodes, waiting_nodes};
+ghost use Rattle.cedar_values.specs.Drops.{IsItem, IsStep, all_nodes, is_leaf, waiting_nodes};
 
 use crate::set::Set;
 use crate::value::{Value, ValueKind};
@@ -114,7 +114,18 @@ fn only<X>(kind: ValueKind<X>) -> Left<X>
     }
 }
 
+// A kind that is taken out of a row.
+enum Item<X> {
+    // Of an item.
+    Of(ValueKind<X>),
+    // Of an item, where a leaf was dropped before.
+    After(ValueKind<X>),
+    // Of none: all were leaves, and these are dropped. This waits.
+    None(Option<ValueKind<X>>),
+}
+
 // Into a member of a set, whose row then waits.
+#[inline(never)]
 fn open_members<X: Drop>(row: Rc<Vec<Value<X>>>, waiting: Option<ValueKind<X>>) -> Step<X>
     ensures { IsStep (suc (nodes_of row.value.items))
         (suc (nodes_of row.value.items) + waiting_nodes waiting) result }
@@ -122,50 +133,100 @@ fn open_members<X: Drop>(row: Rc<Vec<Value<X>>>, waiting: Option<ValueKind<X>>) 
     let mut row = row;
     match Rc::get_mut(&mut row) {
         Some(items) => match take_member(items, waiting) {
-            Ok(kind) => Step::Into(Left {
+            Item::Of(kind) => Step::Into(Left {
                 kind,
                 waiting: Some(ValueKind::Set(Set::of_row(row))),
             }),
-            Err(waiting) => Step::Members(row, go_on(waiting)),
+            Item::After(kind) => Step::On(Left {
+                kind,
+                waiting: Some(ValueKind::Set(Set::of_row(row))),
+            }),
+            Item::None(waiting) => Step::Members(row, go_on(waiting)),
         },
         None => Step::Members(row, go_on(waiting)),
     }
 }
 
-// The kind of a member: of the first, which then stands for the row that waits, or if none waits of
-// the last, which is taken off. The row that waits is given back if there are no members.
-fn take_member<X: Drop>(
-    items: &mut Vec<Value<X>>,
-    waiting: Option<ValueKind<X>>,
-) -> Result<ValueKind<X>, Option<ValueKind<X>>>
-    ensures taken { IfOk result (λ kind. kind_nodes kind + nodes_of items.new.items
-        ≡ nodes_of items.old.items + waiting_nodes waiting) }
-    ensures smaller { IfOk result (λ kind. kind_nodes kind ≤ nodes_of items.old.items) }
-    ensures returned { IfErr result (λ returned. waiting_nodes returned ≡ waiting_nodes waiting) }
-    ensures empty { IfErr result (λ _. nodes_of items.new.items ≡ 0) }
+// A member that is no leaf. If a row waits it stands in the first member's place from then on. If
+// none is taken, what is left of the row is leaves.
+fn take_member<X: Drop>(items: &mut Vec<Value<X>>, waiting: Option<ValueKind<X>>) -> Item<X>
+    ensures { IsItem (nodes_of items.old.items) (waiting_nodes waiting)
+        (nodes_of items.new.items) result }
 {
     match waiting {
         Some(next) => match items.first_mut() {
-            Some(first) => Ok(first.replace_kind(next)),
-            None => Err(Some(next)),
+            Some(first) => {
+                let kind = first.replace_kind(next);
+                if is_leaf(&kind) {
+                    drop_leaf(kind);
+                    match last_branch(items) {
+                        Some(last) => {
+                            if items.is_empty() {
+                                Item::None(Some(last))
+                            } else {
+                                Item::After(last)
+                            }
+                        }
+                        None => Item::None(None),
+                    }
+                } else {
+                    Item::Of(kind)
+                }
+            }
+            None => Item::None(Some(next)),
         },
-        None => match items.pop() {
-            Some(last) => Ok(last.into_kind()),
-            None => Err(None),
+        None => match last_branch(items) {
+            Some(last) => Item::Of(last),
+            None => Item::None(None),
         },
     }
 }
 
-// The last member of a row that waits. If it is the only one, it is taken to be the row that waits
-// below, and the row is done with.
+// Takes off the last members, down to one that is no leaf, and drops the leaves.
+#[inline(never)]
+fn last_branch<X: Drop>(items: &mut Vec<Value<X>>) -> Option<ValueKind<X>>
+    ensures taken { IfSome result (λ last.
+        kind_nodes last + nodes_of items.new.items ≤ nodes_of items.old.items) }
+    ensures fewer { nodes_of items.new.items ≤ nodes_of items.old.items }
+{
+    'leaves: while let Some(item) = items.pop() {
+        if is_leaf(item.value_kind()) {
+            drop_leaf(item.into_kind());
+        } else {
+            return Some(item.into_kind());
+        }
+    }
+    None
+}
+
+// Whether a kind has no values inside.
+fn is_leaf<X>(kind: &ValueKind<X>) -> bool
+    ensures { result ≡ is_leaf kind.now }
+{
+    matches!(kind, ValueKind::Lit(_) | ValueKind::ExtensionValue(_))
+}
+
+// Drops a kind that has no values inside.
+#[inline(always)]
+fn drop_leaf<X: Drop>(kind: ValueKind<X>)
+    requires { IsTrue (is_leaf kind) }
+{
+    match kind {
+        ValueKind::Lit(literal) => drop(literal),
+        ValueKind::ExtensionValue(value) => drop(value),
+        _kind => unreachable!(),
+    }
+}
+
+// The last member of a row that waits, but for leaves. If it is the only one, it is taken to be the
+// row that waits below, and the row is done with.
 fn resume_members<X: Drop>(row: Rc<Vec<Value<X>>>) -> Left<X>
-    ensures { all_nodes result ≡ suc (nodes_of row.value.items) }
+    ensures { all_nodes result ≤ suc (nodes_of row.value.items) }
 {
     let mut row = row;
     match Rc::get_mut(&mut row) {
-        Some(items) => match items.pop() {
-            Some(last) => {
-                let kind = last.into_kind();
+        Some(items) => match last_branch(items) {
+            Some(kind) => {
                 if items.is_empty() {
                     Left {
                         kind: ValueKind::Set(Set::of_row(row)),
@@ -185,6 +246,7 @@ fn resume_members<X: Drop>(row: Rc<Vec<Value<X>>>) -> Left<X>
 }
 
 // Into a value of a record, whose row then waits.
+#[inline(never)]
 fn open_pairs<X: Drop>(row: Rc<BTreeMap<RcStr, Value<X>>>, waiting: Option<ValueKind<X>>) -> Step<X>
     ensures { IsStep (suc (entry_nodes row.value.entries))
         (suc (entry_nodes row.value.entries) + waiting_nodes waiting) result }
@@ -192,11 +254,15 @@ fn open_pairs<X: Drop>(row: Rc<BTreeMap<RcStr, Value<X>>>, waiting: Option<Value
     let mut row = row;
     match Rc::get_mut(&mut row) {
         Some(items) => match take_value(items, waiting) {
-            Ok(kind) => Step::Into(Left {
+            Item::Of(kind) => Step::Into(Left {
                 kind,
                 waiting: Some(ValueKind::Record(row)),
             }),
-            Err(waiting) => Step::Pairs(row, go_on(waiting)),
+            Item::After(kind) => Step::On(Left {
+                kind,
+                waiting: Some(ValueKind::Record(row)),
+            }),
+            Item::None(waiting) => Step::Pairs(row, go_on(waiting)),
         },
         None => Step::Pairs(row, go_on(waiting)),
     }
@@ -206,38 +272,65 @@ fn open_pairs<X: Drop>(row: Rc<BTreeMap<RcStr, Value<X>>>, waiting: Option<Value
 fn take_value<X: Drop>(
     items: &mut BTreeMap<RcStr, Value<X>>,
     waiting: Option<ValueKind<X>>,
-) -> Result<ValueKind<X>, Option<ValueKind<X>>>
-    ensures taken { IfOk result (λ kind. kind_nodes kind + entry_nodes items.new.entries
-        ≡ entry_nodes items.old.entries + waiting_nodes waiting) }
-    ensures smaller { IfOk result (λ kind. kind_nodes kind ≤ entry_nodes items.old.entries) }
-    ensures returned { IfErr result (λ returned. waiting_nodes returned ≡ waiting_nodes waiting) }
-    ensures empty { IfErr result (λ _. entry_nodes items.new.entries ≡ 0) }
+) -> Item<X>
+    ensures { IsItem (entry_nodes items.old.entries) (waiting_nodes waiting)
+        (entry_nodes items.new.entries) result }
 {
     match waiting {
         Some(next) => match items.first_entry() {
-            Some(first) => Ok(first.into_mut().replace_kind(next)),
-            None => Err(Some(next)),
-        },
-        None => match items.pop_last() {
-            Some((key, last)) => {
-                drop(key);
-                Ok(last.into_kind())
+            Some(first) => {
+                let kind = first.into_mut().replace_kind(next);
+                if is_leaf(&kind) {
+                    drop_leaf(kind);
+                    match last_branch_value(items) {
+                        Some(last) => {
+                            if items.is_empty() {
+                                Item::None(Some(last))
+                            } else {
+                                Item::After(last)
+                            }
+                        }
+                        None => Item::None(None),
+                    }
+                } else {
+                    Item::Of(kind)
+                }
             }
-            None => Err(None),
+            None => Item::None(Some(next)),
+        },
+        None => match last_branch_value(items) {
+            Some(last) => Item::Of(last),
+            None => Item::None(None),
         },
     }
 }
 
+// As `last_branch`, of a record.
+#[inline(never)]
+fn last_branch_value<X: Drop>(items: &mut BTreeMap<RcStr, Value<X>>) -> Option<ValueKind<X>>
+    ensures taken { IfSome result (λ last.
+        kind_nodes last + entry_nodes items.new.entries ≤ entry_nodes items.old.entries) }
+    ensures fewer { entry_nodes items.new.entries ≤ entry_nodes items.old.entries }
+{
+    'leaves: while let Some((key, item)) = items.pop_last() {
+        drop(key);
+        if is_leaf(item.value_kind()) {
+            drop_leaf(item.into_kind());
+        } else {
+            return Some(item.into_kind());
+        }
+    }
+    None
+}
+
 // As `resume_members`, of a record.
 fn resume_pairs<X: Drop>(row: Rc<BTreeMap<RcStr, Value<X>>>) -> Left<X>
-    ensures { all_nodes result ≡ suc (entry_nodes row.value.entries) }
+    ensures { all_nodes result ≤ suc (entry_nodes row.value.entries) }
 {
     let mut row = row;
     match Rc::get_mut(&mut row) {
-        Some(items) => match items.pop_last() {
-            Some((key, last)) => {
-                drop(key);
-                let kind = last.into_kind();
+        Some(items) => match last_branch_value(items) {
+            Some(kind) => {
                 if items.is_empty() {
                     Left {
                         kind: ValueKind::Record(row),

@@ -1,8 +1,11 @@
 use Rattle.std.proofs.Common.{◌<◌, IfSome, arith, ap, subst}
 use Rattle.cedar_values.specs.Counts.{nodes_of, entry_nodes}
 use Rattle.cedar_values.specs.Drops.{all_nodes}
-use Rattle.cedar_values.proofs.Fewer.{fewer, one_off, one_pair_off, nodes_of_kind}
+use Rattle.cedar_values.proofs.Fewer.{fewer, no_more, one_off, one_pair_off, nodes_of_kind}
 use Rattle.cedar_values.proofs.dropping.+dropped.Goals as goal
+
+pub drop_kind-down-smaller-in-Into : goal.drop_kind-down-smaller-in-Into
+drop_kind-down-smaller-in-Into g t c = no_more _ _ _ _ _ c.in-Into.ensures.1 c.in-Into.ensures.0
 
 pub drop_kind-down-smaller-in-On : goal.drop_kind-down-smaller-in-On
 drop_kind-down-smaller-in-On g t c = fewer _ _ _ _ _ (omega (arith, c.in-On.ensures)) (omega arith) (omega (arith, c.in-On.ensures, c.down.invariant))

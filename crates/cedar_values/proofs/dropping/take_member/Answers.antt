@@ -1,17 +1,31 @@
-use Rattle.std.proofs.Common.{arith, ap}
+use Rattle.std.proofs.Common.{◌<◌, length, arith, refl, ap, subst}
 use Rattle.cedar_values.specs.Drops.{waiting_nodes}
-use Rattle.cedar_values.proofs.Fewer.{one_off, nodes_of_kind}
+use Rattle.cedar_values.proofs.Fewer.{first_dropped}
 use Rattle.cedar_values.proofs.dropping.take_member.Goals as goal
 
-pub returns-in-Some-pop-clause-taken : goal.returns-in-Some-pop-clause-taken
-returns-in-Some-pop-clause-taken g c =
-    let less = one_off _ _ _ c.in-Some-pop.ensures.items in
-    let same = nodes_of_kind c.in-Some-pop.last _ c.into_kind.ensures in
-    let none = ap waiting_nodes c.in-None.is in
-    omega (arith, less, same, none)
+pub returns-then-is_empty : goal.returns-then-is_empty
+returns-then-is_empty g c =
+    let first = c.in-Some-first_mut.ensures in
+    let items = c.args.items.now.items in
+    let some : 0 < length items = subst (λ n. 0 < n) c.args.items.now.ok.0 (first.variant.0 refl) in
+    let row = ap waiting_nodes c.in-Some.is in
+    let less = first_dropped items c.in-Some-first_mut.first.now _ c.replace_kind-kind.result c.in-Some.next _ some first.value c.replace_kind-kind.ensures.taken c.replace_kind-kind.ensures.put c.in-Some-last_branch.ensures.taken in
+    omega (arith, less, row)
 
-pub returns-in-Some-pop-clause-smaller : goal.returns-in-Some-pop-clause-smaller
-returns-in-Some-pop-clause-smaller g c =
-    let less = one_off _ _ _ c.in-Some-pop.ensures.items in
-    let same = nodes_of_kind c.in-Some-pop.last _ c.into_kind.ensures in
-    omega (arith, less, same)
+pub returns-else-is_empty : goal.returns-else-is_empty
+returns-else-is_empty g c =
+    let first = c.in-Some-first_mut.ensures in
+    let items = c.args.items.now.items in
+    let some : 0 < length items = subst (λ n. 0 < n) c.args.items.now.ok.0 (first.variant.0 refl) in
+    let row = ap waiting_nodes c.in-Some.is in
+    let less = first_dropped items c.in-Some-first_mut.first.now _ c.replace_kind-kind.result c.in-Some.next _ some first.value c.replace_kind-kind.ensures.taken c.replace_kind-kind.ensures.put c.in-Some-last_branch.ensures.taken in
+    omega (arith, less, row)
+
+pub returns-in-None-last_branch : goal.returns-in-None-last_branch
+returns-in-None-last_branch g c =
+    let first = c.in-Some-first_mut.ensures in
+    let items = c.args.items.now.items in
+    let some : 0 < length items = subst (λ n. 0 < n) c.args.items.now.ok.0 (first.variant.0 refl) in
+    let row = ap waiting_nodes c.in-Some.is in
+    let less = first_dropped items c.in-Some-first_mut.first.now _ c.replace_kind-kind.result c.in-Some.next _ some first.value c.replace_kind-kind.ensures.taken c.replace_kind-kind.ensures.put c.in-None-last_branch.ensures.fewer in
+    omega (arith, less, row)

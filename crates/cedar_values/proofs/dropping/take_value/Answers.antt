@@ -1,40 +1,52 @@
-use Rattle.std.proofs.Common.{◌≡◌, arith, sym, ap, ◌∙◌, subst}
-use Rattle.std.specs.Option.{IfNone}
-use Rattle.cedar_values.specs.Counts.{entry_nodes}
+use Rattle.std.proofs.Common.{arith, sym, ap, ◌∙◌}
 use Rattle.cedar_values.specs.Drops.{waiting_nodes}
-use Rattle.cedar_values.proofs.Fewer.{last_pair_off, nodes_of_kind, no_pairs, has_first, first_replaced}
+use Rattle.cedar_values.proofs.Fewer.{some_nodes, nodes_of_kind, has_first, first_replaced}
 use Rattle.cedar_values.proofs.dropping.take_value.Goals as goal
 
-pub returns-in-Some-first_entry-clause-taken : goal.returns-in-Some-first_entry-clause-taken
-returns-in-Some-first_entry-clause-taken g c =
+pub returns-then-is_empty : goal.returns-then-is_empty
+returns-then-is_empty g c =
     let entry = c.in-Some-first_entry.ensures in
     let ends = c.items-in-Some-first_entry-1.given.1 (sym entry.same_map) in
     let first = sym entry.value.0 ∙ c.into_mut.ensures.value in
     let put = ap (λ m. m.entries) ends ∙ entry.update.1 _ in
     let row = ap waiting_nodes c.in-Some.is in
-    let sum = first_replaced {X = g.row.X.Denot} c.args.items.now.entries _ _ c.into_mut.result.now _ c.replace_kind.result c.in-Some.next entry.key first put c.replace_kind.ensures.taken (sym c.replace_kind.ensures.put) in
-    omega (arith, sum, row)
+    let sum = first_replaced {X = g.row.X.Denot} c.args.items.now.entries _ _ c.into_mut.result.now _ c.replace_kind-kind.result c.in-Some.next entry.key first put c.replace_kind-kind.ensures.taken (sym c.replace_kind-kind.ensures.put) in
+    let one = some_nodes c.replace_kind-kind.result in
+    let within = c.in-Some-last_branch_value.ensures.taken in
+    omega (arith, sum, row, one, within)
 
-pub returns-in-Some-first_entry-clause-smaller : goal.returns-in-Some-first_entry-clause-smaller
-returns-in-Some-first_entry-clause-smaller g c =
-    let first = has_first _ _ (sym c.in-Some-first_entry.ensures.value.0 ∙ c.into_mut.ensures.value) in
-    let same = nodes_of_kind c.into_mut.result.now _ c.replace_kind.ensures.taken in
-    omega (arith, first, same)
+pub returns-else-is_empty : goal.returns-else-is_empty
+returns-else-is_empty g c =
+    let entry = c.in-Some-first_entry.ensures in
+    let ends = c.items-in-Some-first_entry-1.given.1 (sym entry.same_map) in
+    let first = sym entry.value.0 ∙ c.into_mut.ensures.value in
+    let put = ap (λ m. m.entries) ends ∙ entry.update.1 _ in
+    let row = ap waiting_nodes c.in-Some.is in
+    let sum = first_replaced {X = g.row.X.Denot} c.args.items.now.entries _ _ c.into_mut.result.now _ c.replace_kind-kind.result c.in-Some.next entry.key first put c.replace_kind-kind.ensures.taken (sym c.replace_kind-kind.ensures.put) in
+    let one = some_nodes c.replace_kind-kind.result in
+    let within = c.in-Some-last_branch_value.ensures.taken in
+    omega (arith, sum, row, one, within)
 
-pub returns-in-None-first_entry-clause-empty : goal.returns-in-None-first_entry-clause-empty
-returns-in-None-first_entry-clause-empty g c =
-    let same = subst (λ o. IfNone o (c.first_entry.follows.lender-at-none.entries ≡ c.args.items.now.entries)) c.in-None-first_entry.is c.first_entry.follows.holds-at-none in
-    ap entry_nodes same ∙ no_pairs _ c.in-None-first_entry.ensures.variant.1
+pub returns-in-None-last_branch_value : goal.returns-in-None-last_branch_value
+returns-in-None-last_branch_value g c =
+    let entry = c.in-Some-first_entry.ensures in
+    let ends = c.items-in-Some-first_entry-1.given.1 (sym entry.same_map) in
+    let first = sym entry.value.0 ∙ c.into_mut.ensures.value in
+    let put = ap (λ m. m.entries) ends ∙ entry.update.1 _ in
+    let row = ap waiting_nodes c.in-Some.is in
+    let sum = first_replaced {X = g.row.X.Denot} c.args.items.now.entries _ _ c.into_mut.result.now _ c.replace_kind-kind.result c.in-Some.next entry.key first put c.replace_kind-kind.ensures.taken (sym c.replace_kind-kind.ensures.put) in
+    let one = some_nodes c.replace_kind-kind.result in
+    let within = c.in-None-last_branch_value.ensures.fewer in
+    omega (arith, sum, row, one, within)
 
-pub returns-in-Some-pop_last-clause-taken : goal.returns-in-Some-pop_last-clause-taken
-returns-in-Some-pop_last-clause-taken g c =
-    let less = last_pair_off _ _ _ _ c.in-Some-pop_last.ensures.removal in
-    let same = nodes_of_kind c.in-Some-pop_last.last _ c.into_kind.ensures in
-    let none = ap waiting_nodes c.in-None.is in
-    omega (arith, less, same, none)
-
-pub returns-in-Some-pop_last-clause-smaller : goal.returns-in-Some-pop_last-clause-smaller
-returns-in-Some-pop_last-clause-smaller g c =
-    let less = last_pair_off _ _ _ _ c.in-Some-pop_last.ensures.removal in
-    let same = nodes_of_kind c.in-Some-pop_last.last _ c.into_kind.ensures in
-    omega (arith, less, same)
+pub returns-else-is_leaf : goal.returns-else-is_leaf
+returns-else-is_leaf g c =
+    let entry = c.in-Some-first_entry.ensures in
+    let ends = c.items-in-Some-first_entry-1.given.1 (sym entry.same_map) in
+    let first = sym entry.value.0 ∙ c.into_mut.ensures.value in
+    let put = ap (λ m. m.entries) ends ∙ entry.update.1 _ in
+    let row = ap waiting_nodes c.in-Some.is in
+    let sum = first_replaced {X = g.row.X.Denot} c.args.items.now.entries _ _ c.into_mut.result.now _ c.replace_kind-kind.result c.in-Some.next entry.key first put c.replace_kind-kind.ensures.taken (sym c.replace_kind-kind.ensures.put) in
+    let found = has_first _ _ first in
+    let same = nodes_of_kind c.into_mut.result.now _ c.replace_kind-kind.ensures.taken in
+    (omega (arith, found, same), omega (arith, sum, row))
