@@ -1,10 +1,10 @@
 -- The first clash in preorder is found child by child.
-use Rattle.std.proofs.Common.{◌≡◌, List, [], ◌∷◌, map, Option, Some, None, refl, ap, ◌∙◌}
+use Rattle.std.proofs.Common.{◌≡◌, List, ◌∷◌, Option, Some, None, refl, ap, ◌∙◌}
 use Rattle.std.specs.Option.{option_or}
-use Rattle.cedar_builders.specs.BareExpr.{BareExpr, Lit, Var, Slot, Unknown, If, And, Or, UnaryApp, BinaryApp, ExtensionFunctionApp, GetAttr, HasAttr, ExtHasAttr, Like, Set, Record, Is, BareExprs, no_trees, tree, BareFields, no_fields, field}
+use Rattle.cedar_builders.specs.BareExpr.{BareExpr, Lit, Var, Slot, Unknown, If, And, Or, UnaryApp, BinaryApp, ExtensionFunctionApp, GetAttr, HasAttr, Like, Set, Record, Is, BareExprs, no_trees, tree, BareFields, no_fields, field}
 use Rattle.cedar_builders.specs.Environment.{Env}
-use Rattle.cedar_builders.specs.Walks.{walk, walk_all, walk_fields, forward, preorder, first_of}
-use Rattle.cedar_builders.specs.TypeClash.{TwoTypes, mismatch, clash_at, clash, first_refusal, first_refusal_of_all, first_refusal_of_fields, ClashByChildren}
+use Rattle.cedar_builders.specs.Walks.{walk, walk_all, walk_fields, forward, first_of}
+use Rattle.cedar_builders.specs.TypeClash.{TwoTypes, mismatch, clash_at, first_refusal, first_refusal_of_all, first_refusal_of_fields, ClashByChildren}
 use Rattle.cedar_builders.proofs.Walks.{same_walks, first_of-forward}
 
 or_none : {A : Type 0} → (a : Option A) → option_or a None ≡ a
@@ -29,8 +29,7 @@ module _ (env : Env) where
     walked (BinaryApp o a b) = simp (or_none, walked a, walked b)
     walked (ExtensionFunctionApp n es) = walked_all es
     walked (GetAttr a k) = simp (or_none, walked a)
-    walked (HasAttr a k) = simp (or_none, walked a)
-    walked (ExtHasAttr a k ks) = simp (or_none, walked a)
+    walked (HasAttr a k ks) = simp (or_none, walked a)
     walked (Like a p) = simp (or_none, walked a)
     walked (Set es) = walked_all es
     walked (Record fs) = walked_fields fs

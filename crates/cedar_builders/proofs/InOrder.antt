@@ -1,5 +1,5 @@
 -- Pairs with distinct keys that are put to their places one by one are the same pairs, and their keys rise.
-use Rattle.std.proofs.Common.{◌≡◌, List, [], ◌∷◌, ◌++◌, map, fold, Bool, true, false, not, ◌&&◌, ◌||◌, Less, Equal, Greater, nat_cmp, refl, ap, sym, ◌∙◌, subst, append-nil, IsTrue}
+use Rattle.std.proofs.Common.{◌≡◌, List, [], ◌∷◌, ◌++◌, fold, Bool, true, false, not, Less, Equal, Greater, nat_cmp, refl, ap, sym, ◌∙◌, subst, append-nil, IsTrue}
 use Rattle.std.specs.Prelude.{IsPermutation}
 use Rattle.std.specs.Ordering.{match_ordering, is_eq, ordering_reverse}
 use Rattle.std.specs.List.{AllByRecursion}

@@ -1,19 +1,17 @@
 -- Pairs whose keys rise, and keys of which one stands twice.
-use Rattle.std.proofs.Common.{◌≡◌, List, [], ◌∷◌, ◌++◌, map, fold, Bool, true, false, not, ◌&&◌, ◌||◌, Less, Greater, nat_cmp, Global, refl, ap, sym, ◌∙◌, subst, append_assoc, append-nil}
+use Rattle.std.proofs.Common.{◌≡◌, List, [], ◌∷◌, ◌++◌, fold, Bool, true, false, not, ◌&&◌, ◌||◌, Less, Greater, nat_cmp, refl, ap, sym, ◌∙◌, subst, append_assoc, append-nil}
 use Rattle.std.specs.Ordering.{is_eq, ordering_reverse}
 use Rattle.std.specs.List.{AllByRecursion}
 use Rattle.std.specs.List.Sorted.{IsStrictlySortedBy}
 use Rattle.std.specs.Cmp.Lexicographic.{slice_cmp, nat_list_eq_equiv, nat_list_cmp_total, texts_ties}
-use Rattle.std.specs.Rc.{rc_str_bytes}
-use Rattle.std.specs.declared.rc.RcStr.{RcStr}
 use Rattle.std.proofs.lemmas.Bool.{false≢true}
 use Rattle.std.proofs.lemmas.List.Folds.{list_any-append}
 use Rattle.cedar_builders.specs.BareExpr.{Text}
-use Rattle.cedar_builders.specs.Keys.{keys_of, is_among, are_distinct, IsRising, HasRepeat, keyed, in_key_order, IsFirstRepeat}
+use Rattle.cedar_builders.specs.Keys.{is_among, are_distinct, IsRising, HasRepeat, in_key_order, IsFirstRepeat}
 use Rattle.cedar_builders.specs.Errors.{key_of, OnDuplicateKey}
 use Rattle.cedar_builders.specs.declared.expression_construction_errors.ExpressionConstructionError.{ExpressionConstructionError}
 use Rattle.cedar_builders.specs.declared.expression_construction_errors.ExpressionConstructionError.TheVariants.{DuplicateKey, Memory}
-use Rattle.cedar_builders.proofs.DistinctKeys.{texts, keys-keyed, same, put}
+use Rattle.cedar_builders.proofs.DistinctKeys.{texts, same, put}
 
 and_false : (b : Bool) → (b && false) ≡ false
 and_false true = refl

@@ -1,11 +1,11 @@
 -- A fold moved past substitution: the one induction over trees that the laws stand on.
-use Rattle.std.proofs.Common.{◌≡◌, refl, sym, ap, Bool, ◌&&◌, ◌||◌, List, [], ◌∷◌, Option, Some, None, Result, Ok, Err}
+use Rattle.std.proofs.Common.{◌≡◌, refl, sym, ap, Bool, ◌&&◌, ◌||◌, Option, Some, None, Result, Ok, Err}
 use Rattle.cedar_terms.specs.Literals.{BoolLit}
 use Rattle.cedar_terms.specs.Types.{BareType}
-use Rattle.cedar_builders.specs.BareExpr.{Text, BareExpr, Lit, Var, Slot, Unknown, If, And, Or, UnaryApp, BinaryApp, ExtensionFunctionApp, GetAttr, HasAttr, ExtHasAttr, Like, Set, Record, Is, BareExprs, no_trees, tree, trees_of, BareFields, no_fields, field, fields_of}
+use Rattle.cedar_builders.specs.BareExpr.{Text, BareExpr, Lit, Var, Slot, Unknown, If, And, Or, UnaryApp, BinaryApp, ExtensionFunctionApp, GetAttr, HasAttr, Like, Set, Record, Is, BareExprs, no_trees, tree, trees_of, BareFields, no_fields, field, fields_of}
 use Rattle.cedar_builders.specs.Ops.{Ops}
 use Rattle.cedar_builders.specs.Fold.{on_one, on_two, on_three, and_then, fold_with, fold_all, fold_fields}
-use Rattle.cedar_builders.specs.Trees.{bool_of, folded, and_made, or_made, ext_has_made, tree_ops, sure}
+use Rattle.cedar_builders.specs.Trees.{bool_of, folded, and_made, or_made, tree_ops, sure}
 use Rattle.cedar_builders.specs.Lawful.{Lawful}
 
 -- what never fails, made of parts that never fail
@@ -47,14 +47,6 @@ module _ {M F : Type 0} (B : Ops M F) (laws : Lawful B) (f : Text → Option Bar
       go (Some p) None h k = refl
       go None y h k = refl
 
-  has_moved : (e : BareExpr) (k : Text) (ks : List Text) → fold_with B f (ext_has_made e k ks) ≡ on_one (λ m. B.ext_has_of m k ks) (fold_with B f e)
-  has_moved e k [] = go (fold_with B f e)
-    where
-      go : (r : Result M F) → on_one (λ m. B.has_of m k) r ≡ on_one (λ m. B.ext_has_of m k []) r
-      go (Ok m) = ap Ok (sym (laws.ext_has_of_one m k))
-      go (Err e) = refl
-  has_moved e k (l ∷ ls) = refl
-
   module _ (g : Text → Option BareType → Result BareExpr ⊥) where
     mutual
       pub moved : (e : BareExpr) → fold_with B f (sure (fold_with tree_ops g e)) ≡ fold_with B (λ n t. fold_with B f (sure (g n t))) e
@@ -69,8 +61,7 @@ module _ {M F : Type 0} (B : Ops M F) (laws : Lawful B) (f : Text → Option Bar
       moved (BinaryApp o a b) = simp (sure_two, moved a, moved b)
       moved (ExtensionFunctionApp n es) = simp (sure_then, moved_all es)
       moved (GetAttr a k) = simp (sure_one, moved a)
-      moved (HasAttr a k) = simp (sure_one, moved a)
-      moved (ExtHasAttr a k ks) = simp (sure_one, has_moved, moved a)
+      moved (HasAttr a k ks) = simp (sure_one, moved a)
       moved (Like a p) = simp (sure_one, moved a)
       moved (Set es) = simp (sure_one, moved_all es)
       moved (Record fs) = simp (sure_one, moved_fields fs)

@@ -25,7 +25,7 @@ use Rattle.cedar_builders.proofs.Moved.{moved, sure_one, sure_two, sure_then}
 
 -- the builder of trees is lawful
 trees_are_lawful : Lawful tree_ops
-trees_are_lawful = record { and_of_literals = λ a b. refl; or_of_literals = λ a b. refl; ext_has_of_one = λ m k. refl }
+trees_are_lawful = record { and_of_literals = λ a b. refl; or_of_literals = λ a b. refl }
 
 module _ {M F : Type 0} (B : Ops M F) (laws : Lawful B) where
   built_bound : (o : Option (BareType × BareExpr)) (n : Text) (t : Option BareType) → fold_with B (own B) (sure (bound tree_ops o n t)) ≡ bound B o n t

@@ -1,7 +1,7 @@
 -- Substitution by restricted trees is the fold at the builder of trees.
 use Rattle.std.proofs.Common.{◌≡◌, List, [], ◌∷◌, Option, Some, None, Result, Ok, Err, refl, ap}
 use Rattle.cedar_terms.specs.Types.{BareType}
-use Rattle.cedar_builders.specs.BareExpr.{Text, BareExpr, Lit, Var, Slot, Unknown, If, And, Or, UnaryApp, BinaryApp, ExtensionFunctionApp, GetAttr, HasAttr, ExtHasAttr, Like, Set, Record, Is, BareExprs, no_trees, tree, trees_of, BareFields, no_fields, field, fields_of}
+use Rattle.cedar_builders.specs.BareExpr.{Text, BareExpr, Lit, Var, Slot, Unknown, If, And, Or, UnaryApp, BinaryApp, ExtensionFunctionApp, GetAttr, HasAttr, Like, Set, Record, Is, BareExprs, no_trees, tree, trees_of, BareFields, no_fields, field, fields_of}
 use Rattle.cedar_builders.specs.Fold.{fold_with, fold_all, fold_fields}
 use Rattle.cedar_builders.specs.Environment.{Env, own, bound}
 use Rattle.cedar_builders.specs.Trees.{tree_ops, sure, bound_tree, substituted, all_substituted, fields_substituted}
@@ -28,8 +28,7 @@ module _ (env : Env) (at_unknown : Text → Option BareType → Result BareExpr 
     with_trees (BinaryApp o a b) = rw (with_trees a, with_trees b)
     with_trees (ExtensionFunctionApp n es) = let h = all_trees es in rw h.1 (ap (λ xs. Ok (ExtensionFunctionApp n xs)) h.2)
     with_trees (GetAttr a k) = rw (with_trees a)
-    with_trees (HasAttr a k) = rw (with_trees a)
-    with_trees (ExtHasAttr a k ks) = rw (with_trees a)
+    with_trees (HasAttr a k ks) = rw (with_trees a)
     with_trees (Like a p) = rw (with_trees a)
     with_trees (Set es) = let h = all_trees es in rw h.1 (ap (λ xs. Ok (Set xs)) h.2)
     with_trees (Record fs) = let h = field_trees fs in rw h.1 (ap (λ xs. Ok (Record xs)) h.2)

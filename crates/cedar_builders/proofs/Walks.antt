@@ -1,10 +1,10 @@
 -- Walks go from a tree to its children, and what holds of a tree where it holds of its children holds of every tree.
-use Rattle.std.proofs.Common.{◌≡◌, List, [], ◌∷◌, ◌++◌, map, Bool, true, ◌&&◌, IsTrue, Option, Some, None, refl, sym, ap, ◌∙◌}
+use Rattle.std.proofs.Common.{◌≡◌, List, [], ◌∷◌, ◌++◌, map, Option, Some, None, refl, sym, ap, ◌∙◌}
 use Rattle.std.specs.Prelude.{All}
 use Rattle.std.specs.List.{AllByRecursion}
 use Rattle.std.specs.Option.{option_or}
 use Rattle.std.proofs.lemmas.List.Elements.{All-nil, All-head, All-tail, All-cons}
-use Rattle.cedar_builders.specs.BareExpr.{BareExpr, Lit, Var, Slot, Unknown, If, And, Or, UnaryApp, BinaryApp, ExtensionFunctionApp, GetAttr, HasAttr, ExtHasAttr, Like, Set, Record, Is, BareExprs, no_trees, tree, BareFields, no_fields, field}
+use Rattle.cedar_builders.specs.BareExpr.{BareExpr, Lit, Var, Slot, Unknown, If, And, Or, UnaryApp, BinaryApp, ExtensionFunctionApp, GetAttr, HasAttr, Like, Set, Record, Is, BareExprs, no_trees, tree, BareFields, no_fields, field}
 use Rattle.cedar_builders.specs.Walks.{members_of, values_of, children, walk, walk_is, forward, first_of}
 
 -- what holds of each tree whose children it holds of holds of every tree
@@ -22,8 +22,7 @@ module _ (P : BareExpr → Type 0) (step : (e : BareExpr) → AllByRecursion P (
     by_children (BinaryApp o a b) = step (BinaryApp o a b) (by_children a, (by_children b, tt))
     by_children (ExtensionFunctionApp n es) = step (ExtensionFunctionApp n es) (by_members es)
     by_children (GetAttr a k) = step (GetAttr a k) (by_children a, tt)
-    by_children (HasAttr a k) = step (HasAttr a k) (by_children a, tt)
-    by_children (ExtHasAttr a k ks) = step (ExtHasAttr a k ks) (by_children a, tt)
+    by_children (HasAttr a k ks) = step (HasAttr a k ks) (by_children a, tt)
     by_children (Like a p) = step (Like a p) (by_children a, tt)
     by_children (Set es) = step (Set es) (by_members es)
     by_children (Record fs) = step (Record fs) (by_values fs)

@@ -27,8 +27,7 @@ mutual
     BinaryApp : BinaryOp → BareExpr → BareExpr → BareExpr
     ExtensionFunctionApp : BareName → BareExprs → BareExpr
     GetAttr : BareExpr → Text → BareExpr
-    HasAttr : BareExpr → Text → BareExpr
-    ExtHasAttr : BareExpr → Text → List Text → BareExpr
+    HasAttr : BareExpr → Text → List Text → BareExpr
     Like : BareExpr → List PatternElem → BareExpr
     Set : BareExprs → BareExpr
     Record : BareFields → BareExpr

@@ -1,6 +1,6 @@
 -- The nodes of a tree, counted.
 use Rattle.std.specs.Prelude.{◌≡◌, ℕ, suc, ◌+◌, List, [], ◌∷◌, map, refl}
-use Rattle.std.proofs.Common.{ap, ◌∙◌}
+use Rattle.std.proofs.Common.{ap}
 use Rattle.cedar_builders.specs.BareExpr.{BareExpr, BareExprs, no_trees, tree, BareFields, no_fields, field, ExtensionFunctionApp, Set, Record}
 use Rattle.cedar_builders.specs.Walks.{children, members_of, values_of, walk, walk_all, walk_fields}
 

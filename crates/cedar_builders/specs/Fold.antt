@@ -1,7 +1,7 @@
 -- What a builder makes of a tree: its children first, in field order, and the first error ends it.
 use Rattle.std.specs.Prelude.{List, [], ◌∷◌, Option, Result, Ok, Err}
 use Rattle.cedar_terms.specs.Types.{BareType}
-use Rattle.cedar_builders.specs.BareExpr.{Text, BareExpr, Lit, Var, Slot, Unknown, If, And, Or, UnaryApp, BinaryApp, ExtensionFunctionApp, GetAttr, HasAttr, ExtHasAttr, Like, Set, Record, Is, BareExprs, no_trees, tree, BareFields, no_fields, field}
+use Rattle.cedar_builders.specs.BareExpr.{Text, BareExpr, Lit, Var, Slot, Unknown, If, And, Or, UnaryApp, BinaryApp, ExtensionFunctionApp, GetAttr, HasAttr, Like, Set, Record, Is, BareExprs, no_trees, tree, BareFields, no_fields, field}
 use Rattle.cedar_builders.specs.Ops.{Ops}
 
 -- a function of one answer: an error answers in its place
@@ -39,8 +39,7 @@ module _ {M F : Type 0} (B : Ops M F) (at_unknown : Text → Option BareType →
     fold_with (BinaryApp o a b) = on_two (B.binary_of o) (fold_with a) (fold_with b)
     fold_with (ExtensionFunctionApp n es) = and_then (B.call_of n) (fold_all es)
     fold_with (GetAttr a k) = on_one (λ m. B.get_of m k) (fold_with a)
-    fold_with (HasAttr a k) = on_one (λ m. B.has_of m k) (fold_with a)
-    fold_with (ExtHasAttr a k ks) = on_one (λ m. B.ext_has_of m k ks) (fold_with a)
+    fold_with (HasAttr a k ks) = on_one (λ m. B.has_of m k ks) (fold_with a)
     fold_with (Like a p) = on_one (λ m. B.like_of m p) (fold_with a)
     fold_with (Set es) = on_one B.set_of (fold_all es)
     fold_with (Record fs) = on_one B.record_of (fold_fields fs)

@@ -2,7 +2,7 @@
 use Rattle.std.specs.Prelude.{◌≡◌, List, [], ◌∷◌, map, Option, Result, Ok, Err, refl}
 use Rattle.std.proofs.Common.{sym, ap, ◌∙◌, subst}
 use Rattle.cedar_terms.specs.Types.{BareType}
-use Rattle.cedar_builders.specs.BareExpr.{Text, BareExpr, Lit, Var, Slot, Unknown, If, And, Or, UnaryApp, BinaryApp, ExtensionFunctionApp, GetAttr, HasAttr, ExtHasAttr, Like, Set, Record, Is, BareExprs, no_trees, tree, BareFields, no_fields, field}
+use Rattle.cedar_builders.specs.BareExpr.{Text, BareExpr, Lit, Var, Slot, Unknown, If, And, Or, UnaryApp, BinaryApp, ExtensionFunctionApp, GetAttr, HasAttr, Like, Set, Record, Is, BareExprs, no_trees, tree, BareFields, no_fields, field}
 use Rattle.cedar_builders.specs.Ops.{Ops}
 use Rattle.cedar_builders.specs.Fold.{on_one, on_two, on_three, and_then, fold_with, fold_all, fold_fields}
 use Rattle.cedar_builders.specs.Walks.{members_of, values_of, children}
@@ -117,8 +117,7 @@ module _ {M F : Type 0} (B : Ops M F) (at_unknown : Text → Option BareType →
   IsBuiltOf (BinaryApp o a b) ms r = OfTwo (B.binary_of o) ms r
   IsBuiltOf (ExtensionFunctionApp n es) ms r = r ≡ B.call_of n ms
   IsBuiltOf (GetAttr a k) ms r = OfOne (λ m. B.get_of m k) ms r
-  IsBuiltOf (HasAttr a k) ms r = OfOne (λ m. B.has_of m k) ms r
-  IsBuiltOf (ExtHasAttr a k ks) ms r = OfOne (λ m. B.ext_has_of m k ks) ms r
+  IsBuiltOf (HasAttr a k ks) ms r = OfOne (λ m. B.has_of m k ks) ms r
   IsBuiltOf (Like a p) ms r = OfOne (λ m. B.like_of m p) ms r
   IsBuiltOf (Set es) ms r = r ≡ Ok (B.set_of ms)
   IsBuiltOf (Record fs) ms r = r ≡ Ok (B.record_of (keyed fs ms))
@@ -149,8 +148,7 @@ module _ {M F : Type 0} (B : Ops M F) (at_unknown : Text → Option BareType →
   strict_fold (ExtensionFunctionApp n es) =
       strict_all (B.call_of n) (fold_all B at_unknown es) ∙ ap (and_then (λ _. and_then (B.call_of n) (fold_all B at_unknown es))) (sym (gathered-members_of es))
   strict_fold (GetAttr a k) = strict_one (λ m. B.get_of m k) (fold_with B at_unknown a)
-  strict_fold (HasAttr a k) = strict_one (λ m. B.has_of m k) (fold_with B at_unknown a)
-  strict_fold (ExtHasAttr a k ks) = strict_one (λ m. B.ext_has_of m k ks) (fold_with B at_unknown a)
+  strict_fold (HasAttr a k ks) = strict_one (λ m. B.has_of m k ks) (fold_with B at_unknown a)
   strict_fold (Like a p) = strict_one (λ m. B.like_of m p) (fold_with B at_unknown a)
   strict_fold (Set es) =
       strict_set B.set_of (fold_all B at_unknown es) ∙ ap (and_then (λ _. on_one B.set_of (fold_all B at_unknown es))) (sym (gathered-members_of es))
@@ -170,8 +168,7 @@ module _ {M F : Type 0} (B : Ops M F) (at_unknown : Text → Option BareType →
   built_of (BinaryApp o a b) ms r is h = of_two (B.binary_of o) (fold_with B at_unknown a) (fold_with B at_unknown b) ms r is h
   built_of (ExtensionFunctionApp n es) ms r is h = ap (and_then (B.call_of n)) (sym (gathered-members_of es) ∙ is) ∙ sym h
   built_of (GetAttr a k) ms r is h = of_one (λ m. B.get_of m k) (fold_with B at_unknown a) ms r is h
-  built_of (HasAttr a k) ms r is h = of_one (λ m. B.has_of m k) (fold_with B at_unknown a) ms r is h
-  built_of (ExtHasAttr a k ks) ms r is h = of_one (λ m. B.ext_has_of m k ks) (fold_with B at_unknown a) ms r is h
+  built_of (HasAttr a k ks) ms r is h = of_one (λ m. B.has_of m k ks) (fold_with B at_unknown a) ms r is h
   built_of (Like a p) ms r is h = of_one (λ m. B.like_of m p) (fold_with B at_unknown a) ms r is h
   built_of (Set es) ms r is h = ap (on_one B.set_of) (sym (gathered-members_of es) ∙ is) ∙ sym h
   built_of (Record fs) ms r is h =

@@ -1,5 +1,5 @@
 -- Questions about trees (the queries of `Expr` in Cedar's `expr.rs`).
-use Rattle.std.specs.Prelude.{Bool, true, false, List}
+use Rattle.std.specs.Prelude.{Bool, true, false}
 use Rattle.std.specs.List.{list_all, list_any}
 use Rattle.cedar_terms.specs.Literals.{is_entity_literal}
 use Rattle.cedar_builders.specs.BareExpr.{BareExpr, Lit, Var, Slot, Unknown, Set, Record}

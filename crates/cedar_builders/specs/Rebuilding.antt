@@ -1,38 +1,20 @@
 -- Substitution node by node: a value may be refused where an unknown stands, and a leaf may stay as it is.
-use Rattle.std.specs.Prelude.{◌≡◌, ⊤, Bool, true, false, if◌then◌else◌, List, [], ◌∷◌, Option, Some, None, Result, Ok, Err, refl}
+use Rattle.std.specs.Prelude.{◌≡◌, ⊤, Bool, true, false, List, [], ◌∷◌, Option, Some, None, Result, Ok, Err, refl}
 use Rattle.std.specs.Option.{option_or}
 use Rattle.std.proofs.Common.{sym, ap, ◌∙◌, subst}
 use Rattle.cedar_terms.specs.Types.{BareType}
-use Rattle.cedar_builders.specs.BareExpr.{Text, BareExpr, Lit, Var, Slot, Unknown, If, And, Or, UnaryApp, BinaryApp, ExtensionFunctionApp, GetAttr, HasAttr, ExtHasAttr, Like, Set, Record, Is, BareExprs, no_trees, tree, trees_of, BareFields, no_fields, field, fields_of}
+use Rattle.cedar_builders.specs.BareExpr.{Text, BareExpr, Lit, Var, Slot, Unknown, If, And, Or, UnaryApp, BinaryApp, ExtensionFunctionApp, GetAttr, HasAttr, Like, Set, Record, Is, BareExprs, no_trees, tree, trees_of, BareFields, no_fields, field, fields_of}
 use Rattle.cedar_builders.specs.Ops.{Ops}
 use Rattle.cedar_builders.specs.Environment.{Env}
 use Rattle.cedar_builders.specs.Fold.{on_one, on_two, on_three, and_then, fold_with, fold_all, fold_fields}
-use Rattle.cedar_builders.specs.Trees.{and_made, or_made, ext_has_made, bound_tree, substituted, all_substituted, fields_substituted}
+use Rattle.cedar_builders.specs.Trees.{and_made, or_made, tree_ops_with, bound_tree, substituted, all_substituted, fields_substituted}
 use Rattle.cedar_builders.specs.TypeClash.{TwoTypes, Refusals, refused_binding, first_refusal, first_refusal_of_all, first_refusal_of_fields}
 use Rattle.cedar_builders.specs.Walks.{children}
 use Rattle.cedar_builders.specs.NodeByNode.{gathered, strict_at, IsMadeByNodes, IsBuiltOf, fold_by_nodes}
 
 -- the builder of trees, where a value may be refused
 abbrev pub checked_ops : Ops BareExpr TwoTypes
-checked_ops = record {
-  lit_of = Lit;
-  var_of = Var;
-  slot_of = Slot;
-  unknown_of = Unknown;
-  if_of = If;
-  and_of = and_made;
-  or_of = or_made;
-  unary_of = UnaryApp;
-  binary_of = BinaryApp;
-  call_of = λ n es. Ok (ExtensionFunctionApp n (trees_of es));
-  get_of = GetAttr;
-  has_of = HasAttr;
-  ext_has_of = ext_has_made;
-  like_of = Like;
-  set_of = λ es. Set (trees_of es);
-  record_of = λ ps. Record (fields_of ps);
-  is_of = Is;
-}
+checked_ops = tree_ops_with TwoTypes
 
 -- what was refused, else the answer
 abbrev pub unless_refused : {A : Type 0} → Option TwoTypes → A → Result A TwoTypes
@@ -52,20 +34,7 @@ abbrev pub stays : BareExpr → Bool
 stays (Lit l) = true
 stays (Var v) = true
 stays (Slot s) = true
-stays (Unknown n t) = false
-stays (If a b c) = false
-stays (And a b) = false
-stays (Or a b) = false
-stays (UnaryApp o a) = false
-stays (BinaryApp o a b) = false
-stays (ExtensionFunctionApp n es) = false
-stays (GetAttr a k) = false
-stays (HasAttr a k) = false
-stays (ExtHasAttr a k ks) = false
-stays (Like a p) = false
-stays (Set es) = false
-stays (Record fs) = false
-stays (Is a n) = false
+stays e = false
 
 -- a new tree, unless the tree stays as it is
 abbrev pub new_unless : Bool → BareExpr → Option BareExpr
@@ -212,8 +181,7 @@ module _ (refuse : Refusals) (env : Env) where
     by_refusal (BinaryApp o a b) = rw (by_refusal a, by_refusal b) (two (first_refusal refuse env a) (first_refusal refuse env b) (BinaryApp o) (substituted env a) (substituted env b))
     by_refusal (ExtensionFunctionApp n es) = let h = all_by_refusal es in rw h.1 (then_tree (first_refusal_of_all refuse env es) h.0 (λ xs. ExtensionFunctionApp n (trees_of xs)) ∙ ap (λ xs. unless_refused (first_refusal_of_all refuse env es) (ExtensionFunctionApp n xs)) h.2)
     by_refusal (GetAttr a k) = rw (by_refusal a) (one (first_refusal refuse env a) (λ m. GetAttr m k) (substituted env a))
-    by_refusal (HasAttr a k) = rw (by_refusal a) (one (first_refusal refuse env a) (λ m. HasAttr m k) (substituted env a))
-    by_refusal (ExtHasAttr a k ks) = rw (by_refusal a) (one (first_refusal refuse env a) (λ m. ext_has_made m k ks) (substituted env a))
+    by_refusal (HasAttr a k ks) = rw (by_refusal a) (one (first_refusal refuse env a) (λ m. HasAttr m k ks) (substituted env a))
     by_refusal (Like a p) = rw (by_refusal a) (one (first_refusal refuse env a) (λ m. Like m p) (substituted env a))
     by_refusal (Set es) = let h = all_by_refusal es in rw h.1 (one (first_refusal_of_all refuse env es) (λ xs. Set (trees_of xs)) h.0 ∙ ap (λ xs. unless_refused (first_refusal_of_all refuse env es) (Set xs)) h.2)
     by_refusal (Record fs) = let h = fields_by_refusal fs in rw h.1 (one (first_refusal_of_fields refuse env fs) (λ ps. Record (fields_of ps)) h.0 ∙ ap (λ xs. unless_refused (first_refusal_of_fields refuse env fs) (Record xs)) h.2)

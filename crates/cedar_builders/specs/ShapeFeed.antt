@@ -8,8 +8,13 @@ use Rattle.cedar_terms.specs.LiteralOrder.{literal_fed}
 use Rattle.cedar_terms.specs.Ops.{var_number, unary_op_number, binary_op_number}
 use Rattle.cedar_terms.specs.PatternOrder.{pattern_fed}
 use Rattle.cedar_terms.specs.TypeOrder.{type_fed}
-use Rattle.cedar_builders.specs.BareExpr.{BareExpr, Lit, Var, Slot, Unknown, If, And, Or, UnaryApp, BinaryApp, ExtensionFunctionApp, GetAttr, HasAttr, ExtHasAttr, Like, Set, Record, Is, BareExprs, no_trees, tree, BareFields, no_fields, field}
-use Rattle.cedar_builders.specs.Shapes.{slot_number, row_count, field_count}
+use Rattle.cedar_builders.specs.BareExpr.{Text, BareExpr, Lit, Var, Slot, Unknown, If, And, Or, UnaryApp, BinaryApp, ExtensionFunctionApp, GetAttr, HasAttr, Like, Set, Record, Is, BareExprs, no_trees, tree, BareFields, no_fields, field}
+use Rattle.cedar_builders.specs.Shapes.{has_number, slot_number, row_count, field_count}
+
+-- one attribute alone, or a first one and the list of the others
+abbrev pub attributes_fed : Text → List Text → HashWrites
+attributes_fed k [] = fed.str k
+attributes_fed k (l ∷ ls) = fed.str k ++ fed.slice fed.str (l ∷ ls)
 
 abbrev mutual
   pub shape_fed : BareExpr → HashWrites
@@ -24,8 +29,7 @@ abbrev mutual
   shape_fed (BinaryApp o a b) = fed.u8 8 ++ fed.isize (pos (binary_op_number o)) ++ shape_fed a ++ shape_fed b
   shape_fed (ExtensionFunctionApp n es) = fed.u8 9 ++ name_fed n ++ fed.usize (row_count es) ++ row_fed es
   shape_fed (GetAttr a k) = fed.u8 10 ++ shape_fed a ++ fed.str k
-  shape_fed (HasAttr a k) = fed.u8 11 ++ shape_fed a ++ fed.str k
-  shape_fed (ExtHasAttr a k ks) = fed.u8 12 ++ shape_fed a ++ fed.str k ++ fed.slice fed.str ks
+  shape_fed (HasAttr a k ks) = fed.u8 (has_number ks) ++ shape_fed a ++ attributes_fed k ks
   shape_fed (Like a p) = fed.u8 13 ++ shape_fed a ++ pattern_fed p
   shape_fed (Set es) = fed.u8 14 ++ fed.usize (row_count es) ++ row_fed es
   shape_fed (Record fs) = fed.u8 15 ++ fed.usize (field_count fs) ++ fields_fed fs

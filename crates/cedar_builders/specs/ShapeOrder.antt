@@ -1,11 +1,13 @@
 -- The order of trees by their shape is total, and equal just where the trees are: a tree is ordered as the nested list of what it is compared by.
-use Rattle.std.specs.Prelude.{◌≡◌, ℕ, Bool, true, List, ◌∷◌, Option, Some, None, refl, nat_eq}
-use Rattle.std.proofs.Common.{sym, ◌∙◌, ap, subst, ◌⊎◌, inl, inr, arith}
+use Rattle.std.specs.Prelude.{◌≡◌, ⊤, ℕ, Bool, true, false, List, [], ◌∷◌, Option, Some, None, refl, nat_eq}
+use Rattle.std.proofs.Common.{sym, ◌∙◌, ap, subst, ◌⊎◌, inl, inr}
+use Rattle.std.proofs.Math.Dec.{eqb}
+use Rattle.std.proofs.lemmas.Bool.{eq-eqb, false≢true}
 use Rattle.std.specs.Bool.{Decides}
 use Rattle.std.specs.Cmp.{IsTotalOrder, IsEquivalence, IsPartialOrder, nat_cmp_total, on_total, partial_order_from_total, Equal-is, unsigned_ties, unsigned_Decides, eq_by_cmp_equiv}
 use Rattle.std.specs.Cmp.Lexicographic.{slice_cmp, pointwise, lists_total, lists_ties, options_total, pointwise_decides, bytes_decides, nat_list_cmp_total, texts_ties}
 use Rattle.std.specs.Option.{option_cmp, option_eq}
-use Rattle.std.specs.Ordering.{nat_cmp, is_eq, eq_by_cmp, as_partial_cmp, ordering_then}
+use Rattle.std.specs.Ordering.{nat_cmp, is_eq, eq_by_cmp, as_partial_cmp}
 use Rattle.std.specs.declared.cmp.Ordering.{Ordering}
 use Rattle.std.specs.declared.cmp.Ordering.TheVariants.{Less, Equal, Greater}
 use Rattle.cedar_names.specs.Names.{BareName}
@@ -25,8 +27,8 @@ use Rattle.cedar_terms.specs.declared.ops.UnaryOp.TheVariants as unary
 use Rattle.cedar_terms.specs.declared.pattern.PatternElem.{PatternElem}
 use Rattle.cedar_terms.specs.declared.var.Var.{Var as Variable}
 use Rattle.cedar_terms.specs.declared.var.Var.TheVariants as var
-use Rattle.cedar_builders.specs.BareExpr.{Text, BareExpr, Lit, Var, Slot, Unknown, If, And, Or, UnaryApp, BinaryApp, ExtensionFunctionApp, GetAttr, HasAttr, ExtHasAttr, Like, Set, Record, Is, BareExprs, no_trees, tree, BareFields, no_fields, field}
-use Rattle.cedar_builders.specs.Shapes.{slot_number, row_count, field_count, ◌or_else◌, shape_cmp, row_cmp, fields_cmp}
+use Rattle.cedar_builders.specs.BareExpr.{Text, BareExpr, Lit, Var, Slot, Unknown, If, And, Or, UnaryApp, BinaryApp, ExtensionFunctionApp, GetAttr, HasAttr, Like, Set, Record, Is, BareExprs, no_trees, tree, BareFields, no_fields, field}
+use Rattle.cedar_builders.specs.Shapes.{has_number, slot_number, row_count, field_count, ◌or_else◌, shape_cmp, row_cmp, fields_cmp}
 use Rattle.cedar_builders.specs.ShapeFeed.{shape_fed}
 use Rattle.cedar_builders.specs.NestedKeys.{Order, Key, Keys, part, branch, no_keys, key, key_cmp, keys_cmp, key_order, sum_order, total_of, itself, then_equal, then_last}
 
@@ -53,23 +55,27 @@ numbered number alone = record {
   exact = λ x y h. alone x y (naturals.exact (number x) (number y) h);
 }
 
+-- numbers that are told apart are not the same
+differ : {m n : ℕ} → eqb m n ≡ false → m ≡ n → ⊥
+differ {m} {n} e h = false≢true (sym e ∙ eq-eqb m n h)
+
 var_alone : (x y : Variable) → var_number x ≡ var_number y → x ≡ y
 var_alone var.Principal var.Principal h = refl
 var_alone var.Action var.Action h = refl
 var_alone var.Resource var.Resource h = refl
 var_alone var.Context var.Context h = refl
-var_alone x y h = absurd (omega arith)
+var_alone x y h = absurd (differ refl h)
 
 slot_alone : (x y : SlotId) → slot_number x ≡ slot_number y → x ≡ y
 slot_alone slot.Principal slot.Principal h = refl
 slot_alone slot.Resource slot.Resource h = refl
-slot_alone x y h = absurd (omega arith)
+slot_alone x y h = absurd (differ refl h)
 
 unary_alone : (x y : UnaryOp) → unary_op_number x ≡ unary_op_number y → x ≡ y
 unary_alone unary.Not unary.Not h = refl
 unary_alone unary.Neg unary.Neg h = refl
 unary_alone unary.IsEmpty unary.IsEmpty h = refl
-unary_alone x y h = absurd (omega arith)
+unary_alone x y h = absurd (differ refl h)
 
 binary_alone : (x y : BinaryOp) → binary_op_number x ≡ binary_op_number y → x ≡ y
 binary_alone binary.Eq binary.Eq h = refl
@@ -84,7 +90,7 @@ binary_alone binary.ContainsAll binary.ContainsAll h = refl
 binary_alone binary.ContainsAny binary.ContainsAny h = refl
 binary_alone binary.GetTag binary.GetTag h = refl
 binary_alone binary.HasTag binary.HasTag h = refl
-binary_alone x y h = absurd (omega arith)
+binary_alone x y h = absurd (differ refl h)
 
 annotations_tie : (s t : Option BareType) → option_eq type_eq s t ≡ eq_by_cmp (option_cmp type_cmp) s t
 annotations_tie None None = refl
@@ -180,8 +186,7 @@ abbrev mutual
   shape (BinaryApp u a b) = branch (key (number 8) (key (of_binary u) (key (shape a) (one (shape b)))))
   shape (ExtensionFunctionApp n es) = branch (key (number 9) (key (of_name n) (key (number (row_count es)) (shapes es))))
   shape (GetAttr a k) = branch (key (number 10) (key (of_text k) (one (shape a))))
-  shape (HasAttr a k) = branch (key (number 11) (key (of_text k) (one (shape a))))
-  shape (ExtHasAttr a k ks) = branch (key (number 12) (key (of_list (k ∷ ks)) (one (shape a))))
+  shape (HasAttr a k ks) = branch (key (number (has_number ks)) (key (of_list (k ∷ ks)) (one (shape a))))
   shape (Like a p) = branch (key (number 13) (key (of_pattern p) (one (shape a))))
   shape (Set es) = branch (key (number 14) (key (number (row_count es)) (shapes es)))
   shape (Record fs) = branch (key (number 15) (key (number (field_count fs)) (field_shapes fs)))
@@ -204,8 +209,17 @@ alike_three f {r = r} {s = s} {t = t} p q w h =
     let g = then_equal s t e.1 in
     cc (p e.0, q g.0, w g.1)
 
-has_many_exact : {a a' : BareExpr} {k k' : Text} {ks ks' : List Text} {r s : Ordering} → (r ≡ Equal → k ∷ ks ≡ k' ∷ ks') → (s ≡ Equal → a ≡ a') → (r or_else s) ≡ Equal → ExtHasAttr a k ks ≡ ExtHasAttr a' k' ks'
-has_many_exact {r = r} {s = s} p q h = let e = then_equal r s h in cc (p e.0, q e.1)
+has_exact : {a a' : BareExpr} {k k' : Text} {ks ks' : List Text} {r s : Ordering} → (r ≡ Equal → k ∷ ks ≡ k' ∷ ks') → (s ≡ Equal → a ≡ a') → (r or_else s) ≡ Equal → HasAttr a k ks ≡ HasAttr a' k' ks'
+has_exact {r = r} {s = s} p q h = let e = then_equal r s h in cc (p e.0, q e.1)
+
+-- `Less` and `Greater` are not `Equal`
+abbrev IsEqual : Ordering → Type 0
+IsEqual Less = ⊥
+IsEqual Equal = ⊤
+IsEqual Greater = ⊥
+
+unequal : {r : Ordering} → r ≡ Equal → IsEqual r
+unequal h = subst IsEqual (sym h) tt
 
 -- past a count
 behind : {G : Type 0} {s : Ordering} (r : Ordering) → (s ≡ Equal → G) → (r or_else s) ≡ Equal → G
@@ -224,12 +238,15 @@ mutual
   by_key (BinaryApp u a b) (BinaryApp u' a' b') = simp (then_last, by_key a a', by_key b b')
   by_key (ExtensionFunctionApp n es) (ExtensionFunctionApp n' es') = simp (by_keys es es')
   by_key (GetAttr a k) (GetAttr a' k') = simp (then_last, by_key a a')
-  by_key (HasAttr a k) (HasAttr a' k') = simp (then_last, by_key a a')
-  by_key (ExtHasAttr a k ks) (ExtHasAttr a' k' ks') = simp (then_last, by_key a a')
+  by_key (HasAttr a k ks) (HasAttr a' k' ks') = simp (then_last, by_key a a')
   by_key (Like a p) (Like a' p') = simp (then_last, by_key a a')
   by_key (Set es) (Set es') = simp (by_keys es es')
   by_key (Record fs) (Record fs') = simp (by_field_keys fs fs')
   by_key (Is a n) (Is a' n') = simp (then_last, by_key a a')
+  by_key (HasAttr a k []) b = refl
+  by_key (HasAttr a k (l ∷ ls)) b = refl
+  by_key a (HasAttr a' k' []) = refl
+  by_key a (HasAttr a' k' (l' ∷ ls')) = refl
   by_key a b = refl
 
   by_keys : (es es' : BareExprs) → row_cmp es es' ≡ keys_cmp parts (shapes es) (shapes es')
@@ -257,13 +274,16 @@ mutual
   exact (BinaryApp u a b) (BinaryApp u' a' b') h = alike_three BinaryApp (binary_ops.exact u u') (exact a a') (exact b b') h
   exact (ExtensionFunctionApp n es) (ExtensionFunctionApp n' es') h = alike_two ExtensionFunctionApp (names.exact n n') (behind _ (all_exact es es')) h
   exact (GetAttr a k) (GetAttr a' k') h = alike_two (λ x y. GetAttr y x) (texts.exact k k') (exact a a') h
-  exact (HasAttr a k) (HasAttr a' k') h = alike_two (λ x y. HasAttr y x) (texts.exact k k') (exact a a') h
-  exact (ExtHasAttr a k ks) (ExtHasAttr a' k' ks') h = has_many_exact (paths.exact (k ∷ ks) (k' ∷ ks')) (exact a a') h
+  exact (HasAttr a k ks) (HasAttr a' k' ks') h = behind _ (has_exact (paths.exact (k ∷ ks) (k' ∷ ks')) (exact a a')) h
   exact (Like a p) (Like a' p') h = alike_two (λ x y. Like y x) (patterns.exact p p') (exact a a') h
   exact (Set es) (Set es') h = behind _ (λ k. ap Set (all_exact es es' k)) h
   exact (Record fs) (Record fs') h = behind _ (λ k. ap Record (fields_exact fs fs' k)) h
   exact (Is a n) (Is a' n') h = alike_two (λ x y. Is y x) (names.exact n n') (exact a a') h
-  exact a b h = cc
+  exact (HasAttr a k []) b h = absurd (unequal h)
+  exact (HasAttr a k (l ∷ ls)) b h = absurd (unequal h)
+  exact a (HasAttr a' k' []) h = absurd (unequal h)
+  exact a (HasAttr a' k' (l' ∷ ls')) h = absurd (unequal h)
+  exact a b h = absurd (unequal h)
 
   all_exact : (es es' : BareExprs) → row_cmp es es' ≡ Equal → es ≡ es'
   all_exact no_trees no_trees h = refl

@@ -1,5 +1,5 @@
 -- The order of trees by their shape (`cmp_shape` and `variant_order` of Cedar's `expr.rs`).
-use Rattle.std.specs.Prelude.{ℕ, ◌∷◌, length}
+use Rattle.std.specs.Prelude.{ℕ, List, [], ◌∷◌, length}
 use Rattle.std.specs.Cmp.Lexicographic.{slice_cmp}
 use Rattle.std.specs.Option.{option_cmp}
 use Rattle.std.specs.Ordering.{nat_cmp, ordering_then}
@@ -12,28 +12,37 @@ use Rattle.cedar_terms.specs.LiteralOrder.{literal_cmp}
 use Rattle.cedar_terms.specs.Ops.{var_number, unary_op_number, binary_op_number}
 use Rattle.cedar_terms.specs.PatternOrder.{pattern_cmp}
 use Rattle.cedar_terms.specs.TypeOrder.{type_cmp}
-use Rattle.cedar_builders.specs.BareExpr.{BareExpr, Lit, Var, Slot, Unknown, If, And, Or, UnaryApp, BinaryApp, ExtensionFunctionApp, GetAttr, HasAttr, ExtHasAttr, Like, Set, Record, Is, BareExprs, no_trees, tree, BareFields, no_fields, field}
+use Rattle.cedar_builders.specs.BareExpr.{Text, BareExpr, Lit, Var, Slot, Unknown, If, And, Or, UnaryApp, BinaryApp, ExtensionFunctionApp, GetAttr, HasAttr, Like, Set, Record, Is, BareExprs, no_trees, tree, BareFields, no_fields, field}
 use Rattle.cedar_builders.specs.Walks.{members_of, values_of}
 
--- the kinds in their order
+-- the kinds in their order, in which a test for more than one attribute has 12
+abbrev pub kind_index : BareExpr → ℕ
+kind_index (Lit l) = 0
+kind_index (Var v) = 1
+kind_index (Slot s) = 2
+kind_index (Unknown n t) = 3
+kind_index (If a b c) = 4
+kind_index (And a b) = 5
+kind_index (Or a b) = 6
+kind_index (UnaryApp o a) = 7
+kind_index (BinaryApp o a b) = 8
+kind_index (ExtensionFunctionApp n es) = 9
+kind_index (GetAttr a k) = 10
+kind_index (HasAttr a k ks) = 11
+kind_index (Like a p) = 13
+kind_index (Set es) = 14
+kind_index (Record fs) = 15
+kind_index (Is a n) = 16
+
+-- the number of a test for attributes, by those behind the first
+abbrev pub has_number : List Text → ℕ
+has_number [] = 11
+has_number (k ∷ ks) = 12
+
+-- the number that a tree compares by first
 abbrev pub kind_number : BareExpr → ℕ
-kind_number (Lit l) = 0
-kind_number (Var v) = 1
-kind_number (Slot s) = 2
-kind_number (Unknown n t) = 3
-kind_number (If a b c) = 4
-kind_number (And a b) = 5
-kind_number (Or a b) = 6
-kind_number (UnaryApp o a) = 7
-kind_number (BinaryApp o a b) = 8
-kind_number (ExtensionFunctionApp n es) = 9
-kind_number (GetAttr a k) = 10
-kind_number (HasAttr a k) = 11
-kind_number (ExtHasAttr a k ks) = 12
-kind_number (Like a p) = 13
-kind_number (Set es) = 14
-kind_number (Record fs) = 15
-kind_number (Is a n) = 16
+kind_number (HasAttr a k ks) = has_number ks
+kind_number e = kind_index e
 
 -- the slots in their order
 abbrev pub slot_number : SlotId → ℕ
@@ -66,8 +75,7 @@ abbrev mutual
   shape_cmp (BinaryApp o a b) (BinaryApp o' a' b') = nat_cmp (binary_op_number o) (binary_op_number o') or_else shape_cmp a a' or_else shape_cmp b b'
   shape_cmp (ExtensionFunctionApp n es) (ExtensionFunctionApp n' es') = name_cmp n n' or_else nat_cmp (row_count es) (row_count es') or_else row_cmp es es'
   shape_cmp (GetAttr a k) (GetAttr a' k') = slice_cmp nat_cmp k k' or_else shape_cmp a a'
-  shape_cmp (HasAttr a k) (HasAttr a' k') = slice_cmp nat_cmp k k' or_else shape_cmp a a'
-  shape_cmp (ExtHasAttr a k ks) (ExtHasAttr a' k' ks') = slice_cmp (slice_cmp nat_cmp) (k ∷ ks) (k' ∷ ks') or_else shape_cmp a a'
+  shape_cmp (HasAttr a k ks) (HasAttr a' k' ks') = nat_cmp (has_number ks) (has_number ks') or_else slice_cmp (slice_cmp nat_cmp) (k ∷ ks) (k' ∷ ks') or_else shape_cmp a a'
   shape_cmp (Like a p) (Like a' p') = pattern_cmp p p' or_else shape_cmp a a'
   shape_cmp (Set es) (Set es') = nat_cmp (row_count es) (row_count es') or_else row_cmp es es'
   shape_cmp (Record fs) (Record fs') = nat_cmp (field_count fs) (field_count fs') or_else fields_cmp fs fs'

@@ -1,8 +1,8 @@
 -- The builder of trees (the struct `ExprBuilder` of Cedar's `expr.rs`): its meanings are bare trees, and it never fails.
-use Rattle.std.specs.Prelude.{Bool, ◌&&◌, ◌||◌, List, [], ◌∷◌, Option, Some, None, Result, Ok, Err}
+use Rattle.std.specs.Prelude.{Bool, ◌&&◌, ◌||◌, Option, Some, None, Result, Ok, Err}
 use Rattle.cedar_terms.specs.Literals.{BareLiteral, BoolLit}
 use Rattle.cedar_terms.specs.Types.{BareType}
-use Rattle.cedar_builders.specs.BareExpr.{Text, BareExpr, Lit, Var, Slot, Unknown, If, And, Or, UnaryApp, BinaryApp, ExtensionFunctionApp, GetAttr, HasAttr, ExtHasAttr, Like, Set, Record, Is, BareExprs, no_trees, tree, trees_of, BareFields, no_fields, field, fields_of}
+use Rattle.cedar_builders.specs.BareExpr.{BareExpr, Lit, Var, Slot, Unknown, If, And, Or, UnaryApp, BinaryApp, ExtensionFunctionApp, GetAttr, HasAttr, Like, Set, Record, Is, BareExprs, no_trees, tree, trees_of, BareFields, no_fields, field, fields_of}
 use Rattle.cedar_builders.specs.Ops.{Ops}
 use Rattle.cedar_builders.specs.Environment.{Env, empty, fold}
 
@@ -30,14 +30,9 @@ and_made a b = folded ◌&&◌ (bool_of a) (bool_of b) (And a b)
 abbrev pub or_made : BareExpr → BareExpr → BareExpr
 or_made a b = folded ◌||◌ (bool_of a) (bool_of b) (Or a b)
 
--- a test for a path of attributes, which is the plain test where the path has one
-abbrev pub ext_has_made : BareExpr → Text → List Text → BareExpr
-ext_has_made a k [] = HasAttr a k
-ext_has_made a k (l ∷ ls) = ExtHasAttr a k (l ∷ ls)
-
--- each kind makes its node, but for these three
-abbrev pub tree_ops : Ops BareExpr ⊥
-tree_ops = record {
+-- each kind makes its node, but for these two, whatever the errors
+abbrev pub tree_ops_with : (F : Type 0) → Ops BareExpr F
+tree_ops_with F = record {
   lit_of = Lit;
   var_of = Var;
   slot_of = Slot;
@@ -50,12 +45,15 @@ tree_ops = record {
   call_of = λ n es. Ok (ExtensionFunctionApp n (trees_of es));
   get_of = GetAttr;
   has_of = HasAttr;
-  ext_has_of = ext_has_made;
   like_of = Like;
   set_of = λ es. Set (trees_of es);
   record_of = λ ps. Record (fields_of ps);
   is_of = Is;
 }
+
+-- the builder of trees never fails
+abbrev pub tree_ops : Ops BareExpr ⊥
+tree_ops = tree_ops_with ⊥
 
 -- what never fails
 abbrev pub sure : {A : Type 0} → Result A ⊥ → A
@@ -81,8 +79,7 @@ abbrev mutual
   substituted env (BinaryApp o a b) = BinaryApp o (substituted env a) (substituted env b)
   substituted env (ExtensionFunctionApp n es) = ExtensionFunctionApp n (all_substituted env es)
   substituted env (GetAttr a k) = GetAttr (substituted env a) k
-  substituted env (HasAttr a k) = HasAttr (substituted env a) k
-  substituted env (ExtHasAttr a k ks) = ext_has_made (substituted env a) k ks
+  substituted env (HasAttr a k ks) = HasAttr (substituted env a) k ks
   substituted env (Like a p) = Like (substituted env a) p
   substituted env (Set es) = Set (all_substituted env es)
   substituted env (Record fs) = Record (fields_substituted env fs)

@@ -3,7 +3,7 @@ use Rattle.std.specs.Prelude.{◌≡◌, if◌then◌else◌, Option, Some, None
 use Rattle.std.specs.Option.{option_or}
 use Rattle.cedar_terms.specs.Types.{BareType}
 use Rattle.cedar_terms.specs.TypeOrder.{type_eq}
-use Rattle.cedar_builders.specs.BareExpr.{BareExpr, Lit, Var, Slot, Unknown, If, And, Or, UnaryApp, BinaryApp, ExtensionFunctionApp, GetAttr, HasAttr, ExtHasAttr, Like, Set, Record, Is, BareExprs, no_trees, tree, BareFields, no_fields, field}
+use Rattle.cedar_builders.specs.BareExpr.{BareExpr, Lit, Var, Slot, Unknown, If, And, Or, UnaryApp, BinaryApp, ExtensionFunctionApp, GetAttr, HasAttr, Like, Set, Record, Is, BareExprs, no_trees, tree, BareFields, no_fields, field}
 use Rattle.cedar_builders.specs.Environment.{Env}
 use Rattle.cedar_builders.specs.Walks.{preorder, first_of}
 
@@ -53,8 +53,7 @@ module _ (refuse : Refusals) (env : Env) where
     first_refusal (BinaryApp o a b) = option_or (first_refusal a) (first_refusal b)
     first_refusal (ExtensionFunctionApp n es) = first_refusal_of_all es
     first_refusal (GetAttr a k) = first_refusal a
-    first_refusal (HasAttr a k) = first_refusal a
-    first_refusal (ExtHasAttr a k ks) = first_refusal a
+    first_refusal (HasAttr a k ks) = first_refusal a
     first_refusal (Like a p) = first_refusal a
     first_refusal (Set es) = first_refusal_of_all es
     first_refusal (Record fs) = first_refusal_of_fields fs

@@ -1,6 +1,6 @@
 -- Walks over trees: the children of a tree in the order in which they are built (`ExprKind` of Cedar's `expr.rs`), its positions in two orders, and the
 -- entries that a walk's stack needs (`expr_iterator.rs`).
-use Rattle.std.specs.Prelude.{◌≡◌, refl, map, ℕ, ◌+◌, max, List, [], ◌∷◌, ◌++◌, Option, Some, None}
+use Rattle.std.specs.Prelude.{◌≡◌, refl, map, ℕ, ◌+◌, max, List, [], ◌∷◌, ◌++◌, Option, None}
 use Rattle.std.specs.Option.{option_or}
 use Rattle.std.proofs.Common.{ap}
 use Rattle.cedar_builders.specs.BareExpr.{
@@ -17,7 +17,6 @@ use Rattle.cedar_builders.specs.BareExpr.{
   ExtensionFunctionApp,
   GetAttr,
   HasAttr,
-  ExtHasAttr,
   Like,
   Set,
   Record,
@@ -53,8 +52,7 @@ children (UnaryApp o a) = a ∷ []
 children (BinaryApp o a b) = a ∷ b ∷ []
 children (ExtensionFunctionApp n es) = members_of es
 children (GetAttr a k) = a ∷ []
-children (HasAttr a k) = a ∷ []
-children (ExtHasAttr a k ks) = a ∷ []
+children (HasAttr a k ks) = a ∷ []
 children (Like a p) = a ∷ []
 children (Set es) = members_of es
 children (Record fs) = values_of fs
@@ -75,8 +73,7 @@ module _ {A : Type 0} (step : BareExpr → List A → A) where
     walk (BinaryApp o a b) = step (BinaryApp o a b) (walk a ∷ walk b ∷ [])
     walk (ExtensionFunctionApp n es) = step (ExtensionFunctionApp n es) (walk_all es)
     walk (GetAttr a k) = step (GetAttr a k) (walk a ∷ [])
-    walk (HasAttr a k) = step (HasAttr a k) (walk a ∷ [])
-    walk (ExtHasAttr a k ks) = step (ExtHasAttr a k ks) (walk a ∷ [])
+    walk (HasAttr a k ks) = step (HasAttr a k ks) (walk a ∷ [])
     walk (Like a p) = step (Like a p) (walk a ∷ [])
     walk (Set es) = step (Set es) (walk_all es)
     walk (Record fs) = step (Record fs) (walk_fields fs)

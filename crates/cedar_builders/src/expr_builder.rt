@@ -1,5 +1,5 @@
 //! Builders of expressions (Cedar's `expr_builder.rs`).
-ghost use Rattle.std.specs.Prelude.{◌≡◌, None, Option, IfOk, IfErr, map};
+ghost use Rattle.std.specs.Prelude.{◌≡◌, ⊤, [], None, Option, IfOk, IfErr, map};
 ghost use Rattle.std.specs.Option.{option_copied};
 ghost use Rattle.std.specs.Rc.{rc_str_bytes};
 ghost use Rattle.cedar_names.specs.Place.{Place};
@@ -94,17 +94,17 @@ pub trait ExprBuilder: Sized + Drop {
     ghost fault_of: { Self.BuildError → Fault };
 
     // The builder was made by `new`, whatever place was set since.
-    ghost is_new: { Self → Type 0 };
+    ghost is_new: { Self → Type 0 } = { λ _. ⊤ };
 
     // The place that is given to what is made, and what is kept of a place that is set.
-    ghost place_of: { Self → Option Place };
+    ghost place_of: { Self → Option Place } = { λ _. None };
 
-    ghost kept_place: { Option Place → Option Place };
+    ghost kept_place: { Option Place → Option Place } = { λ _. None };
 
     // What `unary_app` and `binary_app` make, as far as the builder says more than the meaning.
-    ghost makes_unary: { Self → UnaryOp → Self.Expr → Self.Expr → Type 0 };
+    ghost makes_unary: { Self → UnaryOp → Self.Expr → Self.Expr → Type 0 } = { λ _ _ _ _. ⊤ };
 
-    ghost makes_binary: { Self → BinaryOp → Self.Expr → Self.Expr → Self.Expr → Type 0 };
+    ghost makes_binary: { Self → BinaryOp → Self.Expr → Self.Expr → Self.Expr → Type 0 } = { λ _ _ _ _ _. ⊤ };
 
     /// A builder with no place and the data that a node has by default.
     fn new() -> Self
@@ -224,16 +224,6 @@ pub trait ExprBuilder: Sized + Drop {
         ensures { is_new self
             → Means meaning_of (ops.get_of (meaning_of expr) (rc_str_bytes attr)) result };
 
-    /// `expr has attr`: whether an entity or a record has the attribute.
-    fn has_attr(
-        self,
-        alloc: Global,
-        expr: Self::Expr,
-        attr: RcStr,
-    ) -> Result<Self::Expr, AllocError>
-        ensures { is_new self
-            → Means meaning_of (ops.has_of (meaning_of expr) (rc_str_bytes attr)) result };
-
     /// `expr has a.b.c`: whether each attribute is there in turn.
     fn extended_has_attr(
         self,
@@ -243,7 +233,7 @@ pub trait ExprBuilder: Sized + Drop {
     ) -> Result<Self::Expr, AllocError>
         ensures { is_new self
             → Means meaning_of
-            (ops.ext_has_of (meaning_of expr) (rc_str_bytes attrs.head)
+            (ops.has_of (meaning_of expr) (rc_str_bytes attrs.head)
             (map rc_str_bytes attrs.tail.items))
             result };
 
@@ -284,6 +274,19 @@ pub trait ExprBuilder: Sized + Drop {
             → Means meaning_of (ops.record_of (meant_pairs meaning_of pairs.items)) result }
         ensures accepts { IsRising (keys_of pairs.items) → IfErr result (λ e. e ≡ error.Memory) }
         ensures refuses { IfErr result (OnDuplicateKey (λ _. HasRepeat (keys_of pairs.items))) };
+
+    /// `expr has attr`: whether an entity or a record has the attribute.
+    fn has_attr(
+        self,
+        alloc: Global,
+        expr: Self::Expr,
+        attr: RcStr,
+    ) -> Result<Self::Expr, AllocError>
+        ensures { is_new self
+            → Means meaning_of (ops.has_of (meaning_of expr) (rc_str_bytes attr) []) result }
+    {
+        self.extended_has_attr(alloc, expr, NonEmpty::new(attr, Vec::new(alloc)))
+    }
 
     /// `!arg`.
     fn not(self, alloc: Global, arg: Self::Expr) -> Result<Self::Expr, AllocError>
@@ -563,9 +566,8 @@ pub trait ExprBuilder: Sized + Drop {
 pub trait ExprBuilderInfallibleBuild: ExprBuilder<BuildError = Infallible> {}
 
 /// A builder that keeps the simplifications of Cedar's own builder: `and` and `or` of two Boolean
-/// literals mean the literal of the result, and `extended_has_attr` of one attribute means what
-/// `has_attr` does.
+/// literals mean the literal of the result.
 pub trait LawfulExprBuilder: ExprBuilder {
-    // The laws of `and`, `or` and `extended_has_attr`.
+    // The laws of `and` and `or`.
     ghost lawful: { Lawful Self.ops };
 }

@@ -30,7 +30,6 @@ kinds C Q Q' (KindOf.BinaryApp _ _ _) (KindOf.BinaryApp _ _ _) = refl
 kinds C Q Q' (KindOf.ExtensionFunctionApp _ _) (KindOf.ExtensionFunctionApp _ _) = refl
 kinds C Q Q' (KindOf.GetAttr _ _) (KindOf.GetAttr _ _) = refl
 kinds C Q Q' (KindOf.HasAttr _ _) (KindOf.HasAttr _ _) = refl
-kinds C Q Q' (KindOf.ExtHasAttr _ _) (KindOf.ExtHasAttr _ _) = refl
 kinds C Q Q' (KindOf.Like _ _) (KindOf.Like _ _) = refl
 kinds C Q Q' (KindOf.Set _) (KindOf.Set _) = refl
 kinds C Q Q' (KindOf.Record _) (KindOf.Record _) = refl

@@ -13,7 +13,7 @@ use Rattle.cedar_terms.specs.Literals.{bare_literal}
 use Rattle.cedar_terms.specs.PatternOrder.{pattern_eq, pattern_eq_decides}
 use Rattle.cedar_terms.specs.Unknowns.{bare_unknown, unknown_eq}
 use Rattle.cedar_builders.specs.BareExpr.{BareExpr}
-use Rattle.cedar_builders.specs.Shapes.{kind_number}
+use Rattle.cedar_builders.specs.Shapes.{kind_index}
 use Rattle.cedar_exprs.specs.ExprData.{DataTree, holds, SameData, SameDatas, data_tree_step, kind_data, data_tree, data_trees, values_data}
 use Rattle.cedar_exprs.specs.BareExpr.{ExprKind, node_step, map_kind, bare_expr_kind, bare_expr, bare_exprs, bare_fields, kind_of, data_of}
 use Rattle.cedar_exprs.specs.declared.expr.Expr.{Expr, Expr-F, roll-Expr, out-roll-Expr, fold-roll-Expr, fold_out-Expr, ind-Expr}
@@ -37,8 +37,7 @@ layer_eq V (KindOf.UnaryApp o a) (KindOf.UnaryApp o' a') = same_unary o o' && V 
 layer_eq V (KindOf.BinaryApp o a b) (KindOf.BinaryApp o' a' b') = same_binary o o' && (V a.value a'.value && V b.value b'.value)
 layer_eq V (KindOf.ExtensionFunctionApp n es) (KindOf.ExtensionFunctionApp n' es') = name_eq (bare_name n) (bare_name n') && pointwise V es.value.items es'.value.items
 layer_eq V (KindOf.GetAttr a k) (KindOf.GetAttr a' k') = V a.value a'.value && same_text k k'
-layer_eq V (KindOf.HasAttr a k) (KindOf.HasAttr a' k') = V a.value a'.value && same_text k k'
-layer_eq V (KindOf.ExtHasAttr a ks) (KindOf.ExtHasAttr a' ks') = V a.value a'.value && pointwise same_text (list_of ks) (list_of ks')
+layer_eq V (KindOf.HasAttr a ks) (KindOf.HasAttr a' ks') = V a.value a'.value && pointwise same_text (list_of ks) (list_of ks')
 layer_eq V (KindOf.Like a p) (KindOf.Like a' p') = V a.value a'.value && pattern_eq p p'
 layer_eq V (KindOf.Set es) (KindOf.Set es') = pointwise V es.value.items es'.value.items
 layer_eq V (KindOf.Record es) (KindOf.Record es') = pointwise (same_pair V) es.value.entries es'.value.entries
@@ -106,9 +105,7 @@ module _ {T : Type 0} (E : T → T → Bool) where
         exactly _ (both _ _ (name_eq_decides (bare_name n) (bare_name n')) (members es.value.items es'.value.items)) (λ h. (cc (h.0, h.1.0), h.1.1)) (λ h. (cc (h.0), (cc (h.0), h.1)))
     layer (KindOf.GetAttr a k) (KindOf.GetAttr a' k') =
         exactly _ (both _ _ (a.value.1 a'.value) (texts_decide k k')) (λ h. (cc (h.0.0, h.1), (h.0.1, tt))) (λ h. ((cc (h.0), h.1.0), cc (h.0)))
-    layer (KindOf.HasAttr a k) (KindOf.HasAttr a' k') =
-        exactly _ (both _ _ (a.value.1 a'.value) (texts_decide k k')) (λ h. (cc (h.0.0, h.1), (h.0.1, tt))) (λ h. ((cc (h.0), h.1.0), cc (h.0)))
-    layer (KindOf.ExtHasAttr a ks) (KindOf.ExtHasAttr a' ks') =
+    layer (KindOf.HasAttr a ks) (KindOf.HasAttr a' ks') =
         exactly _ (both _ _ (a.value.1 a'.value) (paths_decide ks ks')) (λ h. (cc (h.0.0, h.1.0, h.1.1), (h.0.1, tt))) (λ h. ((cc (h.0), h.1.0), (cc (h.0), cc (h.0))))
     layer (KindOf.Like a p) (KindOf.Like a' p') =
         exactly _ (both _ _ (a.value.1 a'.value) (pattern_eq_decides p p')) (λ h. (cc (h.0.0, h.1), (h.0.1, tt))) (λ h. ((cc (h.0), h.1.0), cc (h.0)))
@@ -118,7 +115,7 @@ module _ {T : Type 0} (E : T → T → Bool) where
         exactly _ (pairs es.value.entries es'.value.entries) (λ h. (cc (h.0), h.1)) (λ h. (cc (h.0), h.1))
     layer (KindOf.Is a n) (KindOf.Is a' n') =
         exactly _ (both _ _ (a.value.1 a'.value) (name_eq_decides (bare_entity_type n) (bare_entity_type n'))) (λ h. (cc (h.0.0, h.1), (h.0.1, tt))) (λ h. ((cc (h.0), h.1.0), cc (h.0)))
-    layer a b = never (λ h. differ kind_number (bare_expr_kind (map_kind (λ (m : Member). m.0) a)) (bare_expr_kind b) refl h.0)
+    layer a b = never (λ h. differ kind_index (bare_expr_kind (map_kind (λ (m : Member). m.0) a)) (bare_expr_kind b) refl h.0)
 
     at_exprs : {x y : Bool} {a b c d : BareExpr} {p q r s : DataTree T} → x ≡ y → a ≡ c → b ≡ d → p ≡ r → q ≡ s → Decides y (Same c d r s) → Decides x (Same a b p q)
     at_exprs e f g h k l = subst (λ x. x) (λ i. Decides (sym e i) ((sym f i ≡ sym g i) × SameData E (sym h i) (sym k i))) l

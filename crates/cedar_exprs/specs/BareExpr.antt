@@ -9,7 +9,7 @@ use Rattle.cedar_names.specs.declared.non_empty.NonEmpty.{NonEmpty}
 use Rattle.cedar_terms.specs.Entities.{bare_entity_type}
 use Rattle.cedar_terms.specs.Literals.{bare_literal}
 use Rattle.cedar_terms.specs.Unknowns.{BareUnknown, bare_unknown}
-use Rattle.cedar_builders.specs.BareExpr.{Text, BareExpr, Lit, Var, Slot, Unknown, If, And, Or, UnaryApp, BinaryApp, ExtensionFunctionApp, GetAttr, HasAttr, ExtHasAttr, Like, Set, Record, Is, BareExprs, trees_of, BareFields, no_fields, field}
+use Rattle.cedar_builders.specs.BareExpr.{Text, BareExpr, Lit, Var, Slot, Unknown, If, And, Or, UnaryApp, BinaryApp, ExtensionFunctionApp, GetAttr, HasAttr, Like, Set, Record, Is, BareExprs, trees_of, BareFields, no_fields, field}
 use Rattle.cedar_exprs.specs.declared.expr.Expr.{Expr, Expr-F, fold-Expr, out-Expr}
 use Rattle.cedar_exprs.specs.declared.expr.Expr.TheShapes.{former-Expr-expr_kind}
 use Rattle.cedar_exprs.specs.declared.expr.KindOf.{KindOf}
@@ -44,8 +44,7 @@ bare_step (KindOf.UnaryApp o a) = UnaryApp o a.value
 bare_step (KindOf.BinaryApp o a b) = BinaryApp o a.value b.value
 bare_step (KindOf.ExtensionFunctionApp n es) = ExtensionFunctionApp (bare_name n) (trees_of es.value.items)
 bare_step (KindOf.GetAttr a k) = GetAttr a.value (rc_str_bytes k)
-bare_step (KindOf.HasAttr a k) = HasAttr a.value (rc_str_bytes k)
-bare_step (KindOf.ExtHasAttr a ks) = ExtHasAttr a.value (rc_str_bytes ks.head) (further ks)
+bare_step (KindOf.HasAttr a ks) = HasAttr a.value (rc_str_bytes ks.head) (further ks)
 bare_step (KindOf.Like a p) = Like a.value p
 bare_step (KindOf.Set es) = Set (trees_of es.value.items)
 bare_step (KindOf.Record es) = Record (fields_at es.value.entries)

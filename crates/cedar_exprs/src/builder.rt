@@ -33,8 +33,8 @@ use std::rc::{Rc, RcStr};
 
 /// Makes expressions, each with the builder's place and data on its outermost node.
 ///
-/// `and` and `or` of two Boolean literals make the literal of the result, and `extended_has_attr`
-/// of one attribute makes what `has_attr` does; every other call makes its node.
+/// `and` and `or` of two Boolean literals make the literal of the result; every other call makes
+/// its node.
 ///
 /// As the type argument of `into_expr` and its like it stands in a function that is generic in `T`:
 /// see there.
@@ -336,17 +336,6 @@ impl<T: Default + Copy> expr_builder::ExprBuilder for ExprBuilder<T> {
         }))
     }
 
-    fn has_attr(self, alloc: Global, expr: Expr<T>, attr: RcStr) -> Result<Expr<T>, AllocError>
-        ensures { IfOk result
-            (IsMadeBy self (tree_ops.has_of (bare_expr expr) (rc_str_bytes attr))
-            (one_child expr)) }
-    {
-        Ok(self.with_expr_kind(ExprKind::HasAttr {
-            expr: Rc::new(alloc, expr)?,
-            attr,
-        }))
-    }
-
     fn extended_has_attr(
         self,
         alloc: Global,
@@ -355,16 +344,21 @@ impl<T: Default + Copy> expr_builder::ExprBuilder for ExprBuilder<T> {
     ) -> Result<Expr<T>, AllocError>
         ensures { IfOk result
             (IsMadeBy self
-            (tree_ops.ext_has_of (bare_expr expr) (rc_str_bytes attrs.head) (further attrs))
+            (tree_ops.has_of (bare_expr expr) (rc_str_bytes attrs.head) (further attrs))
             (one_child expr)) }
     {
-        if attrs.tail.is_empty() {
-            return self.has_attr(alloc, expr, attrs.head);
-        }
-        Ok(self.with_expr_kind(ExprKind::ExtHasAttr {
+        Ok(self.with_expr_kind(ExprKind::HasAttr {
             expr: Rc::new(alloc, expr)?,
             attrs,
         }))
+    }
+
+    fn has_attr(self, alloc: Global, expr: Expr<T>, attr: RcStr) -> Result<Expr<T>, AllocError>
+        ensures { IfOk result
+            (IsMadeBy self (tree_ops.has_of (bare_expr expr) (rc_str_bytes attr) [])
+            (one_child expr)) }
+    {
+        self.extended_has_attr(alloc, expr, NonEmpty::new(attr, Vec::new(alloc)))
     }
 
     fn like(self, alloc: Global, expr: Expr<T>, pattern: Pattern) -> Result<Expr<T>, AllocError>
@@ -428,5 +422,5 @@ impl<T: Default + Copy> expr_builder::ExprBuilder for ExprBuilder<T> {
 impl<T: Default + Copy> ExprBuilderInfallibleBuild for ExprBuilder<T> {}
 
 impl<T: Default + Copy> LawfulExprBuilder for ExprBuilder<T> {
-    ghost lawful = { record { and_of_literals = λ a b. refl; or_of_literals = λ a b. refl; ext_has_of_one = λ m k. refl } };
+    ghost lawful = { record { and_of_literals = λ a b. refl; or_of_literals = λ a b. refl } };
 }

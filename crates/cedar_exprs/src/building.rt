@@ -129,10 +129,7 @@ impl<T, B: ExprBuilder> Walk<T> for Building<B> {
                 build_call(alloc, builder, fn_name, args.len(), done)
             }
             ExprKind::GetAttr { attr, .. } => Ok(build_get(alloc, builder, attr, done)?),
-            ExprKind::HasAttr { attr, .. } => Ok(build_has(alloc, builder, attr, done)?),
-            ExprKind::ExtHasAttr { attrs, .. } => {
-                Ok(build_extended_has(alloc, builder, attrs, done)?)
-            }
+            ExprKind::HasAttr { attrs, .. } => Ok(build_has(alloc, builder, attrs, done)?),
             ExprKind::Like { pattern, .. } => Ok(build_like(alloc, builder, pattern, done)?),
             ExprKind::Set(members) => Ok(build_set(alloc, builder, members.len(), done)?),
             ExprKind::Record(pairs) => Ok(build_record(alloc, builder, pairs, done)?),
@@ -294,22 +291,6 @@ fn build_get<B: ExprBuilder>(
 fn build_has<B: ExprBuilder>(
     alloc: Global,
     builder: B,
-    attr: &RcStr,
-    done: &mut Vec<B::Expr>,
-) -> Result<B::Expr, AllocError>
-    requires new { B.is_new builder }
-    requires room { 1 ≤ vec_len done.old }
-    ensures { IfOk result
-        (IsMadeOfLast {F = B.Fault} B.meaning_of 1 (OfOne (λ m. B.ops.has_of m (rc_str_bytes attr.now)))
-        done.old.items done.new.items) }
-{
-    builder.has_attr(alloc, done.take_last(), attr.clone()?)
-}
-
-#[inline(never)]
-fn build_extended_has<B: ExprBuilder>(
-    alloc: Global,
-    builder: B,
     attrs: &NonEmpty<RcStr>,
     done: &mut Vec<B::Expr>,
 ) -> Result<B::Expr, AllocError>
@@ -317,7 +298,7 @@ fn build_extended_has<B: ExprBuilder>(
     requires room { 1 ≤ vec_len done.old }
     ensures { IfOk result
         (IsMadeOfLast {F = B.Fault} B.meaning_of 1
-        (OfOne (λ m. B.ops.ext_has_of m (rc_str_bytes attrs.now.head) (further attrs.now)))
+        (OfOne (λ m. B.ops.has_of m (rc_str_bytes attrs.now.head) (further attrs.now)))
         done.old.items done.new.items) }
 {
     builder.extended_has_attr(alloc, done.take_last(), attrs.clone(alloc)?)

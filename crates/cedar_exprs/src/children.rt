@@ -54,7 +54,6 @@ impl<'a, T> Children<'a, T> {
             ExprKind::UnaryApp { arg: child, .. }
             | ExprKind::GetAttr { expr: child, .. }
             | ExprKind::HasAttr { expr: child, .. }
-            | ExprKind::ExtHasAttr { expr: child, .. }
             | ExprKind::Like { expr: child, .. }
             | ExprKind::Is { expr: child, .. } => Children::few(Some(child), None, None),
             ExprKind::ExtensionFunctionApp { args: row, .. } | ExprKind::Set(row) => {

@@ -148,13 +148,12 @@ impl Expr<()> {
 
     /// `expr has attr`: whether an entity has the attribute, or a record the field.
     pub fn has_attr(alloc: Global, expr: Expr<()>, attr: RcStr) -> Result<Expr<()>, AllocError>
-        ensures { IfOk result (IsPlain (tree_ops.has_of (bare_expr expr) (rc_str_bytes attr))) }
+        ensures { IfOk result (IsPlain (tree_ops.has_of (bare_expr expr) (rc_str_bytes attr) [])) }
     {
         ExprBuilder::new().has_attr(alloc, expr, attr)
     }
 
-    /// `expr has a.b.c`: whether each attribute is there in turn. Of one attribute it makes what
-    /// `has_attr` does.
+    /// `expr has a.b.c`: whether each attribute is there in turn.
     pub fn extended_has_attr(
         alloc: Global,
         expr: Expr<()>,
@@ -162,7 +161,7 @@ impl Expr<()> {
     ) -> Result<Expr<()>, AllocError>
         ensures { IfOk result
             (IsPlain
-            (tree_ops.ext_has_of (bare_expr expr) (rc_str_bytes attrs.head) (further attrs))) }
+            (tree_ops.has_of (bare_expr expr) (rc_str_bytes attrs.head) (further attrs))) }
     {
         ExprBuilder::new().extended_has_attr(alloc, expr, attrs)
     }

@@ -78,13 +78,9 @@ pub enum KindOf<E> {
         expr: Rc<E>,
         attr: RcStr,
     },
-    /// Whether an entity has an attribute, or a record a field.
+    /// Whether an entity has an attribute, or a record a field; with more than one of them, whether
+    /// the first is there, and in it the second, and so on.
     HasAttr {
-        expr: Rc<E>,
-        attr: RcStr,
-    },
-    /// Whether the first attribute is there, and in it the second, and so on.
-    ExtHasAttr {
         expr: Rc<E>,
         attrs: NonEmpty<RcStr>,
     },
@@ -171,11 +167,7 @@ fn strip<T: Drop>(kind: ExprKind<T>) -> Below<T>
             drop(attr);
             Below::One(expr)
         }
-        ExprKind::HasAttr { expr, attr } => {
-            drop(attr);
-            Below::One(expr)
-        }
-        ExprKind::ExtHasAttr { expr, attrs } => {
+        ExprKind::HasAttr { expr, attrs } => {
             drop(attrs);
             Below::One(expr)
         }
@@ -924,11 +916,7 @@ impl<T: Copy> ExprKind<T> {
                 expr: expr.clone()?,
                 attr: attr.clone()?,
             }),
-            ExprKind::HasAttr { expr, attr } => Ok(ExprKind::HasAttr {
-                expr: expr.clone()?,
-                attr: attr.clone()?,
-            }),
-            ExprKind::ExtHasAttr { expr, attrs } => Ok(ExprKind::ExtHasAttr {
+            ExprKind::HasAttr { expr, attrs } => Ok(ExprKind::HasAttr {
                 expr: expr.clone()?,
                 attrs: attrs.clone(alloc)?,
             }),

@@ -1,11 +1,13 @@
 // The hash of what an expression is, whatever its places and data.
 ghost use Rattle.std.specs.Prelude.{◌≡◌, ◌++◌, fold};
 ghost use Rattle.std.specs.Hash as fed;
-ghost use Rattle.cedar_builders.specs.ShapeFeed.{shape_fed, row_fed, fields_fed};
-ghost use Rattle.cedar_builders.specs.Shapes.{kind_number, row_count, field_count};
-ghost use Rattle.cedar_exprs.specs.BareExpr.{bare_expr, bare_expr_kind, bare_exprs, bare_fields};
+ghost use Rattle.std.specs.Rc.{rc_str_bytes};
+ghost use Rattle.cedar_builders.specs.ShapeFeed.{attributes_fed, shape_fed, row_fed, fields_fed};
+ghost use Rattle.cedar_builders.specs.Shapes.{has_number, kind_number, row_count, field_count};
+ghost use Rattle.cedar_exprs.specs.BareExpr.{bare_expr, bare_expr_kind, bare_exprs, bare_fields, further};
 
 use crate::expr::{Expr, ExprKind};
+use cedar_names::NonEmpty;
 use std::collections::BTreeMap;
 use std::hash::{Hash, Hasher};
 use std::rc::RcStr;
@@ -67,13 +69,9 @@ pub(crate) fn hash_shape<T, H: Hasher>(e: &Expr<T>, state: &mut H)
             hash_shape(expr, state);
             attr.hash(state);
         }
-        ExprKind::HasAttr { expr, attr } => {
+        ExprKind::HasAttr { expr, attrs } => {
             hash_shape(expr, state);
-            attr.hash(state);
-        }
-        ExprKind::ExtHasAttr { expr, attrs } => {
-            hash_shape(expr, state);
-            attrs.hash(state);
+            hash_attributes(attrs, state);
         }
         ExprKind::Like { expr, pattern } => {
             hash_shape(expr, state);
@@ -114,7 +112,18 @@ fn hash_pairs<T, H: Hasher>(pairs: &BTreeMap<RcStr, Expr<T>>, state: &mut H)
     }
 }
 
-// The kind's place in the order of kinds.
+// One attribute alone, or the first and the list of the others.
+fn hash_attributes<H: Hasher>(attrs: &NonEmpty<RcStr>, state: &mut H)
+    ensures { state.new ≡ fold H.write state.old
+        (attributes_fed (rc_str_bytes attrs.now.head) (further attrs.now)) }
+{
+    match attrs.tail.as_slice() {
+        [] => attrs.head.hash(state),
+        [_, ..] => attrs.hash(state),
+    }
+}
+
+// The number that an expression compares by first.
 pub(crate) fn kind_number<T>(kind: &ExprKind<T>) -> u8
     ensures { result ≡ kind_number (bare_expr_kind kind.now) }
 {
@@ -130,11 +139,20 @@ pub(crate) fn kind_number<T>(kind: &ExprKind<T>) -> u8
         ExprKind::BinaryApp { .. } => 8,
         ExprKind::ExtensionFunctionApp { .. } => 9,
         ExprKind::GetAttr { .. } => 10,
-        ExprKind::HasAttr { .. } => 11,
-        ExprKind::ExtHasAttr { .. } => 12,
+        ExprKind::HasAttr { attrs, .. } => has_number(attrs),
         ExprKind::Like { .. } => 13,
         ExprKind::Set(_) => 14,
         ExprKind::Record(_) => 15,
         ExprKind::Is { .. } => 16,
+    }
+}
+
+// The number of a test for attributes: one attribute comes before more.
+pub(crate) fn has_number(attrs: &NonEmpty<RcStr>) -> u8
+    ensures { result ≡ has_number (further attrs.now) }
+{
+    match attrs.tail.as_slice() {
+        [] => 11,
+        [_, ..] => 12,
     }
 }

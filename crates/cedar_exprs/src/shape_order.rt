@@ -5,11 +5,11 @@ ghost use Rattle.std.specs.Ordering.{nat_cmp};
 ghost use Rattle.std.specs.Rc.{rc_str_bytes};
 ghost use Rattle.cedar_terms.specs.Ops.{unary_op_number, binary_op_number};
 ghost use Rattle.cedar_terms.specs.Unknowns.{bare_unknown};
-ghost use Rattle.cedar_builders.specs.Shapes.{◌or_else◌, kind_number, row_count, field_count, shape_cmp, row_cmp, fields_cmp};
+ghost use Rattle.cedar_builders.specs.Shapes.{◌or_else◌, has_number, kind_number, row_count, field_count, shape_cmp, row_cmp, fields_cmp};
 ghost use Rattle.cedar_exprs.specs.BareExpr.{bare_expr, bare_exprs, bare_fields, further, unknown_tree};
 
 use crate::expr::{Expr, ExprKind};
-use crate::shape::kind_number;
+use crate::shape::{has_number, kind_number};
 use cedar_names::NonEmpty;
 use cedar_terms::{BinaryOp, UnaryOp, Unknown};
 use std::cmp::Ordering;
@@ -26,7 +26,8 @@ impl<T> Expr<T> {
 
     /// Compares what the expressions are, without their places and data.
     ///
-    /// Kinds come first, in the order of `ExprKind`. Within a kind the operator, the name, the
+    /// Kinds come first, in the order of `ExprKind`, `HasAttr` of one attribute before `HasAttr` of
+    /// more. Within a kind the operator, the name, the
     /// attributes or the pattern come before the children, the number of arguments, members or
     /// pairs before these, and of a record each key before its value.
     pub fn cmp_shape(&self, other: &Expr<T>) -> Ordering
@@ -140,22 +141,15 @@ pub(crate) fn cmp_shape<T, U>(a: &Expr<T>, b: &Expr<U>) -> Ordering
             },
             _ => cmp_kinds(a, b),
         },
-        ExprKind::HasAttr { expr, attr } => match &b.expr_kind {
+        ExprKind::HasAttr { expr, attrs } => match &b.expr_kind {
             ExprKind::HasAttr {
                 expr: other_expr,
-                attr: other_attr,
-            } => match attr.cmp(other_attr) {
-                Ordering::Equal => cmp_shape(expr, other_expr),
-                other => other,
-            },
-            _ => cmp_kinds(a, b),
-        },
-        ExprKind::ExtHasAttr { expr, attrs } => match &b.expr_kind {
-            ExprKind::ExtHasAttr {
-                expr: other_expr,
                 attrs: other_attrs,
-            } => match cmp_paths(attrs, other_attrs) {
-                Ordering::Equal => cmp_shape(expr, other_expr),
+            } => match cmp_has_numbers(attrs, other_attrs) {
+                Ordering::Equal => match cmp_paths(attrs, other_attrs) {
+                    Ordering::Equal => cmp_shape(expr, other_expr),
+                    other => other,
+                },
                 other => other,
             },
             _ => cmp_kinds(a, b),
@@ -266,6 +260,13 @@ fn cmp_binary_ops(a: BinaryOp, b: BinaryOp) -> Ordering
     ensures { result ≡ nat_cmp (binary_op_number a) (binary_op_number b) }
 {
     a.cmp(&b)
+}
+
+// A test for one attribute comes before one for more.
+fn cmp_has_numbers(a: &NonEmpty<RcStr>, b: &NonEmpty<RcStr>) -> Ordering
+    ensures { result ≡ nat_cmp (has_number (further a.now)) (has_number (further b.now)) }
+{
+    has_number(a).cmp(&has_number(b))
 }
 
 // By the attributes, one after the other.

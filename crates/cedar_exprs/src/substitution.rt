@@ -168,10 +168,7 @@ impl<S: SubstitutionFunction, V: SubstituteValue> Walk<()> for Substitution<'_, 
                 Ok(Some(renew_call(alloc, fn_name, args, done)?))
             }
             ExprKind::GetAttr { expr, attr } => Ok(Some(renew_get(alloc, expr, attr, done)?)),
-            ExprKind::HasAttr { expr, attr } => Ok(Some(renew_has(alloc, expr, attr, done)?)),
-            ExprKind::ExtHasAttr { expr, attrs } => {
-                Ok(Some(renew_extended_has(alloc, expr, attrs, done)?))
-            }
+            ExprKind::HasAttr { expr, attrs } => Ok(Some(renew_has(alloc, expr, attrs, done)?)),
             ExprKind::Like { expr, pattern } => {
                 Ok(Some(renew_like(alloc, expr, pattern, done)?))
             }
@@ -388,38 +385,18 @@ fn renew_get(
 fn renew_has(
     alloc: Global,
     expr: &Rc<Expr<()>>,
-    attr: &RcStr,
-    done: &mut Vec<Option<Rc<Expr<()>>>>,
-) -> Result<Rc<Expr<()>>, AllocError>
-    requires { 1 ≤ vec_len done.old }
-    ensures { IfOk result
-        (IsRenewedOfLast (bare_expr expr.now.value ∷ [])
-        (OfOne (λ m. checked_ops.has_of m (rc_str_bytes attr.now)))
-        done.old.items done.new.items) }
-{
-    let expr = new_or_shared(done.take_last(), expr)?;
-    let attr = attr.clone()?;
-    node(alloc, ExprKind::HasAttr { expr, attr })
-}
-
-#[inline(never)]
-fn renew_extended_has(
-    alloc: Global,
-    expr: &Rc<Expr<()>>,
     attrs: &NonEmpty<RcStr>,
     done: &mut Vec<Option<Rc<Expr<()>>>>,
 ) -> Result<Rc<Expr<()>>, AllocError>
     requires { 1 ≤ vec_len done.old }
     ensures { IfOk result
         (IsRenewedOfLast (bare_expr expr.now.value ∷ [])
-        (OfOne (λ m. checked_ops.ext_has_of m (rc_str_bytes attrs.now.head) (further attrs.now)))
+        (OfOne (λ m. checked_ops.has_of m (rc_str_bytes attrs.now.head) (further attrs.now)))
         done.old.items done.new.items) }
 {
-    let expr = own_or_copy(alloc, done.take_last(), expr)?;
-    Ok(Rc::new(
-        alloc,
-        Expr::extended_has_attr(alloc, expr, attrs.clone(alloc)?)?,
-    )?)
+    let expr = new_or_shared(done.take_last(), expr)?;
+    let attrs = attrs.clone(alloc)?;
+    node(alloc, ExprKind::HasAttr { expr, attrs })
 }
 
 #[inline(never)]

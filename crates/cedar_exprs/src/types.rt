@@ -99,7 +99,6 @@ fn type_of_node<T, F: FunctionTable>(
         ExprKind::And { .. }
         | ExprKind::Or { .. }
         | ExprKind::HasAttr { .. }
-        | ExprKind::ExtHasAttr { .. }
         | ExprKind::Like { .. }
         | ExprKind::Is { .. } => Ok(Some(Type::Bool)),
         ExprKind::Set(_) => Ok(Some(Type::Set)),

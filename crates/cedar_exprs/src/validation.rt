@@ -5,13 +5,13 @@ ghost use Rattle.function_tables.specs.ValidationErrors.{IsErrorOf};
 ghost use Rattle.cedar_exprs.specs.BareExpr.{bare_expr};
 
 use crate::expr::{Expr, ExprKind};
-use function_tables::{ExprValidationError, FunctionTable, check_attributes, check_call};
+use function_tables::{ExprValidationError, FunctionTable, check_call, check_path};
 use std::alloc::Global;
 
 impl<T: Drop> Expr<T> {
     /// The expression as it is, where a text of Cedar could say it: each function that is called is
-    /// known, one that is called as a method has a receiver, and each attribute of a path is an
-    /// identifier that a user may define. Numbers of arguments are not compared.
+    /// known, one that is called as a method has a receiver, and each attribute of a path of two or
+    /// more is an identifier that a user may define. Numbers of arguments are not compared.
     ///
     /// Else the error is that of the first position that has a fault, in the order of
     /// `subexpressions`.
@@ -47,7 +47,7 @@ fn check_node<T, F: FunctionTable>(
         ExprKind::ExtensionFunctionApp { fn_name, args } => {
             check_call(alloc, table, fn_name, args.len())
         }
-        ExprKind::ExtHasAttr { attrs, .. } => check_attributes(attrs),
+        ExprKind::HasAttr { attrs, .. } => check_path(attrs),
         _ => Ok(()),
     }
 }

@@ -1,6 +1,6 @@
 -- What each command of the script makes of the stack, whose top stands first here, and of the
 -- bindings.
-use Rattle.std.specs.Prelude.{◌≡◌, ℕ, List, Ok, Option, Some, None, map, drop}
+use Rattle.std.specs.Prelude.{◌≡◌, ℕ, List, [], Ok, Option, Some, None, map, drop}
 use Rattle.std.specs.Borrow.{Bor}
 use Rattle.std.specs.Global.{Global}
 use Rattle.std.specs.List.{zip}
@@ -85,8 +85,8 @@ Works env (Unary op) old new = ReplacesOne (λ a e. bare_expr e ≡ tree_ops.una
 Works env (Binary op) old new = ReplacesTwo (λ a b e. bare_expr e ≡ tree_ops.binary_of op (bare_expr a) (bare_expr b)) old new
 Works env (Call name count) old new = ReplacesMany count (λ args e. bare_expr e ≡ call (bare_name name) (bare_exprs args)) old new
 Works env (Get k) old new = ReplacesOne (λ a e. bare_expr e ≡ tree_ops.get_of (bare_expr a) k.now) old new
-Works env (Has k) old new = ReplacesOne (λ a e. bare_expr e ≡ tree_ops.has_of (bare_expr a) k.now) old new
-Works env (ExtHas ks) old new = ReplacesOne (λ a e. bare_expr e ≡ tree_ops.ext_has_of (bare_expr a) ks.head.now (texts_now ks.tail.items)) old new
+Works env (Has k) old new = ReplacesOne (λ a e. bare_expr e ≡ tree_ops.has_of (bare_expr a) k.now []) old new
+Works env (ExtHas ks) old new = ReplacesOne (λ a e. bare_expr e ≡ tree_ops.has_of (bare_expr a) ks.head.now (texts_now ks.tail.items)) old new
 Works env (Like p) old new = ReplacesOne (λ a e. bare_expr e ≡ tree_ops.like_of (bare_expr a) p) old new
 Works env (Is ty) old new = ReplacesOne (λ a e. bare_expr e ≡ tree_ops.is_of (bare_expr a) (bare_entity_type ty)) old new
 Works env (Set count) old new = ReplacesMany count (λ es e. bare_expr e ≡ members (bare_exprs es)) old new

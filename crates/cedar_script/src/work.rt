@@ -1,6 +1,6 @@
 //! The state of a script: a stack of expressions and the bindings of names, and what each command
 //! does to them.
-ghost use Rattle.std.specs.Prelude.{◌≡◌, ◌≢◌, ◌∷◌, Ok, None, drop, take, reverse, ◌+◌, ◌<◌, ◌↔◌, OnOk, IfOk, IsErrOf, IfErr, map, string_bytes, vec_len};
+ghost use Rattle.std.specs.Prelude.{◌≡◌, ◌≢◌, [], ◌∷◌, Ok, None, drop, take, reverse, ◌+◌, ◌<◌, ◌↔◌, OnOk, IfOk, IsErrOf, IfErr, map, string_bytes, vec_len};
 ghost use Rattle.std.specs.Rc.{rc_str_bytes};
 ghost use Rattle.cedar_names.specs.PlainNames.{bare_name};
 ghost use Rattle.cedar_terms.specs.Literals.{StringLit};
@@ -371,7 +371,7 @@ fn make_get(alloc: Global, expr: Expr, attr: &str) -> Result<Expr, AllocError>
 
 // Makes the test for an attribute of an expression.
 fn make_has(alloc: Global, expr: Expr, attr: &str) -> Result<Expr, AllocError>
-    ensures { IfOk result (λ e. bare_expr e ≡ tree_ops.has_of (bare_expr expr) attr.now) }
+    ensures { IfOk result (λ e. bare_expr e ≡ tree_ops.has_of (bare_expr expr) attr.now []) }
 {
     let attr = RcStr::from_str(alloc, attr)?;
     Expr::has_attr(alloc, expr, attr)
@@ -381,7 +381,7 @@ fn make_has(alloc: Global, expr: Expr, attr: &str) -> Result<Expr, AllocError>
 fn make_extended_has(alloc: Global, expr: Expr, attrs: NonEmpty<&str>) -> Result<Expr, AllocError>
     ensures { let tail = texts_now attrs.entry.tail.items in
         IfOk result (λ e.
-        bare_expr e ≡ tree_ops.ext_has_of (bare_expr expr) attrs.entry.head.now tail) }
+        bare_expr e ≡ tree_ops.has_of (bare_expr expr) attrs.entry.head.now tail) }
 {
     let head = RcStr::from_str(alloc, attrs.head)?;
     let tail = share_texts(alloc, &attrs.tail)?;

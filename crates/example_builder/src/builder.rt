@@ -77,22 +77,8 @@ impl ExprBuilder for UnknownNames {
     // The meaning of the error of `call_extension_fn`.
     ghost fault_of = { λ refused. bare_name refused.fn_name };
 
-    // A value of this type holds nothing that could change what it makes: each is as good as new.
-    ghost is_new = { λ _. ⊤ };
-
-    // The last four say more than meanings: a builder of meanings alone makes them trivial, so.
-    // The place that `loc` answers: none, whatever was set.
-    ghost place_of = { λ _. None };
-
-    // What is kept of a place that is set: nothing.
-    ghost kept_place = { λ _. None };
-
-    // What `unary_app` makes, beyond the meaning: nothing is said, by a fact that always holds. A
-    // builder of nodes says here which place and data the node has.
-    ghost makes_unary = { λ _ _ _ _. ⊤ };
-
-    // What `binary_app` makes, beyond the meaning: the same.
-    ghost makes_binary = { λ _ _ _ _ _. ⊤ };
+    // The other ghost members have defaults, which suit a builder that says no more than meanings:
+    // `is_new`, `place_of`, `kept_place`, `makes_unary` and `makes_binary`.
 
     fn new() -> UnknownNames {
         UnknownNames
@@ -181,10 +167,6 @@ impl ExprBuilder for UnknownNames {
         Ok(expr)
     }
 
-    fn has_attr(self, _alloc: Global, expr: Names, _attr: RcStr) -> Result<Names, AllocError> {
-        Ok(expr)
-    }
-
     fn extended_has_attr(
         self,
         _alloc: Global,
@@ -238,12 +220,10 @@ impl ExprBuilder for UnknownNames {
     }
 }
 
-// The laws hold by computation: literals give no names, so neither does what joins them, and a test
-// for one attribute gives what the plain test does.
+// The laws hold by computation: literals give no names, so neither does what joins them.
 impl LawfulExprBuilder for UnknownNames {
     ghost lawful = { record {
       and_of_literals = λ a b. refl;
       or_of_literals = λ a b. refl;
-      ext_has_of_one = λ m k. refl;
     } };
 }

@@ -9,7 +9,7 @@ use Rattle.cedar_terms.specs.declared.ops.BinaryOp.{BinaryOp}
 use Rattle.cedar_terms.specs.declared.ops.BinaryOp.TheVariants.{Add, Sub, Mul, GetTag}
 use Rattle.cedar_terms.specs.declared.ops.UnaryOp.{UnaryOp}
 use Rattle.cedar_terms.specs.declared.ops.UnaryOp.TheVariants.{Neg}
-use Rattle.cedar_builders.specs.BareExpr.{BareExpr, Lit, Unknown, If, And, Or, UnaryApp, BinaryApp, ExtensionFunctionApp, HasAttr, ExtHasAttr, Like, Set, Record, Is}
+use Rattle.cedar_builders.specs.BareExpr.{BareExpr, Lit, Unknown, If, And, Or, UnaryApp, BinaryApp, ExtensionFunctionApp, HasAttr, Like, Set, Record, Is}
 use Rattle.function_tables.specs.Tables.{ReturnTypes}
 
 -- the type of both, if both have one and it is the same
@@ -43,8 +43,7 @@ node_type return_type_at (Or a b) = Some BoolType
 node_type return_type_at (UnaryApp op a) = Some (unary_type op)
 node_type return_type_at (BinaryApp op a b) = binary_type op
 node_type return_type_at (ExtensionFunctionApp n es) = call_type return_type_at n
-node_type return_type_at (HasAttr a k) = Some BoolType
-node_type return_type_at (ExtHasAttr a k ks) = Some BoolType
+node_type return_type_at (HasAttr a k ks) = Some BoolType
 node_type return_type_at (Like a p) = Some BoolType
 node_type return_type_at (Set es) = Some SetType
 node_type return_type_at (Record fs) = Some RecordType

@@ -3,7 +3,7 @@ ghost use Rattle.std.specs.Prelude.{◌≡◌, None, IfErr, OnOk, map};
 ghost use Rattle.std.specs.Rc.{rc_str_bytes};
 ghost use Rattle.cedar_names.specs.NonEmpty.{list_of};
 ghost use Rattle.cedar_names.specs.PlainNames.{bare_name};
-ghost use Rattle.function_tables.specs.Faults.{attribute_fault, call_fault};
+ghost use Rattle.function_tables.specs.Faults.{attribute_fault, call_fault, path_fault};
 ghost use Rattle.function_tables.specs.ValidationErrors.{IsErrorOf};
 
 use crate::call_style::CallStyle;
@@ -44,9 +44,23 @@ pub fn check_call<F: FunctionTable>(
     }
 }
 
-/// A path of attributes: each is an identifier that a user may define, as `is_normalized_ident`
-/// has it. Else the error names the first that is none.
-pub fn check_attributes(attrs: &NonEmpty<RcStr>) -> Result<(), ExprValidationError>
+/// A path of attributes: where there are two or more, each is an identifier that a user may define,
+/// as `is_normalized_ident` has it. Else the error names the first that is none.
+pub fn check_path(attrs: &NonEmpty<RcStr>) -> Result<(), ExprValidationError>
+    ensures passed { OnOk result
+        (path_fault (rc_str_bytes attrs.now.head) (map rc_str_bytes attrs.now.tail.items) ≡ None) }
+    ensures refused { IfErr result
+        (IsErrorOf
+        (path_fault (rc_str_bytes attrs.now.head) (map rc_str_bytes attrs.now.tail.items))) }
+{
+    match attrs.tail.as_slice() {
+        [] => Ok(()),
+        [_, ..] => check_attributes(attrs),
+    }
+}
+
+// The first attribute that no user may define is refused.
+fn check_attributes(attrs: &NonEmpty<RcStr>) -> Result<(), ExprValidationError>
     ensures passed { OnOk result
         (attribute_fault (map rc_str_bytes (list_of attrs.now)) ≡ None) }
     ensures refused { IfErr result

@@ -9,7 +9,7 @@ mod expr_validation_error;
 mod function_table;
 
 pub use call_style::CallStyle;
-pub use checks::{check_attributes, check_call};
+pub use checks::{check_call, check_path};
 pub use declared_types::{binary_type, common_type, type_of_call, unary_type};
 pub use expr_validation_error::ExprValidationError;
 pub use function_table::FunctionTable;

@@ -26,7 +26,6 @@ refusing refuses = record {
       if refuses n (length es) then Err n else Ok (ExtensionFunctionApp n (trees_of es));
   get_of = tree_ops.get_of;
   has_of = tree_ops.has_of;
-  ext_has_of = tree_ops.ext_has_of;
   like_of = tree_ops.like_of;
   set_of = tree_ops.set_of;
   record_of = tree_ops.record_of;

@@ -60,15 +60,9 @@ impl<R: Refusal> Builder for Refusing<R> {
 
     ghost fault_of = { λ e. bare_name e.name };
 
-    ghost is_new = { λ _. ⊤ };
-
     ghost place_of = { λ b. builder_place b.inner };
 
     ghost kept_place = { λ place. place };
-
-    ghost makes_unary = { λ _ _ _ _. ⊤ };
-
-    ghost makes_binary = { λ _ _ _ _ _. ⊤ };
 
     fn new() -> Refusing<R> {
         Refusing {
@@ -171,10 +165,6 @@ impl<R: Refusal> Builder for Refusing<R> {
         self.inner.get_attr(alloc, expr, attr)
     }
 
-    fn has_attr(self, alloc: Global, expr: Expr<()>, attr: RcStr) -> Result<Expr<()>, AllocError> {
-        self.inner.has_attr(alloc, expr, attr)
-    }
-
     fn extended_has_attr(
         self,
         alloc: Global,
@@ -221,6 +211,5 @@ impl<R: Refusal> LawfulExprBuilder for Refusing<R> {
     ghost lawful = { record {
       and_of_literals = λ a b. refl;
       or_of_literals = λ a b. refl;
-      ext_has_of_one = λ m k. refl;
     } };
 }

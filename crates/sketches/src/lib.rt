@@ -195,17 +195,6 @@ impl ExprBuilder for Sketch {
 
     ghost fault_of = { never };
 
-    ghost is_new = { λ _. ⊤ };
-
-    // No place is kept.
-    ghost place_of = { λ _. None };
-
-    ghost kept_place = { λ _. None };
-
-    ghost makes_unary = { λ _ _ _ _. ⊤ };
-
-    ghost makes_binary = { λ _ _ _ _ _. ⊤ };
-
     fn new() -> Sketch {
         Sketch
     }
@@ -319,16 +308,6 @@ impl ExprBuilder for Sketch {
     ) -> Result<SExpression, AllocError> {
         let attr = quote(alloc, &attr)?;
         make_list(alloc, "get", vec![in alloc; expr, attr]?)
-    }
-
-    fn has_attr(
-        self,
-        alloc: Global,
-        expr: SExpression,
-        attr: RcStr,
-    ) -> Result<SExpression, AllocError> {
-        let attr = quote(alloc, &attr)?;
-        make_list(alloc, "has", vec![in alloc; expr, attr]?)
     }
 
     fn extended_has_attr(

@@ -1,7 +1,7 @@
 // A builder that makes every node as it stands.
 ghost use Rattle.std.specs.Prelude.{◌≡◌, IfOk, IfErr, Ok, ⊤, map};
 ghost use Rattle.cedar_names.specs.PlainNames.{bare_name};
-ghost use Rattle.cedar_builders.specs.BareExpr.{BareExpr, And, Or, ExtHasAttr, Set};
+ghost use Rattle.cedar_builders.specs.BareExpr.{BareExpr, And, Or, Set};
 ghost use Rattle.cedar_builders.specs.Answers.{Gives};
 ghost use Rattle.cedar_builders.specs.Errors.{OnDuplicateKey};
 ghost use Rattle.cedar_builders.specs.Keys.{keys_of, meant_pairs, IsRising, HasRepeat};
@@ -49,7 +49,6 @@ impl Builder for Raw {
       call_of = tree_ops.call_of;
       get_of = tree_ops.get_of;
       has_of = tree_ops.has_of;
-      ext_has_of = ExtHasAttr;
       like_of = tree_ops.like_of;
       set_of = tree_ops.set_of;
       record_of = tree_ops.record_of;
@@ -60,15 +59,9 @@ impl Builder for Raw {
 
     ghost fault_of = { never };
 
-    ghost is_new = { λ _. ⊤ };
-
     ghost place_of = { λ b. builder_place b.inner };
 
     ghost kept_place = { λ place. place };
-
-    ghost makes_unary = { λ _ _ _ _. ⊤ };
-
-    ghost makes_binary = { λ _ _ _ _ _. ⊤ };
 
     fn new() -> Raw {
         Raw {
@@ -171,22 +164,13 @@ impl Builder for Raw {
         self.inner.get_attr(alloc, expr, attr)
     }
 
-    fn has_attr(self, alloc: Global, expr: Expr<()>, attr: RcStr) -> Result<Expr<()>, AllocError> {
-        self.inner.has_attr(alloc, expr, attr)
-    }
-
     fn extended_has_attr(
         self,
         alloc: Global,
         expr: Expr<()>,
         attrs: NonEmpty<RcStr>,
     ) -> Result<Expr<()>, AllocError> {
-        Ok(
-            self.inner.with_expr_kind(ExprKind::ExtHasAttr {
-                expr: Rc::new(alloc, expr)?,
-                attrs,
-            }),
-        )
+        self.inner.extended_has_attr(alloc, expr, attrs)
     }
 
     fn like(self, alloc: Global, expr: Expr<()>, pattern: Pattern) -> Result<Expr<()>, AllocError> {

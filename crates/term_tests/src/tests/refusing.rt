@@ -48,8 +48,7 @@ impl ExprBuilder for Refusing {
       binary_of = λ o a b. tt;
       call_of = λ n ms. if length ms == 0 then Err n else Ok tt;
       get_of = λ a k. tt;
-      has_of = λ a k. tt;
-      ext_has_of = λ a k ks. tt;
+      has_of = λ a k ks. tt;
       like_of = λ a p. tt;
       set_of = λ ms. tt;
       record_of = λ ps. tt;
@@ -60,15 +59,9 @@ impl ExprBuilder for Refusing {
 
     ghost fault_of = { λ e. bare_name e.name };
 
-    ghost is_new = { λ _. ⊤ };
-
     ghost place_of = { λ b. b.loc };
 
     ghost kept_place = { λ place. place };
-
-    ghost makes_unary = { λ _ _ _ _. ⊤ };
-
-    ghost makes_binary = { λ _ _ _ _ _. ⊤ };
 
     fn new() -> Refusing {
         Refusing::with_data(())
@@ -149,10 +142,6 @@ impl ExprBuilder for Refusing {
         Ok(())
     }
 
-    fn has_attr(self, _: Global, _: (), _: RcStr) -> Result<(), AllocError> {
-        Ok(())
-    }
-
     fn extended_has_attr(self, _: Global, _: (), _: NonEmpty<RcStr>) -> Result<(), AllocError> {
         Ok(())
     }
@@ -183,5 +172,5 @@ impl ExprBuilder for Refusing {
 }
 
 impl LawfulExprBuilder for Refusing {
-    ghost lawful = { record { and_of_literals = λ a b. refl; or_of_literals = λ a b. refl; ext_has_of_one = λ m k. refl } };
+    ghost lawful = { record { and_of_literals = λ a b. refl; or_of_literals = λ a b. refl } };
 }

@@ -1,16 +1,14 @@
 use Rattle.std.proofs.Common.{◌∙◌, ◌++◌, refl, ap, sym, arith, fold}
 use Rattle.std.specs.Hash as fed
-use Rattle.std.specs.Rc.{rc_str_bytes}
 use Rattle.std.proofs.lemmas.List.{drop_all}
 use Rattle.cedar_names.specs.NameOrder.{name_fed}
 use Rattle.cedar_names.specs.PlainNames.{bare_name}
-use Rattle.cedar_builders.specs.BareExpr.{ExtensionFunctionApp, ExtHasAttr, Set, Record}
-use Rattle.cedar_builders.specs.ShapeFeed.{shape_fed, row_fed, fields_fed}
+use Rattle.cedar_builders.specs.BareExpr.{ExtensionFunctionApp, Set, Record}
+use Rattle.cedar_builders.specs.ShapeFeed.{row_fed, fields_fed}
 use Rattle.cedar_builders.specs.Shapes.{row_count, field_count}
-use Rattle.cedar_exprs.specs.BareExpr.{bare_expr, bare_exprs, bare_fields, further}
+use Rattle.cedar_exprs.specs.BareExpr.{bare_exprs, bare_fields}
 use Rattle.cedar_exprs.proofs.ChildrenOf.{bare_at_call, bare_at_set, bare_at_map}
-use Rattle.cedar_exprs.proofs.Records.{bare_at}
-use Rattle.cedar_exprs.proofs.ShapeWalks.{fed_of_node, in_four, texts_fed, then_fed, all_fed, all_pairs_fed}
+use Rattle.cedar_exprs.proofs.ShapeWalks.{fed_of_node, in_four, then_fed, all_fed, all_pairs_fed}
 use Rattle.cedar_exprs.proofs.shape.+shape.Goals as goal
 
 pub hash_shape-returns-in-ExtensionFunctionApp : goal.hash_shape-returns-in-ExtensionFunctionApp
@@ -22,16 +20,6 @@ hash_shape-returns-in-ExtensionFunctionApp g t c =
     (bare_at_call c.args.e.now k.fn_name k.args _ (sym c.expr_kind-2.ensures ∙ k.is) c.deref-in-ExtensionFunctionApp.ensures ∙ ap (λ xs. ExtensionFunctionApp (bare_name k.fn_name) (bare_exprs xs)) (sym c.deref-in-ExtensionFunctionApp-2.ensures.value))
     (in_four (fed.u8 9) (name_fed (bare_name k.fn_name)) (fed.usize (row_count (bare_exprs es))) (row_fed (bare_exprs es)))
     (then_fed g.H.Hasher.write c.write_u8.new.self c.hash-in-ExtensionFunctionApp.new.state c.hash_members.new.state (name_fed (bare_name k.fn_name)) (fed.usize (row_count (bare_exprs es)) ++ row_fed (bare_exprs es)) c.hash-in-ExtensionFunctionApp.ensures c.hash_members.ensures)
-
-pub hash_shape-returns-in-ExtHasAttr : goal.hash_shape-returns-in-ExtHasAttr
-hash_shape-returns-in-ExtHasAttr g t c =
-    let k = c.in-ExtHasAttr in
-    let e = c.deref-in-ExtHasAttr.result.now in
-    fed_of_node g.H.Hasher.write _ _ _ c.args.e.now _ c.expr_kind.ensures c.kind_number.ensures c.write_u8.ensures
-    (ExtHasAttr (bare_expr e) (rc_str_bytes k.attrs.head) (further k.attrs)) (shape_fed (bare_expr e) ++ (fed.str (rc_str_bytes k.attrs.head) ++ fed.slice fed.str (further k.attrs))) _
-    (bare_at c.args.e.now _ (sym c.expr_kind-2.ensures ∙ k.is) ∙ ap (λ x. ExtHasAttr (bare_expr x) (rc_str_bytes k.attrs.head) (further k.attrs)) (sym c.deref-in-ExtHasAttr.ensures))
-    (in_four (fed.u8 12) (shape_fed (bare_expr e)) (fed.str (rc_str_bytes k.attrs.head)) (fed.slice fed.str (further k.attrs)))
-    (then_fed g.H.Hasher.write c.write_u8.new.self c.hash_shape-in-ExtHasAttr.new.state c.hash-in-ExtHasAttr.new.state (shape_fed (bare_expr e)) (fed.str (rc_str_bytes k.attrs.head) ++ fed.slice fed.str (further k.attrs)) c.hash_shape-in-ExtHasAttr.ensures (c.hash-in-ExtHasAttr.ensures ∙ ap (λ xs. fold g.H.Hasher.write c.hash_shape-in-ExtHasAttr.new.state (fed.str (rc_str_bytes k.attrs.head) ++ xs)) (texts_fed k.attrs.tail.items)))
 
 pub hash_shape-returns-in-Set : goal.hash_shape-returns-in-Set
 hash_shape-returns-in-Set g t c =
