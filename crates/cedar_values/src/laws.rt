@@ -2,15 +2,26 @@
 //!
 //! Each function here does nothing: its contract is the law, for each ordered type of extension
 //! values.
-ghost use Rattle.std.specs.Prelude.{◌≡◌, ◌↔◌, IsTrue};
+ghost use Rattle.std.specs.Prelude.{◌≡◌, ◌↔◌, IsTrue, map};
 ghost use Rattle.std.specs.Cmp.{IsTotalOrder};
+ghost use Rattle.std.specs.BTreeMap.{BTreeMap};
+ghost use Rattle.std.specs.Global.{Global};
+ghost use Rattle.std.specs.declared.rc.Rc.{Rc};
+ghost use Rattle.std.specs.declared.rc.RcStr.{RcStr};
+ghost use Rattle.std.specs.List.{list_all};
 ghost use Rattle.rising.specs.Classes.{HaveSameClasses};
+ghost use Rattle.cedar_terms.specs.declared.literal.Literal.{Literal};
+ghost use Rattle.cedar_builders.specs.Keys.{meant_pairs};
 ghost use Rattle.value_trees.specs.ValueOrder.{value_cmp, value_eq, values_cmp, values_eq};
-ghost use Rattle.cedar_values.specs.BareValues.{bare_set, bare_value, bare_value_kind};
+ghost use Rattle.value_trees.specs.BareValue as bare;
+ghost use Rattle.value_trees.specs.Laws.{BindsPlainValues};
+ghost use Rattle.cedar_values.specs.BareValues.{bare_set, bare_value, bare_value_kind, kind_of};
 ghost use Rattle.cedar_values.specs.PartialValues.{partial_eq};
 ghost use Rattle.cedar_values.specs.Sets.{by_tree, members};
 ghost use Rattle.cedar_values.specs.ValueMaps.{ThenIsBothOfMaps};
-ghost use Rattle.cedar_values.specs.WellFormed.{set_well_formed};
+ghost use Rattle.cedar_values.specs.WellFormed.{kind_well_formed, set_well_formed, well_formed};
+ghost use Rattle.cedar_values.specs.declared.value.ValueKind.TheVariants as kinds;
+ghost use Rattle.cedar_values.specs.ValueMaps.{HasPlainValues, ValueMap, values_env};
 ghost use Rattle.cedar_values.specs.declared.partial_value.PartialValue.{PartialValue};
 ghost use Rattle.cedar_values.specs.declared.set.Set.{Set};
 ghost use Rattle.cedar_values.specs.declared.value.Value.{Value};
@@ -75,3 +86,25 @@ pub fn then_is_both_of_maps<X: ExtensionValue + Ord>()
 {
     then_is_both_of_values::<X>();
 }
+
+/// The tree of a value, and whether it is well formed, by its kind.
+pub fn values_by_kind<X: Ord>()
+    ensures kind { (v : Value X) → bare_value v ≡ bare_value_kind (kind_of v) }
+    ensures set { (s : Set X) → bare_value_kind (kinds.Set s)
+        ≡ bare.SetValue (bare.values_of (map bare_value (members s))) }
+    ensures record { (m : Rc (BTreeMap (RcStr Global) (Value X)) Global) → bare_value_kind (kinds.Record m)
+        ≡ bare.RecordValue (bare.pairs_of (meant_pairs bare_value m.value.entries)) }
+    ensures kept { (v : Value X) →
+        well_formed X.cmp v ≡ kind_well_formed X.cmp (kind_of v) }
+    ensures lit_kept { (l : Literal) → IsTrue (kind_well_formed X.cmp (kinds.Lit l)) }
+    ensures set_kept { (s : Set X) →
+        kind_well_formed X.cmp (kinds.Set s) ≡ set_well_formed X.cmp s }
+    ensures record_kept { (m : Rc (BTreeMap (RcStr Global) (Value X)) Global) → kind_well_formed X.cmp (kinds.Record m)
+        ≡ list_all (λ e. well_formed X.cmp e.1) m.value.entries }
+{}
+
+/// A map of values without extension values binds such values.
+pub fn maps_bind_plain_values<X: ExtensionValue>()
+    ensures { (m : ValueMap _) → HasPlainValues m
+        → BindsPlainValues X.canonical (values_env X.type_name X.canonical m) }
+{}

@@ -86,8 +86,8 @@ impl<X> Value<X> {
         self.loc.as_ref()
     }
 
-    // The literal, if it is one.
-    pub(crate) fn try_as_lit(&self) -> Option<&Literal>
+    /// The literal, if it is one. Takes no memory.
+    pub fn try_as_lit(&self) -> Option<&Literal>
         ensures { option_map (λ l. bare_literal l.now) result ≡ literal_of (bare_value self.now) }
     {
         match self.value_kind() {
@@ -304,6 +304,19 @@ impl<X> ValueKind<X> {
         ensures { result ≡ ValueKind.Record pairs }
     {
         ValueKind::Record(pairs)
+    }
+
+    /// The literal, if it is one. Takes no memory.
+    pub fn try_as_lit(&self) -> Option<&Literal>
+        ensures { option_map (λ l. bare_literal l.now) result
+            ≡ literal_of (bare_value_kind self.now) }
+    {
+        match self {
+            ValueKind::Lit(literal) => Some(literal),
+            ValueKind::Set(_) => None,
+            ValueKind::Record(_) => None,
+            ValueKind::ExtensionValue(_) => None,
+        }
     }
 }
 
