@@ -99,6 +99,9 @@ fn answer_call(alloc: Global, call: &str, args: &[Part]) -> Result<String, NoAns
     if is_of_others(&answered) {
         answered = term_rows::answer(alloc, call, args);
     }
+    if is_of_others(&answered) {
+        answered = name_rows::answer(alloc, call, args);
+    }
     answered
 }
 

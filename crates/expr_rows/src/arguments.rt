@@ -2,8 +2,8 @@
 use crate::struct_calls::leaf_expr;
 use cedar_builders::ExprBuilder as _;
 use cedar_exprs::{Expr, ExprBuilder, ExprKind};
-use cedar_names::{Loc, Name, NonEmpty, SlotId};
-use cedar_terms::{EntityType, Literal, Unknown, Var};
+use cedar_names::{Name, NonEmpty};
+use cedar_terms::EntityType;
 use row_parts::{NoAnswer, Part, name, shared_text};
 use row_trees::{expr, texts};
 use std::alloc::Global;
@@ -12,8 +12,8 @@ use std::rc::{Rc, RcStr};
 
 /// What the data of a tree may be.
 pub trait Data: Default + Copy {
-    /// The expression that a part stands for, which has the data of a new builder. With data it is a
-    /// leaf.
+    /// The expression that a part stands for, which has the data of a new builder. With data it is
+    /// a leaf.
     fn read(alloc: Global, part: &Part) -> Result<Expr<Self>, NoAnswer>;
 }
 
@@ -25,8 +25,7 @@ impl Data for () {
 
 impl Data for u8 {
     fn read(alloc: Global, part: &Part) -> Result<Expr<u8>, NoAnswer> {
-        let leaf = any_leaf(expr(alloc, part)?)?;
-        Ok(leaf_expr(alloc, ExprBuilder::new(), leaf)?)
+        leaf_expr(alloc, ExprBuilder::new(), &expr(alloc, part)?)
     }
 }
 
@@ -69,10 +68,20 @@ pub fn values<T: Data>(
     parts: &[Part],
 ) -> Result<Rc<BTreeMap<RcStr, Expr<T>>>, NoAnswer> {
     let mut values = BTreeMap::new(alloc);
-    for (key, value) in pairs(alloc, parts)? {
-        drop(values.insert(key, value)?);
+    for part in parts {
+        put(alloc, &mut values, part)?;
     }
     Ok(Rc::new(alloc, values)?)
+}
+
+fn put<T: Data>(
+    alloc: Global,
+    values: &mut BTreeMap<RcStr, Expr<T>>,
+    part: &Part,
+) -> Result<(), NoAnswer> {
+    let (key, value) = pair(alloc, part)?;
+    drop(values.insert(key, value)?);
+    Ok(())
 }
 
 /// The attributes that parts in quotes stand for.
@@ -95,64 +104,23 @@ pub fn entity_type(alloc: Global, part: &Part) -> Result<EntityType, NoAnswer> {
     Ok(EntityType::from(function(alloc, part)?))
 }
 
-/// What a leaf holds.
-#[derive(Drop)]
-pub enum Leaf {
-    /// A literal.
-    Literal(Literal),
-    /// A variable.
-    Var(Var),
-    /// A slot.
-    Slot(SlotId),
-    /// An unknown.
-    Unknown(Unknown),
-}
-
-/// What the leaf holds that a part stands for, where the call of this name makes such leaves.
-pub fn leaf_of(alloc: Global, call: &str, part: &Part) -> Result<Leaf, NoAnswer> {
-    let leaf = any_leaf(expr(alloc, part)?)?;
-    if call == call_of(&leaf) {
+/// The leaf that a part stands for, where the call of this name makes such leaves.
+pub fn leaf_of(alloc: Global, call: &str, part: &Part) -> Result<Expr, NoAnswer> {
+    let leaf = expr(alloc, part)?;
+    if leaf_call(&leaf) == Some(call) {
         Ok(leaf)
     } else {
         Err(NoAnswer::NotTaken)
     }
 }
 
-fn any_leaf(e: Expr) -> Result<Leaf, NoAnswer> {
-    match e.into_expr_kind() {
-        ExprKind::Lit(literal) => Ok(Leaf::Literal(literal)),
-        ExprKind::Var(var) => Ok(Leaf::Var(var)),
-        ExprKind::Slot(slot) => Ok(Leaf::Slot(slot)),
-        ExprKind::Unknown(unknown) => Ok(Leaf::Unknown(unknown)),
-        _ => Err(NoAnswer::NotTaken),
+// The call that makes such leaves.
+fn leaf_call(e: &Expr) -> Option<&'static str> {
+    match e.expr_kind() {
+        ExprKind::Lit(_) => Some("val"),
+        ExprKind::Var(_) => Some("var"),
+        ExprKind::Slot(_) => Some("slot"),
+        ExprKind::Unknown(_) => Some("unknown"),
+        _ => None,
     }
-}
-
-fn call_of(leaf: &Leaf) -> &'static str {
-    match leaf {
-        Leaf::Literal(_) => "val",
-        Leaf::Var(_) => "var",
-        Leaf::Slot(_) => "slot",
-        Leaf::Unknown(_) => "unknown",
-    }
-}
-
-/// The place that `3..7` stands for; none for `-`.
-pub fn maybe_place(alloc: Global, part: &Part) -> Result<Option<Loc>, NoAnswer> {
-    match part.word()? {
-        "-" => Ok(None),
-        word => match word.split_once("..") {
-            Some((start, stop)) => Ok(Some(place(alloc, start, stop)?)),
-            None => Err(NoAnswer::NotTaken),
-        },
-    }
-}
-
-fn place(alloc: Global, start: &str, stop: &str) -> Result<Loc, NoAnswer> {
-    let (start, stop) = (number(start)?, number(stop)?);
-    Ok(Loc::new(start, stop, RcStr::from_str(alloc, "src")?))
-}
-
-fn number(word: &str) -> Result<usize, NoAnswer> {
-    word.parse().map_err(|_| NoAnswer::NotTaken)
 }

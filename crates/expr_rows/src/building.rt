@@ -1,8 +1,8 @@
 //! What builders make of an expression, before substitution and after.
 use crate::refusing::Refusing;
-use crate::substitution::{clash_text, substituted, substituted_typed};
+use crate::substitution::{clash_text, refusal_of, substituted, substituted_typed};
 use cedar_builders::BuildFault;
-use cedar_exprs::{Expr, ExprBuilder, SubstitutionError, TypedBuildFault};
+use cedar_exprs::{Expr, ExprBuilder, TypedBuildFault};
 use cedar_names::Name;
 use row_parts::{NoAnswer, Part};
 use row_trees::{KeyedValue, bindings, placed, sketch};
@@ -50,8 +50,14 @@ fn built<const MASK: u8>(alloc: Global, e: &Expr) -> Result<String, NoAnswer> {
 fn outcome(alloc: Global, made: Result<SExpression, BuildFault<Name>>) -> Result<String, NoAnswer> {
     match made {
         Ok(made) => made_text(alloc, &made),
-        Err(BuildFault::Build(name)) => refusal_text(alloc, &name),
-        Err(BuildFault::Memory) => Err(NoAnswer::Memory),
+        Err(fault) => fault_text(alloc, &fault),
+    }
+}
+
+fn fault_text(alloc: Global, fault: &BuildFault<Name>) -> Result<String, NoAnswer> {
+    match fault {
+        BuildFault::Build(name) => refusal_text(alloc, name),
+        BuildFault::Memory => Err(NoAnswer::Memory),
     }
 }
 
@@ -118,10 +124,7 @@ pub fn typed_build(alloc: Global, names: &Part, e: &Expr, env: &Part) -> Result<
 fn typed_in_turn(alloc: Global, names: &[Part], e: &Expr, env: &Part) -> Result<String, NoAnswer> {
     match substituted_typed(alloc, e, env)? {
         Ok(e) => build(alloc, names, &e),
-        Err(SubstitutionError::TypeError { expected, actual }) => {
-            clash_text(alloc, &expected, &actual)
-        }
-        Err(SubstitutionError::Memory) => Err(NoAnswer::Memory),
+        Err(error) => refusal_of(alloc, &error),
     }
 }
 
@@ -153,11 +156,15 @@ fn typed_outcome(
 ) -> Result<String, NoAnswer> {
     match made {
         Ok(made) => made_text(alloc, &made),
-        Err(TypedBuildFault::TypeError { expected, actual }) => {
-            clash_text(alloc, &expected, &actual)
-        }
-        Err(TypedBuildFault::Build(name)) => refusal_text(alloc, &name),
-        Err(TypedBuildFault::Memory) => Err(NoAnswer::Memory),
+        Err(fault) => typed_fault_text(alloc, &fault),
+    }
+}
+
+fn typed_fault_text(alloc: Global, fault: &TypedBuildFault<Name>) -> Result<String, NoAnswer> {
+    match fault {
+        TypedBuildFault::TypeError { expected, actual } => clash_text(alloc, expected, actual),
+        TypedBuildFault::Build(name) => refusal_text(alloc, name),
+        TypedBuildFault::Memory => Err(NoAnswer::Memory),
     }
 }
 

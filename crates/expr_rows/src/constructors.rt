@@ -1,9 +1,10 @@
 //! The constructors of `Expr`, by their names.
 use crate::arguments::{
-    Leaf, attributes, entity_type, function, leaf_of, members, pairs, shared, values,
+    attributes, entity_type, function, leaf_of, members, pairs, shared, values,
 };
 use cedar_builders::ExpressionConstructionError;
-use cedar_exprs::Expr;
+use cedar_exprs::{Expr, ExprKind};
+use cedar_terms::BinaryOp;
 use row_parts::{NoAnswer, Part, pattern, shared_text};
 use row_trees::{binary, expr, sketch, unary};
 use std::alloc::Global;
@@ -86,85 +87,119 @@ fn path(alloc: Global, args: &[Part]) -> Result<Expr, NoAnswer> {
 
 fn of_one(alloc: Global, f: &str, a: &Part) -> Result<Expr, NoAnswer> {
     match f {
-        "val" | "var" | "slot" | "unknown" => Ok(leaf_expr(leaf_of(alloc, f, a)?)),
+        "val" | "var" | "slot" | "unknown" => leaf_expr(alloc, &leaf_of(alloc, f, a)?),
         _ => negated_or_tested(alloc, f, expr(alloc, a)?),
     }
 }
 
-fn leaf_expr(leaf: Leaf) -> Expr {
-    match leaf {
-        Leaf::Literal(literal) => Expr::val(literal),
-        Leaf::Var(var) => Expr::var(var),
-        Leaf::Slot(slot) => Expr::slot(slot),
-        Leaf::Unknown(unknown) => Expr::unknown(unknown),
+fn leaf_expr(alloc: Global, leaf: &Expr) -> Result<Expr, NoAnswer> {
+    match leaf.expr_kind() {
+        ExprKind::Lit(literal) => Ok(Expr::val(literal.clone(alloc)?)),
+        ExprKind::Var(var) => Ok(Expr::var(*var)),
+        ExprKind::Slot(slot) => Ok(Expr::slot(*slot)),
+        ExprKind::Unknown(unknown) => Ok(Expr::unknown(unknown.clone(alloc)?)),
+        _ => Err(NoAnswer::NotTaken),
     }
 }
 
 fn negated_or_tested(alloc: Global, f: &str, arg: Expr) -> Result<Expr, NoAnswer> {
-    let made = match f {
-        "not" => Expr::not(alloc, arg),
-        "neg" => Expr::neg(alloc, arg),
-        "is_empty" => Expr::is_empty(alloc, arg),
-        _ => return Err(NoAnswer::NotTaken),
-    };
-    Ok(made?)
+    match f {
+        "not" => Ok(Expr::not(alloc, arg)?),
+        "neg" => Ok(Expr::neg(alloc, arg)?),
+        "is_empty" => Ok(Expr::is_empty(alloc, arg)?),
+        _ => Err(NoAnswer::NotTaken),
+    }
 }
 
 fn of_two(alloc: Global, f: &str, a: &Part, b: &Part) -> Result<Expr, NoAnswer> {
     match f {
         "unary_app" => Ok(Expr::unary_app(alloc, unary(a.word()?)?, expr(alloc, b)?)?),
-        "get_attr" => Ok(Expr::get_attr(alloc, expr(alloc, a)?, shared_text(alloc, b)?)?),
-        "has_attr" => Ok(Expr::has_attr(alloc, expr(alloc, a)?, shared_text(alloc, b)?)?),
-        "like" => Ok(Expr::like(alloc, expr(alloc, a)?, pattern(alloc, b)?)?),
-        "is_entity_type" => {
-            let entity_type = entity_type(alloc, b)?;
-            Ok(Expr::is_entity_type(alloc, expr(alloc, a)?, entity_type)?)
-        }
-        _ => connected(alloc, f, expr(alloc, a)?, expr(alloc, b)?),
+        "get_attr" => get_attr(alloc, expr(alloc, a)?, b),
+        "has_attr" => has_attr(alloc, expr(alloc, a)?, b),
+        "like" => like(alloc, expr(alloc, a)?, b),
+        "is_entity_type" => is_entity_type(alloc, expr(alloc, a)?, b),
+        _ => connected(alloc, f, expr(alloc, a)?, b),
     }
 }
 
-fn connected(alloc: Global, f: &str, a: Expr, b: Expr) -> Result<Expr, NoAnswer> {
+fn get_attr(alloc: Global, e: Expr, attr: &Part) -> Result<Expr, NoAnswer> {
+    Ok(Expr::get_attr(alloc, e, shared_text(alloc, attr)?)?)
+}
+
+fn has_attr(alloc: Global, e: Expr, attr: &Part) -> Result<Expr, NoAnswer> {
+    Ok(Expr::has_attr(alloc, e, shared_text(alloc, attr)?)?)
+}
+
+fn like(alloc: Global, e: Expr, part: &Part) -> Result<Expr, NoAnswer> {
+    Ok(Expr::like(alloc, e, pattern(alloc, part)?)?)
+}
+
+fn is_entity_type(alloc: Global, e: Expr, ty: &Part) -> Result<Expr, NoAnswer> {
+    Ok(Expr::is_entity_type(alloc, e, entity_type(alloc, ty)?)?)
+}
+
+fn connected(alloc: Global, f: &str, a: Expr, b: &Part) -> Result<Expr, NoAnswer> {
+    let b = expr(alloc, b)?;
     match f {
         "and" => Ok(Expr::and(alloc, a, b)?),
         "or" => Ok(Expr::or(alloc, a, b)?),
         "noteq" => Ok(Expr::noteq(alloc, a, b)?),
         "greater" => Ok(Expr::greater(alloc, a, b)?),
         "greatereq" => Ok(Expr::greatereq(alloc, a, b)?),
+        "is_in" => Ok(Expr::is_in(alloc, a, b)?),
         _ => operated(alloc, f, a, b),
     }
 }
 
 fn operated(alloc: Global, f: &str, a: Expr, b: Expr) -> Result<Expr, NoAnswer> {
-    let made = match f {
-        "is_eq" => Expr::is_eq(alloc, a, b),
-        "less" => Expr::less(alloc, a, b),
-        "lesseq" => Expr::lesseq(alloc, a, b),
-        "add" => Expr::add(alloc, a, b),
-        "sub" => Expr::sub(alloc, a, b),
-        "mul" => Expr::mul(alloc, a, b),
-        "is_in" => Expr::is_in(alloc, a, b),
-        "contains" => Expr::contains(alloc, a, b),
-        "contains_all" => Expr::contains_all(alloc, a, b),
-        "contains_any" => Expr::contains_any(alloc, a, b),
-        "get_tag" => Expr::get_tag(alloc, a, b),
-        "has_tag" => Expr::has_tag(alloc, a, b),
-        _ => return Err(NoAnswer::NotTaken),
-    };
-    Ok(made?)
+    match f {
+        "is_eq" => Ok(Expr::is_eq(alloc, a, b)?),
+        "less" => Ok(Expr::less(alloc, a, b)?),
+        "lesseq" => Ok(Expr::lesseq(alloc, a, b)?),
+        "add" => Ok(Expr::add(alloc, a, b)?),
+        "sub" => Ok(Expr::sub(alloc, a, b)?),
+        "mul" => Ok(Expr::mul(alloc, a, b)?),
+        _ => contained(alloc, f, a, b),
+    }
+}
+
+fn contained(alloc: Global, f: &str, a: Expr, b: Expr) -> Result<Expr, NoAnswer> {
+    match f {
+        "contains" => Ok(Expr::contains(alloc, a, b)?),
+        "contains_all" => Ok(Expr::contains_all(alloc, a, b)?),
+        "contains_any" => Ok(Expr::contains_any(alloc, a, b)?),
+        "get_tag" => Ok(Expr::get_tag(alloc, a, b)?),
+        "has_tag" => Ok(Expr::has_tag(alloc, a, b)?),
+        _ => Err(NoAnswer::NotTaken),
+    }
 }
 
 fn of_three(alloc: Global, f: &str, a: &Part, b: &Part, c: &Part) -> Result<Expr, NoAnswer> {
     match f {
-        "binary_app" => {
-            let op = binary(a.word()?)?;
-            Ok(Expr::binary_app(alloc, op, expr(alloc, b)?, expr(alloc, c)?)?)
-        }
-        "ite" => Ok(Expr::ite(alloc, expr(alloc, a)?, expr(alloc, b)?, expr(alloc, c)?)?),
-        "ite_arc" => {
-            let (test, then) = (shared(alloc, a)?, shared(alloc, b)?);
-            Ok(Expr::ite_arc(test, then, shared(alloc, c)?))
-        }
+        "binary_app" => binary_app(alloc, binary(a.word()?)?, b, c),
+        "ite" => ite(alloc, a, b, c),
+        "ite_arc" => ite_arc(alloc, a, b, c),
         _ => Err(NoAnswer::NotTaken),
     }
+}
+
+fn binary_app(alloc: Global, op: BinaryOp, a: &Part, b: &Part) -> Result<Expr, NoAnswer> {
+    Ok(Expr::binary_app(alloc, op, expr(alloc, a)?, expr(alloc, b)?)?)
+}
+
+fn ite(alloc: Global, test: &Part, then: &Part, other: &Part) -> Result<Expr, NoAnswer> {
+    Ok(Expr::ite(
+        alloc,
+        expr(alloc, test)?,
+        expr(alloc, then)?,
+        expr(alloc, other)?,
+    )?)
+}
+
+fn ite_arc(alloc: Global, test: &Part, then: &Part, other: &Part) -> Result<Expr, NoAnswer> {
+    Ok(Expr::ite_arc(
+        shared(alloc, test)?,
+        shared(alloc, then)?,
+        shared(alloc, other)?,
+    ))
 }

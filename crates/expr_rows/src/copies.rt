@@ -1,21 +1,23 @@
 //! Copies of expressions, and other places for their outermost node.
-use crate::arguments::maybe_place;
 use cedar_builders::ExprBuilder as _;
 use cedar_exprs::{Expr, ExprBuilder, ExprKind, ExprShapeOnly};
-use row_parts::{NoAnswer, Part, hash};
+use row_parts::{NoAnswer, Part, hash, maybe_place};
 use row_trees::placed;
 use std::alloc::Global;
 
 /// Each position of a copy with its place. The copies of its kind and of its shape agree with it,
 /// and so does the node that its parts make.
 pub fn copy(alloc: Global, e: &Expr) -> Result<String, NoAnswer> {
+    is_kind(alloc, e.expr_kind())?;
+    is_shape(alloc, e)?;
     let copy = e.clone(alloc)?;
     is_same(&copy, e)?;
-    is_kind(&e.expr_kind().clone(alloc)?, e.expr_kind())?;
-    is_shape(alloc, e)?;
-    let copy = put_together(copy);
-    is_same(&copy, e)?;
-    placed(alloc, &copy)
+    whole(alloc, &put_together(copy), e)
+}
+
+fn whole(alloc: Global, copy: &Expr, e: &Expr) -> Result<String, NoAnswer> {
+    is_same(copy, e)?;
+    placed(alloc, copy)
 }
 
 fn is_same(a: &Expr, b: &Expr) -> Result<(), NoAnswer> {
@@ -26,8 +28,9 @@ fn is_same(a: &Expr, b: &Expr) -> Result<(), NoAnswer> {
     }
 }
 
-fn is_kind(a: &ExprKind, b: &ExprKind) -> Result<(), NoAnswer> {
-    if a == b && hash(a) == hash(b) {
+fn is_kind(alloc: Global, kind: &ExprKind) -> Result<(), NoAnswer> {
+    let copy = kind.clone(alloc)?;
+    if copy == *kind && hash(&copy) == hash(kind) {
         Ok(())
     } else {
         Err(NoAnswer::Disagree("a kind and its copy"))
@@ -37,8 +40,11 @@ fn is_kind(a: &ExprKind, b: &ExprKind) -> Result<(), NoAnswer> {
 // The copy of a shape that is lent is that of one that is owned.
 fn is_shape(alloc: Global, e: &Expr) -> Result<(), NoAnswer> {
     let lent = ExprShapeOnly::new_from_borrowed(e);
-    let copy = lent.clone(alloc)?;
-    if copy == ExprShapeOnly::new_from_owned(e.clone(alloc)?) {
+    is_shape_of(&lent.clone(alloc)?, e.clone(alloc)?)
+}
+
+fn is_shape_of(shape: &ExprShapeOnly, e: Expr) -> Result<(), NoAnswer> {
+    if *shape == ExprShapeOnly::new_from_owned(e) {
         Ok(())
     } else {
         Err(NoAnswer::Disagree("a shape and its copy"))

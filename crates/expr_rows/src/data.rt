@@ -17,8 +17,7 @@ pub fn tree(alloc: Global, args: &[Part]) -> Result<String, NoAnswer> {
             let data = number(data)?;
             let e = with_data(alloc, data, call)?;
             has_shape(&e, &constructed(alloc, call)?)?;
-            is_alike(&e, &with_data(alloc, data.wrapping_add(1), call)?)?;
-            data_text(alloc, &e)
+            alike(alloc, &e, &with_data(alloc, data.wrapping_add(1), call)?)
         }
         [] => Err(NoAnswer::NotTaken),
     }
@@ -29,14 +28,18 @@ pub fn put(alloc: Global, args: &[Part]) -> Result<String, NoAnswer> {
     match args {
         [data, call @ ..] => {
             let data = number(data)?;
-            let mut e = with_data(alloc, data.wrapping_add(1), call)?;
-            e.set_data(data);
-            let text = data_text(alloc, &e)?;
-            is_data(e, data)?;
-            Ok(text)
+            put_data(alloc, with_data(alloc, data.wrapping_add(1), call)?, data)
         }
         [] => Err(NoAnswer::NotTaken),
     }
+}
+
+fn put_data(alloc: Global, e: Expr<u8>, data: u8) -> Result<String, NoAnswer> {
+    let mut e = e;
+    e.set_data(data);
+    let text = data_text(alloc, &e)?;
+    is_data(e, data)?;
+    Ok(text)
 }
 
 fn is_data(e: Expr<u8>, data: u8) -> Result<(), NoAnswer> {
@@ -77,10 +80,10 @@ fn has_shape(e: &Expr<u8>, plain: &Expr) -> Result<(), NoAnswer> {
     }
 }
 
-// The trees have one shape.
-fn is_alike(a: &Expr<u8>, b: &Expr<u8>) -> Result<(), NoAnswer> {
+// The data of the first; the trees have one shape.
+fn alike(alloc: Global, a: &Expr<u8>, b: &Expr<u8>) -> Result<String, NoAnswer> {
     if a.cmp_shape(b).is_eq() {
-        Ok(())
+        data_text(alloc, a)
     } else {
         Err(NoAnswer::Disagree("the order of shapes and data"))
     }

@@ -15,28 +15,37 @@ pub fn validation_text(alloc: Global, e: &ExprValidationError) -> Result<String,
 
 /// The text of an error of substitution, which a copy has too.
 pub fn substitution_text(alloc: Global, e: &SubstitutionError) -> Result<String, NoAnswer> {
-    let text = format!(in alloc; "{e}")?;
-    let copy = e.clone(alloc)?;
-    if format!(in alloc; "{copy}")?.as_str() != text.as_str() {
-        return Err(NoAnswer::Disagree("the copy of an error"));
+    let text = shown(alloc, e)?;
+    let of_copy = shown(alloc, &e.clone(alloc)?)?;
+    if of_copy.as_str() == text.as_str() {
+        Ok(text)
+    } else {
+        Err(NoAnswer::Disagree("the copy of an error"))
     }
-    Ok(text)
+}
+
+fn shown(alloc: Global, e: &SubstitutionError) -> Result<String, NoAnswer> {
+    Ok(format!(in alloc; "{e}")?)
 }
 
 /// What each error says of want of memory.
 pub fn no_memory(alloc: Global) -> Result<String, NoAnswer> {
     let mut text = String::new(alloc);
-    let construction = ExpressionConstructionError::Memory;
-    join(&mut text, format!(in alloc; "{construction}")?.as_str())?;
-    join(
-        &mut text,
-        validation_text(alloc, &ExprValidationError::Memory)?.as_str(),
-    )?;
-    join(
-        &mut text,
-        substitution_text(alloc, &SubstitutionError::Memory)?.as_str(),
-    )?;
-    let restriction = RestrictedExprError::Memory;
-    join(&mut text, format!(in alloc; "{restriction}")?.as_str())?;
+    let construction = construction_text(alloc, &ExpressionConstructionError::Memory)?;
+    join(&mut text, construction.as_str())?;
+    let validation = validation_text(alloc, &ExprValidationError::Memory)?;
+    join(&mut text, validation.as_str())?;
+    let substitution = substitution_text(alloc, &SubstitutionError::Memory)?;
+    join(&mut text, substitution.as_str())?;
+    let restriction = restriction_text(alloc, &RestrictedExprError::Memory)?;
+    join(&mut text, restriction.as_str())?;
     Ok(text)
+}
+
+fn construction_text(alloc: Global, e: &ExpressionConstructionError) -> Result<String, NoAnswer> {
+    Ok(format!(in alloc; "{e}")?)
+}
+
+fn restriction_text(alloc: Global, e: &RestrictedExprError) -> Result<String, NoAnswer> {
+    Ok(format!(in alloc; "{e}")?)
 }

@@ -1,5 +1,5 @@
-//! A sketch that refuses the calls of some functions. A builder is made of nothing, so its type says
-//! which.
+//! A sketch that refuses the calls of some functions. A builder is made of nothing, so its type
+//! says which.
 ghost use Rattle.std.specs.Prelude.{◌≡◌, if◌then◌else◌, ⊤, Ok, Err, None, IfOk, IfErr, refl};
 ghost use Rattle.cedar_names.specs.Names.{name_text};
 ghost use Rattle.cedar_names.specs.PlainNames.{bare_name};
@@ -65,8 +65,7 @@ impl<const MASK: u8> ExprBuilder for Refusing<MASK> {
       binary_of = λ o a b. tt;
       call_of = λ n ms. if refused MASK (name_text n) then Err tt else Ok tt;
       get_of = λ a k. tt;
-      has_of = λ a k. tt;
-      ext_has_of = λ a k ks. tt;
+      has_of = λ a k ks. tt;
       like_of = λ a p. tt;
       set_of = λ ms. tt;
       record_of = λ ps. tt;
@@ -258,6 +257,5 @@ impl<const MASK: u8> LawfulExprBuilder for Refusing<MASK> {
     ghost lawful = { record {
       and_of_literals = λ a b. refl;
       or_of_literals = λ a b. refl;
-      ext_has_of_one = λ m k. refl;
     } };
 }

@@ -9,10 +9,16 @@ use std::alloc::Global;
 pub fn restricted(alloc: Global, e: Expr) -> Result<String, NoAnswer> {
     match RestrictedExpr::new(alloc, e) {
         Ok(e) => Ok(format!(in alloc; "ok {}", sketch(alloc, e.as_expr())?)?),
-        Err(RestrictedExprError::NotRestricted { loc }) => {
+        Err(error) => refusal(alloc, &error),
+    }
+}
+
+fn refusal(alloc: Global, error: &RestrictedExprError) -> Result<String, NoAnswer> {
+    match error {
+        RestrictedExprError::NotRestricted { loc } => {
             Ok(format!(in alloc; "not-restricted {}", place(alloc, loc.as_ref())?)?)
         }
-        Err(RestrictedExprError::Memory) => Err(NoAnswer::Memory),
+        RestrictedExprError::Memory => Err(NoAnswer::Memory),
     }
 }
 

@@ -1,14 +1,14 @@
 //! The calls of the struct `ExprBuilder`, by their names.
 use crate::arguments::{
-    Data, Leaf, attributes, entity_type, function, leaf_of, maybe_place, members, pairs, shared,
-    values,
+    Data, attributes, entity_type, function, leaf_of, members, pairs, shared, values,
 };
 use cedar_builders::{BuildFault, ExprBuilder as _, ExpressionConstructionError};
-use cedar_exprs::{Expr, ExprBuilder};
+use cedar_exprs::{Expr, ExprBuilder, ExprKind};
 use cedar_names::Loc;
-use row_parts::{NoAnswer, Part, pattern, shared_text};
+use cedar_terms::{BinaryOp, UnaryOp};
+use row_parts::{NoAnswer, Part, maybe_place, pattern, shared_text};
 use row_trees::{binary, expr, placed, unary};
-use std::alloc::{AllocError, Global};
+use std::alloc::Global;
 use std::rc::RcStr;
 
 /// What a copy of the builder with this place makes.
@@ -61,7 +61,7 @@ fn of_many<T: Data>(
     args: &[Part],
 ) -> Result<Expr<T>, NoAnswer> {
     match f {
-        "set" => Ok(builder.set(alloc, members(alloc, args)?)?),
+        "set" => set(alloc, builder, args),
         "record" => record(alloc, builder, args),
         "record_arc" => Ok(builder.record_arc(values(alloc, args)?)),
         "call_extension_fn" => call(alloc, builder, args),
@@ -73,6 +73,14 @@ fn of_many<T: Data>(
             _ => Err(NoAnswer::NotTaken),
         },
     }
+}
+
+fn set<T: Data>(
+    alloc: Global,
+    builder: ExprBuilder<T>,
+    args: &[Part],
+) -> Result<Expr<T>, NoAnswer> {
+    Ok(builder.set(alloc, members(alloc, args)?)?)
 }
 
 fn record<T: Data>(
@@ -133,23 +141,24 @@ fn of_one<T: Data>(
     a: &Part,
 ) -> Result<Expr<T>, NoAnswer> {
     match f {
-        "val" | "var" | "slot" | "unknown" => Ok(leaf_expr(alloc, builder, leaf_of(alloc, f, a)?)?),
+        "val" | "var" | "slot" | "unknown" => leaf_expr(alloc, builder, &leaf_of(alloc, f, a)?),
         "with_expr_kind" => Ok(builder.with_expr_kind(T::read(alloc, a)?.into_expr_kind())),
         _ => negated_or_tested(alloc, builder, f, T::read(alloc, a)?),
     }
 }
 
-/// The leaf that the builder makes of what it holds.
+/// The leaf that the builder makes of what this one holds.
 pub fn leaf_expr<T: Default + Copy>(
     alloc: Global,
     builder: ExprBuilder<T>,
-    leaf: Leaf,
-) -> Result<Expr<T>, AllocError> {
-    match leaf {
-        Leaf::Literal(literal) => builder.val(alloc, literal),
-        Leaf::Var(var) => builder.var(alloc, var),
-        Leaf::Slot(slot) => builder.slot(alloc, slot),
-        Leaf::Unknown(unknown) => builder.unknown(alloc, unknown),
+    leaf: &Expr,
+) -> Result<Expr<T>, NoAnswer> {
+    match leaf.expr_kind() {
+        ExprKind::Lit(literal) => Ok(builder.val(alloc, literal.clone(alloc)?)?),
+        ExprKind::Var(var) => Ok(builder.var(alloc, *var)?),
+        ExprKind::Slot(slot) => Ok(builder.slot(alloc, *slot)?),
+        ExprKind::Unknown(unknown) => Ok(builder.unknown(alloc, unknown.clone(alloc)?)?),
+        _ => Err(NoAnswer::NotTaken),
     }
 }
 
@@ -159,13 +168,12 @@ fn negated_or_tested<T: Data>(
     f: &str,
     arg: Expr<T>,
 ) -> Result<Expr<T>, NoAnswer> {
-    let made = match f {
-        "not" => builder.not(alloc, arg),
-        "neg" => builder.neg(alloc, arg),
-        "is_empty" => builder.is_empty(alloc, arg),
-        _ => return Err(NoAnswer::NotTaken),
-    };
-    Ok(made?)
+    match f {
+        "not" => Ok(builder.not(alloc, arg)?),
+        "neg" => Ok(builder.neg(alloc, arg)?),
+        "is_empty" => Ok(builder.is_empty(alloc, arg)?),
+        _ => Err(NoAnswer::NotTaken),
+    }
 }
 
 fn of_two<T: Data>(
@@ -176,19 +184,83 @@ fn of_two<T: Data>(
     b: &Part,
 ) -> Result<Expr<T>, NoAnswer> {
     match f {
-        "unary_app" => Ok(builder.unary_app(alloc, unary(a.word()?)?, T::read(alloc, b)?)?),
-        "get_attr" => Ok(builder.get_attr(alloc, T::read(alloc, a)?, shared_text(alloc, b)?)?),
-        "has_attr" => Ok(builder.has_attr(alloc, T::read(alloc, a)?, shared_text(alloc, b)?)?),
-        "like" => Ok(builder.like(alloc, T::read(alloc, a)?, pattern(alloc, b)?)?),
-        "is_entity_type" => {
-            let entity_type = entity_type(alloc, b)?;
-            Ok(builder.is_entity_type(alloc, T::read(alloc, a)?, entity_type)?)
-        }
-        _ => connected(alloc, builder, f, T::read(alloc, a)?, T::read(alloc, b)?),
+        "unary_app" => unary_app(alloc, builder, unary(a.word()?)?, b),
+        "get_attr" => get_attr(alloc, builder, a, b),
+        "has_attr" => has_attr(alloc, builder, a, b),
+        "like" => like(alloc, builder, a, b),
+        "is_entity_type" => is_entity_type(alloc, builder, a, b),
+        _ => connected(alloc, builder, f, a, b),
     }
 }
 
+fn unary_app<T: Data>(
+    alloc: Global,
+    builder: ExprBuilder<T>,
+    op: UnaryOp,
+    arg: &Part,
+) -> Result<Expr<T>, NoAnswer> {
+    Ok(builder.unary_app(alloc, op, T::read(alloc, arg)?)?)
+}
+
+fn get_attr<T: Data>(
+    alloc: Global,
+    builder: ExprBuilder<T>,
+    e: &Part,
+    attr: &Part,
+) -> Result<Expr<T>, NoAnswer> {
+    let attr = shared_text(alloc, attr)?;
+    Ok(builder.get_attr(alloc, T::read(alloc, e)?, attr)?)
+}
+
+fn has_attr<T: Data>(
+    alloc: Global,
+    builder: ExprBuilder<T>,
+    e: &Part,
+    attr: &Part,
+) -> Result<Expr<T>, NoAnswer> {
+    let attr = shared_text(alloc, attr)?;
+    Ok(builder.has_attr(alloc, T::read(alloc, e)?, attr)?)
+}
+
+fn like<T: Data>(
+    alloc: Global,
+    builder: ExprBuilder<T>,
+    e: &Part,
+    part: &Part,
+) -> Result<Expr<T>, NoAnswer> {
+    let pattern = pattern(alloc, part)?;
+    Ok(builder.like(alloc, T::read(alloc, e)?, pattern)?)
+}
+
+fn is_entity_type<T: Data>(
+    alloc: Global,
+    builder: ExprBuilder<T>,
+    e: &Part,
+    ty: &Part,
+) -> Result<Expr<T>, NoAnswer> {
+    let entity_type = entity_type(alloc, ty)?;
+    Ok(builder.is_entity_type(alloc, T::read(alloc, e)?, entity_type)?)
+}
+
 fn connected<T: Data>(
+    alloc: Global,
+    builder: ExprBuilder<T>,
+    f: &str,
+    a: &Part,
+    b: &Part,
+) -> Result<Expr<T>, NoAnswer> {
+    let (a, b) = (T::read(alloc, a)?, T::read(alloc, b)?);
+    match f {
+        "and" | "or" => joined(alloc, builder, f, a, b),
+        "is_eq" | "noteq" | "greater" | "greatereq" | "less" | "lesseq" => {
+            compared(alloc, builder, f, a, b)
+        }
+        "add" | "sub" | "mul" => calculated(alloc, builder, f, a, b),
+        _ => contained(alloc, builder, f, a, b),
+    }
+}
+
+fn joined<T: Data>(
     alloc: Global,
     builder: ExprBuilder<T>,
     f: &str,
@@ -197,37 +269,57 @@ fn connected<T: Data>(
 ) -> Result<Expr<T>, NoAnswer> {
     match f {
         "and" => Ok(builder.and(alloc, a, b)?),
-        "or" => Ok(builder.or(alloc, a, b)?),
-        "noteq" => Ok(builder.noteq(alloc, a, b)?),
-        "greater" => Ok(builder.greater(alloc, a, b)?),
-        "greatereq" => Ok(builder.greatereq(alloc, a, b)?),
-        _ => operated(alloc, builder, f, a, b),
+        _ => Ok(builder.or(alloc, a, b)?),
     }
 }
 
-fn operated<T: Data>(
+fn compared<T: Data>(
     alloc: Global,
     builder: ExprBuilder<T>,
     f: &str,
     a: Expr<T>,
     b: Expr<T>,
 ) -> Result<Expr<T>, NoAnswer> {
-    let made = match f {
-        "is_eq" => builder.is_eq(alloc, a, b),
-        "less" => builder.less(alloc, a, b),
-        "lesseq" => builder.lesseq(alloc, a, b),
-        "add" => builder.add(alloc, a, b),
-        "sub" => builder.sub(alloc, a, b),
-        "mul" => builder.mul(alloc, a, b),
-        "is_in" => builder.is_in(alloc, a, b),
-        "contains" => builder.contains(alloc, a, b),
-        "contains_all" => builder.contains_all(alloc, a, b),
-        "contains_any" => builder.contains_any(alloc, a, b),
-        "get_tag" => builder.get_tag(alloc, a, b),
-        "has_tag" => builder.has_tag(alloc, a, b),
-        _ => return Err(NoAnswer::NotTaken),
-    };
-    Ok(made?)
+    match f {
+        "is_eq" => Ok(builder.is_eq(alloc, a, b)?),
+        "noteq" => Ok(builder.noteq(alloc, a, b)?),
+        "greater" => Ok(builder.greater(alloc, a, b)?),
+        "greatereq" => Ok(builder.greatereq(alloc, a, b)?),
+        "less" => Ok(builder.less(alloc, a, b)?),
+        _ => Ok(builder.lesseq(alloc, a, b)?),
+    }
+}
+
+fn calculated<T: Data>(
+    alloc: Global,
+    builder: ExprBuilder<T>,
+    f: &str,
+    a: Expr<T>,
+    b: Expr<T>,
+) -> Result<Expr<T>, NoAnswer> {
+    match f {
+        "add" => Ok(builder.add(alloc, a, b)?),
+        "sub" => Ok(builder.sub(alloc, a, b)?),
+        _ => Ok(builder.mul(alloc, a, b)?),
+    }
+}
+
+fn contained<T: Data>(
+    alloc: Global,
+    builder: ExprBuilder<T>,
+    f: &str,
+    a: Expr<T>,
+    b: Expr<T>,
+) -> Result<Expr<T>, NoAnswer> {
+    match f {
+        "is_in" => Ok(builder.is_in(alloc, a, b)?),
+        "contains" => Ok(builder.contains(alloc, a, b)?),
+        "contains_all" => Ok(builder.contains_all(alloc, a, b)?),
+        "contains_any" => Ok(builder.contains_any(alloc, a, b)?),
+        "get_tag" => Ok(builder.get_tag(alloc, a, b)?),
+        "has_tag" => Ok(builder.has_tag(alloc, a, b)?),
+        _ => Err(NoAnswer::NotTaken),
+    }
 }
 
 fn of_three<T: Data>(
@@ -239,18 +331,41 @@ fn of_three<T: Data>(
     c: &Part,
 ) -> Result<Expr<T>, NoAnswer> {
     match f {
-        "binary_app" => {
-            let op = binary(a.word()?)?;
-            Ok(builder.binary_app(alloc, op, T::read(alloc, b)?, T::read(alloc, c)?)?)
-        }
-        "ite" => {
-            let (test, then) = (T::read(alloc, a)?, T::read(alloc, b)?);
-            Ok(builder.ite(alloc, test, then, T::read(alloc, c)?)?)
-        }
-        "ite_arc" => {
-            let (test, then) = (shared(alloc, a)?, shared(alloc, b)?);
-            Ok(builder.ite_arc(test, then, shared(alloc, c)?))
-        }
+        "binary_app" => binary_app(alloc, builder, binary(a.word()?)?, b, c),
+        "ite" => ite(alloc, builder, a, b, c),
+        "ite_arc" => ite_arc(alloc, builder, a, b, c),
         _ => Err(NoAnswer::NotTaken),
     }
+}
+
+fn binary_app<T: Data>(
+    alloc: Global,
+    builder: ExprBuilder<T>,
+    op: BinaryOp,
+    a: &Part,
+    b: &Part,
+) -> Result<Expr<T>, NoAnswer> {
+    Ok(builder.binary_app(alloc, op, T::read(alloc, a)?, T::read(alloc, b)?)?)
+}
+
+fn ite<T: Data>(
+    alloc: Global,
+    builder: ExprBuilder<T>,
+    a: &Part,
+    b: &Part,
+    c: &Part,
+) -> Result<Expr<T>, NoAnswer> {
+    let (test, then) = (T::read(alloc, a)?, T::read(alloc, b)?);
+    Ok(builder.ite(alloc, test, then, T::read(alloc, c)?)?)
+}
+
+fn ite_arc<T: Data>(
+    alloc: Global,
+    builder: ExprBuilder<T>,
+    a: &Part,
+    b: &Part,
+    c: &Part,
+) -> Result<Expr<T>, NoAnswer> {
+    let (test, then) = (shared(alloc, a)?, shared(alloc, b)?);
+    Ok(builder.ite_arc(test, then, shared(alloc, c)?))
 }

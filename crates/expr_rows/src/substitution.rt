@@ -26,10 +26,15 @@ pub fn substituted(alloc: Global, e: &Expr, env: &Part) -> Result<Expr, NoAnswer
 pub fn typed(alloc: Global, e: &Expr, env: &Part) -> Result<String, NoAnswer> {
     match substituted_typed(alloc, e, env)? {
         Ok(e) => Ok(format!(in alloc; "ok {}", sketch(alloc, &e)?)?),
-        Err(SubstitutionError::TypeError { expected, actual }) => {
-            clash_text(alloc, &expected, &actual)
-        }
-        Err(SubstitutionError::Memory) => Err(NoAnswer::Memory),
+        Err(error) => refusal_of(alloc, &error),
+    }
+}
+
+/// The types that clash, if that is why.
+pub fn refusal_of(alloc: Global, error: &SubstitutionError) -> Result<String, NoAnswer> {
+    match error {
+        SubstitutionError::TypeError { expected, actual } => clash_text(alloc, expected, actual),
+        SubstitutionError::Memory => Err(NoAnswer::Memory),
     }
 }
 

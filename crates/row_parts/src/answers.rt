@@ -1,9 +1,11 @@
 //! What answers are written in.
+use crate::answer::Answer;
 use crate::no_answer::NoAnswer;
 use cedar_names::Loc;
-use std::alloc::Global;
+use cedar_terms::Escaped;
+use std::alloc::{AllocError, Global};
 use std::cmp::Ordering;
-use std::hash::{DefaultHasher, Hash, Hasher};
+use std::fmt::Display;
 
 /// `3..7`, and `-` where there is no place.
 pub fn place(alloc: Global, loc: Option<&Loc>) -> Result<String, NoAnswer> {
@@ -11,6 +13,30 @@ pub fn place(alloc: Global, loc: Option<&Loc>) -> Result<String, NoAnswer> {
         None => Ok(format!(in alloc; "-")?),
         Some(loc) => Ok(format!(in alloc; "{}..{}", loc.start, loc.stop)?),
     }
+}
+
+/// `3..7 of "TEXT"`, and `-` where there is no place.
+pub fn place_in_text(alloc: Global, loc: Option<&Loc>) -> Result<String, NoAnswer> {
+    match loc {
+        None => Ok(format!(in alloc; "-")?),
+        Some(loc) => {
+            let (start, stop, text) = (loc.start, loc.stop, Escaped(loc.src.as_str()));
+            Ok(format!(in alloc; "{start}..{stop} of \"{text}\"")?)
+        }
+    }
+}
+
+/// A text in quotes, with its escapes.
+pub fn quoted(alloc: Global, text: &str) -> Result<String, NoAnswer> {
+    Ok(format!(in alloc; "\"{}\"", Escaped(text))?)
+}
+
+/// The text of a value, where there was memory to make it.
+pub fn shown<T: Display + Drop>(
+    alloc: Global,
+    made: Result<T, AllocError>,
+) -> Result<String, NoAnswer> {
+    Answer::new(alloc).allocated(made).end()
 }
 
 /// `true` or `false`.
@@ -34,20 +60,5 @@ pub fn join(text: &mut String, item: &str) -> Result<(), NoAnswer> {
         text.push_str(" | ")?;
     }
     text.push_str(item)?;
-    Ok(())
-}
-
-/// What a value feeds std's hasher, as one number.
-pub fn hash<T: Hash>(value: &T) -> u64 {
-    let mut state = DefaultHasher::new();
-    value.hash(&mut state);
-    state.finish()
-}
-
-/// Refuses comparisons that do not agree: equal is ordered as equal, and hashes alike.
-pub fn agree(equal: bool, order: Ordering, hash_alike: bool) -> Result<(), NoAnswer> {
-    if equal != (order == Ordering::Equal) || equal && !hash_alike {
-        return Err(NoAnswer::Disagree("equality, order and hash"));
-    }
     Ok(())
 }

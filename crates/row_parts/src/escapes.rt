@@ -85,7 +85,13 @@ fn step(at: Escape, c: char) -> Result<(Escape, Option<char>), NoAnswer> {
 }
 
 fn character(number: Option<u32>) -> Result<char, NoAnswer> {
-    number.and_then(char::from_u32).ok_or(NoAnswer::NotTaken)
+    match number {
+        Some(number) => match char::from_u32(number) {
+            Some(c) => Ok(c),
+            None => Err(NoAnswer::NotTaken),
+        },
+        None => Err(NoAnswer::NotTaken),
+    }
 }
 
 // The number with one more digit.
@@ -96,7 +102,10 @@ fn with_digit(number: Option<u32>, c: char) -> Result<u32, NoAnswer> {
     let Some(shifted) = number.unwrap_or(0).checked_mul(16) else {
         return Err(NoAnswer::NotTaken);
     };
-    shifted.checked_add(digit).ok_or(NoAnswer::NotTaken)
+    match shifted.checked_add(digit) {
+        Some(number) => Ok(number),
+        None => Err(NoAnswer::NotTaken),
+    }
 }
 
 fn ended(at: Escape) -> Result<(), NoAnswer> {

@@ -2,16 +2,24 @@
 //! types, patterns and places that they stand for. `docs/CALLS.md` describes the language.
 #![tactic(auto)]
 
+mod answer;
 mod answers;
+mod comparisons;
+mod copied;
 mod escapes;
 mod no_answer;
 mod part;
+mod places;
 mod terms;
 
-pub use crate::answers::{agree, boolean, hash, join, place, sign};
+pub use crate::answer::{Answer, ok};
+pub use crate::answers::{boolean, join, place, place_in_text, quoted, shown, sign};
+pub use crate::comparisons::{agreed, compare, equal, hash, same};
+pub use crate::copied::{Copied, copy_of};
 pub use crate::escapes::{pattern, text};
 pub use crate::no_answer::NoAnswer;
 pub use crate::part::{Part, parts};
+pub use crate::places::{at_place, count, loc, maybe_place, name_at, placed_name};
 pub use crate::terms::{
-    count, internal_name, literal, loc, name, namespace, shared_text, term_type, word_literal,
+    internal_name, literal, name, namespace, parsed, plain, shared_text, term_type, word_literal,
 };

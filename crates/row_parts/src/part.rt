@@ -4,7 +4,7 @@ use std::alloc::Global;
 use std::mem;
 
 /// A part of a row. What stands between quotes still has its escapes.
-#[derive(Debug, Drop)]
+#[derive(Drop)]
 pub enum Part<'a> {
     /// `word`
     Word(&'a str),
@@ -42,7 +42,8 @@ impl<'a> Part<'a> {
     }
 }
 
-// Where the reader is: between two parts, in a word, or in a text behind a type, each since an index.
+// Where the reader is: between two parts, in a word, or in a text behind a type, each since an
+// index.
 #[derive(Clone, Copy)]
 enum At<'a> {
     Between,
@@ -150,5 +151,8 @@ fn between<'a>(
 }
 
 fn slice(row: &str, start: usize, stop: usize) -> Result<&str, NoAnswer> {
-    row.get(start..stop).ok_or(NoAnswer::NotTaken)
+    match row.get(start..stop) {
+        Some(slice) => Ok(slice),
+        None => Err(NoAnswer::NotTaken),
+    }
 }

@@ -2,19 +2,20 @@
 use crate::escapes::unescaped;
 use crate::no_answer::NoAnswer;
 use crate::part::Part;
-use cedar_names::{FromNormalizedStr, InternalName, Loc, Name, ParseErrors};
+use cedar_names::{FromNormalizedStr, InternalName, Name, ParseErrors};
 use cedar_terms::{EntityType, EntityUID, Literal, Type};
 use std::alloc::Global;
+use std::convert::TryFrom;
 use std::rc::RcStr;
 
 /// The name that a word spells.
 pub fn name(alloc: Global, word: &str) -> Result<Name, NoAnswer> {
-    read(Name::from_normalized_str(alloc, word))
+    parsed(Name::from_normalized_str(alloc, word))
 }
 
 /// The internal name that a word spells.
 pub fn internal_name(alloc: Global, part: &Part) -> Result<InternalName, NoAnswer> {
-    read(InternalName::from_normalized_str(alloc, part.word()?))
+    parsed(InternalName::from_normalized_str(alloc, part.word()?))
 }
 
 /// The internal name that a word spells; none for `-`.
@@ -25,7 +26,16 @@ pub fn namespace(alloc: Global, part: &Part) -> Result<Option<InternalName>, NoA
     }
 }
 
-fn read<T: Drop>(read: Result<T, ParseErrors>) -> Result<T, NoAnswer> {
+/// The plain name of an internal one.
+pub fn plain(name: InternalName) -> Result<Name, NoAnswer> {
+    match Name::try_from(name) {
+        Ok(name) => Ok(name),
+        Err(_) => Err(NoAnswer::NotTaken),
+    }
+}
+
+/// What was read from a text, where it could be.
+pub fn parsed<T: Drop>(read: Result<T, ParseErrors>) -> Result<T, NoAnswer> {
     match read {
         Ok(name) => Ok(name),
         Err(ParseErrors::Memory) => Err(NoAnswer::Memory),
@@ -50,13 +60,16 @@ pub fn literal(alloc: Global, part: &Part) -> Result<Option<Literal>, NoAnswer> 
 /// The Boolean or the number that a word spells, if it does.
 pub fn word_literal(word: &str) -> Option<Literal> {
     match word {
-        "true" => Some(Literal::from(true)),
-        "false" => Some(Literal::from(false)),
+        "true" => Some(Literal::Bool(true)),
+        "false" => Some(Literal::Bool(false)),
         _ => {
             if word.starts_with('+') {
                 return None;
             }
-            word.parse::<i64>().ok().map(Literal::from)
+            match word.parse() {
+                Ok(number) => Some(Literal::Long(number)),
+                Err(_) => None,
+            }
         }
     }
 }
@@ -95,14 +108,4 @@ fn named_type(head: &str, name: Name) -> Result<Type, NoAnswer> {
         "extension" => Ok(Type::Extension { name }),
         _ => Err(NoAnswer::NotTaken),
     }
-}
-
-/// The place from one number to another, in the text `src`.
-pub fn loc(alloc: Global, start: &Part, stop: &Part) -> Result<Loc, NoAnswer> {
-    Ok(Loc::new(count(start)?, count(stop)?, RcStr::from_str(alloc, "src")?))
-}
-
-/// The number that a word spells.
-pub fn count(part: &Part) -> Result<usize, NoAnswer> {
-    part.word()?.parse().map_err(|_| NoAnswer::NotTaken)
 }

@@ -1,17 +1,17 @@
 //! The expressions that parts of a row stand for, each node as it is written and never simplified.
 use cedar_builders::{ExprBuilder as _, ExpressionConstructionError};
 use cedar_exprs::{Expr, ExprBuilder, ExprKind};
-use cedar_names::{Loc, NonEmpty, SlotId};
-use cedar_terms::{BinaryOp, EntityType, UnaryOp, Unknown, Var};
+use cedar_names::{Loc, Name, NonEmpty, SlotId};
+use cedar_terms::{BinaryOp, EntityType, Pattern, UnaryOp, Unknown, Var};
 use row_parts::{
     NoAnswer, Part, literal, loc, name, pattern, shared_text, term_type, word_literal,
 };
 use std::alloc::Global;
 use std::rc::{Rc, RcStr};
 
-/// The expression that a part stands for: as the sketch writes it, beside it `(exthas E "a" ..)` and
-/// `(@ 3 7 E)`, E at the place 3..7; and of shared nodes `(thrice E)`, an `if` of E three times, and
-/// `(thirds E)`, an `if` of a set of E twice and of another set of the same row.
+/// The expression that a part stands for: as the sketch writes it, beside it `(exthas E "a" ..)`
+/// and `(@ 3 7 E)`, E at the place 3..7; and of shared nodes `(thrice E)`, an `if` of E three
+/// times, and `(thirds E)`, an `if` of a set of E twice and of another set of the same row.
 #[cycle(trees)]
 pub fn expr(alloc: Global, part: &Part) -> Result<Expr, NoAnswer> {
     match part {
@@ -85,9 +85,13 @@ fn thrice(alloc: Global, child: Expr) -> Result<Expr, NoAnswer> {
 // An `if` of one shared set twice, and of a set that shares its row.
 fn thirds(alloc: Global, member: Expr) -> Result<Expr, NoAnswer> {
     let row = Rc::new(alloc, row(alloc, member)?)?;
-    let twice = Rc::new(alloc, made(ExprKind::Set(row.clone()?)))?;
-    let last = Rc::new(alloc, made(ExprKind::Set(row)))?;
+    let twice = shared_set(alloc, row.clone()?)?;
+    let last = shared_set(alloc, row)?;
     Ok(Expr::ite_arc(twice.clone()?, twice, last))
+}
+
+fn shared_set(alloc: Global, row: Rc<Vec<Expr>>) -> Result<Rc<Expr>, NoAnswer> {
+    Ok(Rc::new(alloc, made(ExprKind::Set(row)))?)
 }
 
 fn row(alloc: Global, member: Expr) -> Result<Vec<Expr>, NoAnswer> {
@@ -128,37 +132,40 @@ fn of_two(alloc: Global, op: &str, a: Expr, b: Expr) -> Result<Expr, NoAnswer> {
     match op {
         "and" => Ok(made(ExprKind::And { left, right })),
         "or" => Ok(made(ExprKind::Or { left, right })),
-        _ => {
-            let op = binary(op)?;
-            Ok(made(ExprKind::BinaryApp {
-                op,
-                arg1: left,
-                arg2: right,
-            }))
-        }
+        _ => Ok(applied(binary(op)?, left, right)),
     }
+}
+
+fn applied(op: BinaryOp, arg1: Rc<Expr>, arg2: Rc<Expr>) -> Expr {
+    made(ExprKind::BinaryApp { op, arg1, arg2 })
 }
 
 fn of_text(alloc: Global, op: &str, e: Expr, b: &Part) -> Result<Expr, NoAnswer> {
     let expr = Rc::new(alloc, e)?;
     match op {
-        "get" => {
-            let attr = shared_text(alloc, b)?;
-            Ok(made(ExprKind::GetAttr { expr, attr }))
-        }
-        "has" => {
-            let attr = shared_text(alloc, b)?;
-            Ok(made(ExprKind::HasAttr { expr, attr }))
-        }
-        "like" => {
-            let pattern = pattern(alloc, b)?;
-            Ok(made(ExprKind::Like { expr, pattern }))
-        }
-        _ => {
-            let entity_type = EntityType::from(name(alloc, b.word()?)?);
-            Ok(made(ExprKind::Is { expr, entity_type }))
-        }
+        "get" => Ok(get(expr, shared_text(alloc, b)?)),
+        "has" => Ok(has(alloc, expr, shared_text(alloc, b)?)),
+        "like" => Ok(like(expr, pattern(alloc, b)?)),
+        _ => Ok(is(expr, name(alloc, b.word()?)?)),
     }
+}
+
+fn get(expr: Rc<Expr>, attr: RcStr) -> Expr {
+    made(ExprKind::GetAttr { expr, attr })
+}
+
+fn has(alloc: Global, expr: Rc<Expr>, attr: RcStr) -> Expr {
+    let attrs = NonEmpty::new(attr, Vec::new(alloc));
+    made(ExprKind::HasAttr { expr, attrs })
+}
+
+fn like(expr: Rc<Expr>, pattern: Pattern) -> Expr {
+    made(ExprKind::Like { expr, pattern })
+}
+
+fn is(expr: Rc<Expr>, ty: Name) -> Expr {
+    let entity_type = EntityType::from(ty);
+    made(ExprKind::Is { expr, entity_type })
 }
 
 // The part of a count of parts of its own, from the list's word on.
@@ -201,11 +208,15 @@ fn call(alloc: Global, parts: &[Part], args: Vec<Expr>) -> Result<Expr, NoAnswer
 
 fn ext_has(alloc: Global, e: Expr, parts: &[Part]) -> Result<Expr, NoAnswer> {
     let expr = Rc::new(alloc, e)?;
+    let attrs = attributes(alloc, parts)?;
+    Ok(made(ExprKind::HasAttr { expr, attrs }))
+}
+
+fn attributes(alloc: Global, parts: &[Part]) -> Result<NonEmpty<RcStr>, NoAnswer> {
     match parts {
         [_, _, first, more @ ..] => {
             let first = shared_text(alloc, first)?;
-            let attrs = NonEmpty::new(first, texts(alloc, more)?);
-            Ok(made(ExprKind::ExtHasAttr { expr, attrs }))
+            Ok(NonEmpty::new(first, texts(alloc, more)?))
         }
         _ => Err(NoAnswer::NotTaken),
     }

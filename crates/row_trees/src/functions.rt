@@ -14,15 +14,16 @@ use std::rc::RcStr;
 /// `nullary`, `unary`, `binary`, `ternary` and `variadic` answer the record of their arguments,
 /// `first` the first of two where that is a number, else a fault. `unknown` answers an unknown and
 /// has no return type. `faulty`, `wanting`, `method`, `maker` and `nested` take one argument and
-/// answer no value: a fault, that there is no memory, or an unknown. `method` is called as a method;
-/// `maker` is declared to make keyed values of texts, `nested` to make records of extension values.
+/// answer no value: a fault, that there is no memory, or an unknown. `method` is called as a
+/// method; `maker` is declared to make keyed values of texts, `nested` to make records of extension
+/// values.
 pub fn function(alloc: Global, f: &str, word: &str) -> Result<ExtensionFunction<Keyed>, NoAnswer> {
     let f = name(alloc, f)?;
     match word {
         "nullary" => Ok(nullary(alloc, f)),
         "unary" => unary(alloc, f),
-        "binary" => binary(alloc, f, true),
-        "first" => binary(alloc, f, false),
+        "binary" => binary(alloc, f),
+        "first" => first(alloc, f),
         "ternary" => ternary(alloc, f),
         "variadic" => variadic(alloc, f),
         "unknown" => unknown(alloc, f),
@@ -31,27 +32,12 @@ pub fn function(alloc: Global, f: &str, word: &str) -> Result<ExtensionFunction<
 }
 
 fn without_value(alloc: Global, f: Name, word: &str) -> Result<ExtensionFunction<Keyed>, NoAnswer> {
-    let function = CallStyle::FunctionStyle;
-    let (text, long) = (SchemaType::String, SchemaType::Long);
     match word {
-        "faulty" => declared(alloc, f, function, NoValue::Fault, long, text),
-        "wanting" => declared(alloc, f, function, NoValue::Memory, long, text),
-        "method" => declared(
-            alloc,
-            f,
-            CallStyle::MethodStyle,
-            NoValue::Unknown,
-            long,
-            text,
-        ),
-        "maker" => {
-            let keyed = extension(alloc, "keyed")?;
-            declared(alloc, f, function, NoValue::Unknown, keyed, text)
-        }
-        "nested" => {
-            let record = nested(alloc)?;
-            declared(alloc, f, function, NoValue::Unknown, record, text)
-        }
+        "faulty" => of_text(alloc, f, NoValue::Fault, SchemaType::Long),
+        "wanting" => of_text(alloc, f, NoValue::Memory, SchemaType::Long),
+        "method" => method(alloc, f, SchemaType::Long, SchemaType::String),
+        "maker" => of_text(alloc, f, NoValue::Unknown, extension(alloc, "keyed")?),
+        "nested" => of_text(alloc, f, NoValue::Unknown, nested(alloc)?),
         _ => Err(NoAnswer::NotTaken),
     }
 }
@@ -81,18 +67,27 @@ fn unary(alloc: Global, f: Name) -> Result<ExtensionFunction<Keyed>, NoAnswer> {
     )?)
 }
 
-fn binary(alloc: Global, f: Name, is_echo: bool) -> Result<ExtensionFunction<Keyed>, NoAnswer> {
-    let types = (SchemaType::Long, SchemaType::String);
-    let function = CallStyle::FunctionStyle;
-    if is_echo {
-        let attrs = BTreeMap::new(alloc);
-        let func = TwoArguments { is_echo: true };
-        let record = SchemaType::Record { attrs };
-        Ok(ExtensionFunction::binary(alloc, f, function, func, record, types)?)
-    } else {
-        let func = TwoArguments { is_echo: false };
-        Ok(ExtensionFunction::binary(alloc, f, function, func, SchemaType::Long, types)?)
-    }
+fn binary(alloc: Global, f: Name) -> Result<ExtensionFunction<Keyed>, NoAnswer> {
+    let attrs = BTreeMap::new(alloc);
+    Ok(ExtensionFunction::binary(
+        alloc,
+        f,
+        CallStyle::FunctionStyle,
+        TwoArguments { is_echo: true },
+        SchemaType::Record { attrs },
+        (SchemaType::Long, SchemaType::String),
+    )?)
+}
+
+fn first(alloc: Global, f: Name) -> Result<ExtensionFunction<Keyed>, NoAnswer> {
+    Ok(ExtensionFunction::binary(
+        alloc,
+        f,
+        CallStyle::FunctionStyle,
+        TwoArguments { is_echo: false },
+        SchemaType::Long,
+        (SchemaType::Long, SchemaType::String),
+    )?)
 }
 
 fn ternary(alloc: Global, f: Name) -> Result<ExtensionFunction<Keyed>, NoAnswer> {
@@ -132,6 +127,28 @@ fn unknown(alloc: Global, f: Name) -> Result<ExtensionFunction<Keyed>, NoAnswer>
     )?)
 }
 
+// A function of a text that answers no value.
+fn of_text(
+    alloc: Global,
+    f: Name,
+    no_value: NoValue,
+    returns: SchemaType,
+) -> Result<ExtensionFunction<Keyed>, NoAnswer> {
+    let style = CallStyle::FunctionStyle;
+    declared(alloc, f, style, no_value, returns, SchemaType::String)
+}
+
+// A method that answers an unknown.
+fn method(
+    alloc: Global,
+    f: Name,
+    returns: SchemaType,
+    takes: SchemaType,
+) -> Result<ExtensionFunction<Keyed>, NoAnswer> {
+    let style = CallStyle::MethodStyle;
+    declared(alloc, f, style, NoValue::Unknown, returns, takes)
+}
+
 // A function that answers no value, whatever it is declared to return.
 #[tactic(auto, using(cedar_calls::specs::Types::no_value_keeps))]
 fn declared(
@@ -164,53 +181,60 @@ fn extension(alloc: Global, ty: &str) -> Result<SchemaType, NoAnswer> {
 // Records of a keyed value at `b` and a set of addresses at `a`.
 fn nested(alloc: Global) -> Result<SchemaType, NoAnswer> {
     let mut attrs = BTreeMap::new(alloc);
-    drop(attrs.insert(RcStr::from_str(alloc, "b")?, extension(alloc, "keyed")?)?);
-    let element_ty = Box::new(alloc, extension(alloc, "ipaddr")?)?;
-    drop(attrs.insert(RcStr::from_str(alloc, "a")?, SchemaType::Set { element_ty })?);
+    put(alloc, &mut attrs, "b", extension(alloc, "keyed")?)?;
+    put(alloc, &mut attrs, "a", addresses(alloc)?)?;
     Ok(SchemaType::Record { attrs })
 }
 
-/// A table of functions: `ip` makes an address, `isIpv4` is a method, `lng` answers a number, `noret`
-/// has no return type.
+fn put(
+    alloc: Global,
+    attrs: &mut BTreeMap<RcStr, SchemaType>,
+    key: &str,
+    ty: SchemaType,
+) -> Result<(), NoAnswer> {
+    let key = RcStr::from_str(alloc, key)?;
+    drop(attrs.insert(key, ty)?);
+    Ok(())
+}
+
+fn addresses(alloc: Global) -> Result<SchemaType, NoAnswer> {
+    let element_ty = Box::new(alloc, extension(alloc, "ipaddr")?)?;
+    Ok(SchemaType::Set { element_ty })
+}
+
+/// A table of functions: `ip` makes an address, `isIpv4` is a method, `lng` answers a number,
+/// `noret` has no return type.
 pub fn table(alloc: Global) -> Result<Extensions<Keyed>, NoAnswer> {
+    let mut extensions = Vec::new(alloc);
+    extensions.push(all(alloc)?)?;
+    Ok(Extensions::new(extensions))
+}
+
+fn all(alloc: Global) -> Result<Extension<Keyed>, NoAnswer> {
+    let functions = functions(alloc)?;
+    Ok(Extension::new(alloc, name(alloc, "all")?, functions, Vec::new(alloc))?)
+}
+
+fn functions(alloc: Global) -> Result<Vec<ExtensionFunction<Keyed>>, NoAnswer> {
     let mut functions = Vec::new(alloc);
     functions.push(ip(alloc)?)?;
     functions.push(is_ipv4(alloc)?)?;
     functions.push(lng(alloc)?)?;
     functions.push(unknown(alloc, name(alloc, "noret")?)?)?;
-    let mut extensions = Vec::new(alloc);
-    extensions.push(Extension::new(alloc, name(alloc, "all")?, functions, Vec::new(alloc))?)?;
-    Ok(Extensions::new(extensions))
+    Ok(functions)
 }
 
 fn ip(alloc: Global) -> Result<ExtensionFunction<Keyed>, NoAnswer> {
-    let (f, address) = (name(alloc, "ip")?, extension(alloc, "ipaddr")?);
-    let style = CallStyle::FunctionStyle;
-    declared(
-        alloc,
-        f,
-        style,
-        NoValue::Unknown,
-        address,
-        SchemaType::String,
-    )
+    let f = name(alloc, "ip")?;
+    of_text(alloc, f, NoValue::Unknown, extension(alloc, "ipaddr")?)
 }
 
 fn is_ipv4(alloc: Global) -> Result<ExtensionFunction<Keyed>, NoAnswer> {
-    let (f, address) = (name(alloc, "isIpv4")?, extension(alloc, "ipaddr")?);
-    let style = CallStyle::MethodStyle;
-    declared(alloc, f, style, NoValue::Unknown, SchemaType::Bool, address)
+    let f = name(alloc, "isIpv4")?;
+    method(alloc, f, SchemaType::Bool, extension(alloc, "ipaddr")?)
 }
 
 fn lng(alloc: Global) -> Result<ExtensionFunction<Keyed>, NoAnswer> {
     let f = name(alloc, "lng")?;
-    let style = CallStyle::FunctionStyle;
-    declared(
-        alloc,
-        f,
-        style,
-        NoValue::Unknown,
-        SchemaType::Long,
-        SchemaType::String,
-    )
+    of_text(alloc, f, NoValue::Unknown, SchemaType::Long)
 }

@@ -93,12 +93,28 @@ type Answer = Result<ExtensionOutputValue<Keyed>, EvaluationError>;
 fn record_of(alloc: Global, args: &[&Value<Keyed>]) -> Answer
     ensures { Keeps (λ _. unqualified (codes "keyed")) (Some RecordType) result }
 {
+    let record = Value::record(alloc, pairs_of(alloc, args)?, None)?;
+    Ok(ExtensionOutputValue::from(record))
+}
+
+fn pairs_of(
+    alloc: Global,
+    args: &[&Value<Keyed>],
+) -> Result<Vec<(RcStr, Value<Keyed>)>, AllocError> {
     let mut pairs = Vec::new(alloc);
     for (index, arg) in args.iter().enumerate() {
-        let key = RcStr::from_string(format!(in alloc; "a{index}")?)?;
-        pairs.push((key, (*arg).clone(alloc)?))?;
+        pairs.push(pair_of(alloc, index, arg)?)?;
     }
-    Ok(ExtensionOutputValue::from(Value::record(alloc, pairs, None)?))
+    Ok(pairs)
+}
+
+fn pair_of(
+    alloc: Global,
+    index: usize,
+    arg: &Value<Keyed>,
+) -> Result<(RcStr, Value<Keyed>), AllocError> {
+    let key = RcStr::from_string(format!(in alloc; "a{index}")?)?;
+    Ok((key, arg.clone(alloc)?))
 }
 
 // The unknown whose name is the argument's text.

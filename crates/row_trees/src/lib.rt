@@ -1,5 +1,5 @@
-//! The expressions, values and extension functions that parts of a row stand for, and how rows write
-//! expressions. `docs/CALLS.md` describes the language.
+//! The expressions, values and extension functions that parts of a row stand for, and how rows
+//! write expressions. `docs/CALLS.md` describes the language.
 #![tactic(auto)]
 
 mod expr_parts;

@@ -3,7 +3,7 @@ use crate::expr_parts::expr;
 use crate::keyed::Keyed;
 use crate::sketched::sketch;
 use cedar_exprs::{Expr, ExprKind, RestrictedExpr, RestrictedExprError};
-use cedar_names::Loc;
+use cedar_names::{Loc, Name};
 use cedar_terms::Literal;
 use cedar_values::{RepresentableExtensionValue, Set, Value, ValueKind};
 use row_parts::{NoAnswer, Part, count, literal, loc, name, shared_text, text};
@@ -17,10 +17,20 @@ pub type KeyedValue = Value<Keyed>;
 /// What unknowns are bound to: `(("x" V) ..)`; of equal names the last stands.
 pub fn bindings(alloc: Global, part: &Part) -> Result<HashMap<RcStr, KeyedValue>, NoAnswer> {
     let mut values = HashMap::new(alloc);
-    for (key, bound) in value_pairs(alloc, part.list()?, 0)? {
-        drop(values.insert(key, bound)?);
+    for part in part.list()? {
+        put(alloc, &mut values, part)?;
     }
     Ok(values)
+}
+
+fn put(
+    alloc: Global,
+    values: &mut HashMap<RcStr, KeyedValue>,
+    part: &Part,
+) -> Result<(), NoAnswer> {
+    let (key, bound) = pair(alloc, part)?;
+    drop(values.insert(key, bound)?);
+    Ok(())
 }
 
 /// The value that a part stands for: a literal, `(set V ..)`, `(setfrom V ..)`, `(setlits V ..)`,
@@ -112,11 +122,19 @@ fn record(alloc: Global, pairs: Vec<(RcStr, KeyedValue)>) -> Result<KeyedValue, 
 }
 
 fn given(alloc: Global, key: i64, note: String) -> Result<KeyedValue, NoAnswer> {
+    let args = key_and_note(alloc, key, RcStr::from_string(note)?)?;
+    called(alloc, key, &ext_call(alloc, args)?)
+}
+
+fn key_and_note(alloc: Global, key: i64, note: RcStr) -> Result<Vec<Expr>, NoAnswer> {
     let mut args = Vec::new(alloc);
     args.push(Expr::val(Literal::from(key)))?;
-    args.push(Expr::val(Literal::from(RcStr::from_string(note)?)))?;
-    let call = Expr::call_extension_fn(alloc, name(alloc, "ext")?, args)?;
-    called(alloc, key, &call)
+    args.push(Expr::val(Literal::from(note)))?;
+    Ok(args)
+}
+
+fn ext_call(alloc: Global, args: Vec<Expr>) -> Result<Expr, NoAnswer> {
+    Ok(Expr::call_extension_fn(alloc, name(alloc, "ext")?, args)?)
 }
 
 fn lazy(alloc: Global, key: i64) -> Result<KeyedValue, NoAnswer> {
@@ -191,16 +209,22 @@ fn number(alloc: Global, part: &Part) -> Result<i64, NoAnswer> {
 fn called(alloc: Global, key: i64, call: &Expr) -> Result<KeyedValue, NoAnswer> {
     match kind_of(call) {
         ExprKind::ExtensionFunctionApp { fn_name, args } => {
-            let restricted = restricted(alloc, args)?;
             let keyed = Keyed::new(key, sketch(alloc, call)?);
-            let func = fn_name.clone(alloc)?;
-            extension(
-                alloc,
-                RepresentableExtensionValue::new(keyed, func, restricted),
-            )
+            represented(alloc, keyed, fn_name, args)
         }
         _ => Err(NoAnswer::NotTaken),
     }
+}
+
+fn represented(
+    alloc: Global,
+    keyed: Keyed,
+    fn_name: &Name,
+    args: &[Expr],
+) -> Result<KeyedValue, NoAnswer> {
+    let func = fn_name.clone(alloc)?;
+    let args = restricted(alloc, args)?;
+    extension(alloc, RepresentableExtensionValue::new(keyed, func, args))
 }
 
 fn kind_of(e: &Expr) -> &ExprKind {

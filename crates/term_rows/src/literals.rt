@@ -1,8 +1,10 @@
 //! Literals and entities.
-use crate::compared::compared;
-use crate::placed::{place_in_text, placed_literal, placed_name, plain};
+use crate::placed::placed_literal;
 use cedar_terms::{EntityType, EntityUID, Escaped, Literal, Pattern, PatternElem, StaticallyTyped};
-use row_parts::{NoAnswer, Part, count, text};
+use row_parts::{
+    Answer, NoAnswer, Part, compare, copy_of, count, place_in_text, placed_name, plain, quoted,
+    text,
+};
 use std::alloc::Global;
 use std::rc::{Rc, RcStr};
 
@@ -39,110 +41,144 @@ fn entity_type(alloc: Global, part: &Part) -> Result<EntityType, NoAnswer> {
 }
 
 fn compared_literals(alloc: Global, a: &Part, b: &Part) -> Result<String, NoAnswer> {
-    let (a, b) = (placed_literal(alloc, a)?, placed_literal(alloc, b)?);
-    compared(alloc, &a, &b)
+    compare(alloc, placed_literal(alloc, a), placed_literal(alloc, b))
 }
 
 fn compared_entities(alloc: Global, a: &Part, b: &Part) -> Result<String, NoAnswer> {
-    let (a, b) = (entity(alloc, a)?, entity(alloc, b)?);
-    compared(alloc, &*a, &*b)
+    compare(alloc, entity(alloc, a), entity(alloc, b))
 }
 
 fn compared_entity_types(alloc: Global, a: &Part, b: &Part) -> Result<String, NoAnswer> {
-    let (a, b) = (entity_type(alloc, a)?, entity_type(alloc, b)?);
-    compared(alloc, &a, &b)
-}
-
-fn given_literal(alloc: Global, part: &Part) -> Result<String, NoAnswer> {
-    let literal = placed_literal(alloc, part)?;
-    told(alloc, &literal)
+    compare(alloc, entity_type(alloc, a), entity_type(alloc, b))
 }
 
 // What a copy of the literal says of itself.
-fn told(alloc: Global, literal: &Literal) -> Result<String, NoAnswer> {
-    let copy = literal.clone(alloc)?;
-    let ty = copy.type_of(alloc)?.to_string(alloc)?;
-    Ok(format!(in alloc; "{copy} ref={} type={ty}", copy.is_ref())?)
+fn given_literal(alloc: Global, part: &Part) -> Result<String, NoAnswer> {
+    let copy = copy_of(alloc, placed_literal(alloc, part))?;
+    Answer::new(alloc)
+        .word(&copy)
+        .labelled("ref=", &copy.is_ref())
+        .labelled_allocated("type=", copy.type_of(alloc))
+        .end()
 }
 
 fn given_entity(alloc: Global, part: &Part) -> Result<String, NoAnswer> {
     let uid = entity(alloc, part)?;
-    told_entity(alloc, &uid)
+    told_copy(alloc, &uid)
 }
 
 fn with_eid(alloc: Global, part: &Part) -> Result<String, NoAnswer> {
+    let uid = entity_with_eid(alloc, part)?;
+    told_copy(alloc, &uid)
+}
+
+fn entity_with_eid(alloc: Global, part: &Part) -> Result<EntityUID, NoAnswer> {
     let eid = text(alloc, part)?;
-    let uid = EntityUID::with_eid(alloc, eid.as_str())?;
-    told_entity(alloc, &uid)
+    Ok(EntityUID::with_eid(alloc, eid.as_str())?)
 }
 
-// What a copy of the entity says of itself.
-fn told_entity(alloc: Global, uid: &EntityUID) -> Result<String, NoAnswer> {
+// What a copy of the entity and one of its type say of themselves.
+fn told_copy(alloc: Global, uid: &EntityUID) -> Result<String, NoAnswer> {
     let copy = uid.clone(alloc)?;
-    let parts = told_parts(alloc, &copy)?;
-    let of = copy.type_of(alloc)?.to_string(alloc)?;
-    Ok(format!(in alloc; "{copy} {parts} type={of}")?)
+    told(alloc, &copy)
 }
 
-// A copy of its type, its identifier, and the place of the type's name.
-fn told_parts(alloc: Global, uid: &EntityUID) -> Result<String, NoAnswer> {
+fn told(alloc: Global, uid: &EntityUID) -> Result<String, NoAnswer> {
     let ty = uid.entity_type().clone(alloc)?;
-    let loc = place_in_text(alloc, ty.name().loc())?;
-    Ok(format!(in alloc; "{ty} \"{}\" loc={loc}", Escaped(uid.eid()))?)
+    Answer::new(alloc)
+        .word(uid)
+        .word(&ty)
+        .made(quoted(alloc, uid.eid()))
+        .labelled_made("loc=", place_in_text(alloc, ty.name().loc()))
+        .labelled_allocated("type=", uid.type_of(alloc))
+        .end()
 }
 
-// A text by each call that makes it a literal; an entity, owned and shared; else the literal alone.
+// A text by each call that makes it a literal; an entity, owned and shared; else the literal
+// alone.
 fn sources(alloc: Global, part: &Part) -> Result<String, NoAnswer> {
     match placed_literal(alloc, part)? {
         Literal::String(text) => text_sources(alloc, text),
         Literal::EntityUID(uid) => entity_sources(alloc, uid),
-        literal => Ok(format!(in alloc; "{literal}")?),
+        literal => Answer::new(alloc).word(&literal).end(),
     }
 }
 
 fn entity_sources(alloc: Global, uid: Rc<EntityUID>) -> Result<String, NoAnswer> {
-    let owned = Literal::from_uid(alloc, (*uid).clone(alloc)?)?;
-    let shared = Literal::from(uid);
-    Ok(format!(in alloc; "{owned} {shared}")?)
+    Answer::new(alloc)
+        .made(owned_entity(alloc, &uid))
+        .word(&Literal::from(uid))
+        .end()
+}
+
+fn owned_entity(alloc: Global, uid: &EntityUID) -> Result<Literal, NoAnswer> {
+    let copy = uid.clone(alloc)?;
+    Ok(Literal::from_uid(alloc, copy)?)
 }
 
 fn text_sources(alloc: Global, text: RcStr) -> Result<String, NoAnswer> {
-    let borrowed = Literal::from_text(alloc, text.as_str())?;
-    let owned = Literal::from_string(alloc, String::from_str(alloc, text.as_str())?)?;
-    let shared = Literal::from(text);
-    Ok(format!(in alloc; "{borrowed} {owned} {shared}")?)
+    Answer::new(alloc)
+        .allocated(Literal::from_text(alloc, text.as_str()))
+        .made(owned_text(alloc, text.as_str()))
+        .word(&Literal::from(text))
+        .end()
 }
 
-// The escapes of the characters from a code to a code, then the texts of the patterns of each alone.
+fn owned_text(alloc: Global, text: &str) -> Result<Literal, NoAnswer> {
+    let copy = String::from_str(alloc, text)?;
+    Ok(Literal::from_string(alloc, copy)?)
+}
+
+// The escapes of the characters from a code to a code, then the texts of the patterns of each
+// alone.
 fn escapes(alloc: Global, from: &Part, to: &Part) -> Result<String, NoAnswer> {
     let (from, to) = (count(from)?, count(to)?);
-    let (mut texts, mut patterns) = (String::new(alloc), String::new(alloc));
+    Answer::new(alloc)
+        .labelled_made("texts", escaped(alloc, from, to))
+        .labelled_made("patterns", patterns(alloc, from, to))
+        .end()
+}
+
+fn escaped(alloc: Global, from: usize, to: usize) -> Result<String, NoAnswer> {
+    let mut texts = String::new(alloc);
     for code in from..=to {
-        let c = character(code)?;
-        texts.push(' ')?;
-        push_escaped(alloc, &mut texts, c)?;
-        patterns.push(' ')?;
-        push_pattern(alloc, &mut patterns, c)?;
+        push_escaped(alloc, &mut texts, character(code)?)?;
     }
-    Ok(format!(in alloc; "texts{texts} patterns{patterns}")?)
+    Ok(texts)
+}
+
+fn patterns(alloc: Global, from: usize, to: usize) -> Result<String, NoAnswer> {
+    let mut texts = String::new(alloc);
+    for code in from..=to {
+        push_pattern(alloc, &mut texts, character(code)?)?;
+    }
+    Ok(texts)
 }
 
 fn character(code: usize) -> Result<char, NoAnswer> {
-    match u32::try_from(code) {
-        Ok(code) => char::from_u32(code).ok_or(NoAnswer::NotTaken),
-        Err(_) => Err(NoAnswer::NotTaken),
+    let Ok(code) = u32::try_from(code) else {
+        return Err(NoAnswer::NotTaken);
+    };
+    match char::from_u32(code) {
+        Some(c) => Ok(c),
+        None => Err(NoAnswer::NotTaken),
     }
 }
 
 fn push_escaped(alloc: Global, texts: &mut String, c: char) -> Result<(), NoAnswer> {
     let mut text = String::new(alloc);
     text.push(c)?;
-    write!(texts, "{}", Escaped(text.as_str()))?;
+    write!(texts, " {}", Escaped(text.as_str()))?;
     Ok(())
 }
 
-fn push_pattern(alloc: Global, patterns: &mut String, c: char) -> Result<(), NoAnswer> {
-    let elems = vec![in alloc; PatternElem::Char(c)]?;
-    write!(patterns, "{}", Pattern::from_vec(alloc, elems)?)?;
+fn push_pattern(alloc: Global, texts: &mut String, c: char) -> Result<(), NoAnswer> {
+    let pattern = pattern_of(alloc, c)?;
+    write!(texts, " {pattern}")?;
     Ok(())
+}
+
+fn pattern_of(alloc: Global, c: char) -> Result<Pattern, NoAnswer> {
+    let elems = vec![in alloc; PatternElem::Char(c)]?;
+    Ok(Pattern::from_vec(alloc, elems)?)
 }

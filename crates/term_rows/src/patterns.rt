@@ -1,7 +1,8 @@
 //! Patterns.
-use crate::compared::{compared, same};
-use cedar_terms::{Escaped, Pattern, PatternElem, Turns, try_splits};
-use row_parts::{NoAnswer, Part, boolean, count, pattern, text};
+use cedar_terms::{Pattern, PatternElem, Turns, try_splits};
+use row_parts::{
+    Answer, NoAnswer, Part, boolean, compare, copy_of, count, pattern, quoted, same, text,
+};
 use std::alloc::Global;
 use std::rc::Rc;
 
@@ -31,62 +32,71 @@ pub fn answer(alloc: Global, call: &str, args: &[Part]) -> Result<String, NoAnsw
 
 // The text and the length of a copy.
 fn told(alloc: Global, p: &Part) -> Result<String, NoAnswer> {
-    let pattern = pattern(alloc, p)?;
-    let copy = pattern.clone(alloc)?;
+    let copy = copy_of(alloc, pattern(alloc, p))?;
     Ok(format!(in alloc; "\"{copy}\" {}", copy.len())?)
 }
 
 fn compared_patterns(alloc: Global, p: &Part, q: &Part) -> Result<String, NoAnswer> {
-    let (p, q) = (pattern(alloc, p)?, pattern(alloc, q)?);
-    compared(alloc, &p, &q)
+    compare(alloc, pattern(alloc, p), pattern(alloc, q))
 }
 
 fn elements(alloc: Global, p: &Part) -> Result<String, NoAnswer> {
     let pattern = pattern(alloc, p)?;
-    is_remade(alloc, &pattern)?;
+    is_remade(&pattern, of_items(alloc, &pattern))?;
+    is_remade(&pattern, of_elements(alloc, pattern.get_elems()))?;
     told_elements(alloc, &pattern)
 }
 
-// Refuses a pattern that is made anew of its items or of its elements and is not the same.
-fn is_remade(alloc: Global, p: &Pattern) -> Result<(), NoAnswer> {
-    same(p, &Pattern::from_items(alloc, p.iter().copied())?)?;
+// Refuses a pattern that was made anew and is not the same.
+fn is_remade(p: &Pattern, remade: Result<Pattern, NoAnswer>) -> Result<(), NoAnswer> {
+    same(p, &remade?)
+}
+
+fn of_items(alloc: Global, p: &Pattern) -> Result<Pattern, NoAnswer> {
+    Ok(Pattern::from_items(alloc, p.iter().copied())?)
+}
+
+fn of_elements(alloc: Global, elems: &[PatternElem]) -> Result<Pattern, NoAnswer> {
     let mut shared = Vec::new(alloc);
-    for elem in p.iter() {
+    for elem in elems {
         shared.push(*elem)?;
     }
-    same(p, &Pattern::from(Rc::new(alloc, shared)?))
+    Ok(Pattern::from(Rc::new(alloc, shared)?))
 }
 
 fn told_elements(alloc: Global, p: &Pattern) -> Result<String, NoAnswer> {
-    let mut elems = format!(in alloc; "empty={} ", p.is_empty())?;
-    for (index, elem) in p.get_elems().iter().enumerate() {
-        if index > 0 {
-            elems.push(' ')?;
-        }
-        push_element(alloc, &mut elems, *elem)?;
+    let mut elems = Answer::new(alloc);
+    for elem in p.get_elems() {
+        elems = elems.made(told_element(alloc, *elem));
     }
-    Ok(elems)
+    Answer::new(alloc)
+        .labelled("empty=", &p.is_empty())
+        .made(elems.end())
+        .end()
 }
 
-fn push_element(alloc: Global, elems: &mut String, elem: PatternElem) -> Result<(), NoAnswer> {
+fn told_element(alloc: Global, elem: PatternElem) -> Result<String, NoAnswer> {
     match elem {
-        PatternElem::Wildcard => elems.push('*')?,
-        PatternElem::Char(c) => {
-            let mut text = String::new(alloc);
-            text.push(c)?;
-            write!(elems, "\"{}\"", Escaped(text.as_str()))?;
-        }
+        PatternElem::Wildcard => Answer::new(alloc).word(&'*').end(),
+        PatternElem::Char(c) => quoted_character(alloc, c),
     }
-    Ok(())
+}
+
+fn quoted_character(alloc: Global, c: char) -> Result<String, NoAnswer> {
+    let mut text = String::new(alloc);
+    text.push(c)?;
+    quoted(alloc, text.as_str())
 }
 
 fn matched(alloc: Global, p: &Part, t: &Part) -> Result<String, NoAnswer> {
-    let (pattern, text) = (pattern(alloc, p)?, text(alloc, t)?);
+    let pattern = pattern(alloc, p)?;
+    let text = text(alloc, t)?;
     boolean(alloc, pattern.wildcard_match(text.as_str()))
 }
 
 fn counted(alloc: Global, p: &Part, t: &Part) -> Result<String, NoAnswer> {
-    let (pattern, text) = (pattern(alloc, p)?, text(alloc, t)?);
+    let pattern = pattern(alloc, p)?;
+    let text = text(alloc, t)?;
     told_turns(alloc, &pattern, text.as_str())
 }
 
@@ -97,10 +107,19 @@ fn counted_many(
     t: &Part,
     text_times: &Part,
 ) -> Result<String, NoAnswer> {
-    let elems = p.escaped_text()?.repeat(alloc, count(times)?)?;
-    let pattern = pattern(alloc, &Part::Text(elems.as_str()))?;
-    let text = text(alloc, t)?.repeat(alloc, count(text_times)?)?;
+    let pattern = pattern_many(alloc, p, count(times)?)?;
+    let text = text_many(alloc, t, count(text_times)?)?;
     told_turns(alloc, &pattern, text.as_str())
+}
+
+fn pattern_many(alloc: Global, p: &Part, times: usize) -> Result<Pattern, NoAnswer> {
+    let elems = p.escaped_text()?.repeat(alloc, times)?;
+    pattern(alloc, &Part::Text(elems.as_str()))
+}
+
+fn text_many(alloc: Global, t: &Part, times: usize) -> Result<String, NoAnswer> {
+    let text = text(alloc, t)?;
+    Ok(text.repeat(alloc, times)?)
 }
 
 // The answer, the turns and their bound.
@@ -108,8 +127,11 @@ fn told_turns(alloc: Global, p: &Pattern, text: &str) -> Result<String, NoAnswer
     let mut turns = Turns::new();
     let matched = p.wildcard_match_counted(text, &mut turns);
     same(&matched, &p.wildcard_match(text))?;
-    let (turns, bound) = (turns.get(), bound(p, text));
-    Ok(format!(in alloc; "{matched} {turns} {bound}")?)
+    Answer::new(alloc)
+        .word(&matched)
+        .word(&turns.get())
+        .word(&bound(p, text))
+        .end()
 }
 
 // The bound of the turns: for each character of the text one for each element, and one more.
@@ -123,24 +145,34 @@ fn bound(p: &Pattern, text: &str) -> u128 {
 }
 
 fn split(alloc: Global, p: &Part, t: &Part) -> Result<String, NoAnswer> {
-    let (pattern, text) = (pattern(alloc, p)?, text(alloc, t)?);
-    let (answer, steps) = try_splits(pattern.get_elems(), text.as_str());
-    same(&answer, &pattern.wildcard_match(text.as_str()))?;
-    let more = steps > bound(&pattern, text.as_str());
-    Ok(format!(in alloc; "{answer} more={more}")?)
+    let pattern = pattern(alloc, p)?;
+    let text = text(alloc, t)?;
+    told_splits(alloc, &pattern, text.as_str())
+}
+
+fn told_splits(alloc: Global, p: &Pattern, text: &str) -> Result<String, NoAnswer> {
+    let (answer, steps) = try_splits(p.get_elems(), text);
+    same(&answer, &p.wildcard_match(text))?;
+    Answer::new(alloc)
+        .word(&answer)
+        .labelled("more=", &(steps > bound(p, text)))
+        .end()
 }
 
 // The short texts that match, which has to be so as well where every split is tried.
 fn short_matches(alloc: Global, p: &Part) -> Result<String, NoAnswer> {
     let pattern = pattern(alloc, p)?;
-    let mut texts = String::new(alloc);
+    told_matches(alloc, &pattern)
+}
+
+fn told_matches(alloc: Global, p: &Pattern) -> Result<String, NoAnswer> {
+    let mut texts = Answer::new(alloc);
     for text in SHORT_TEXTS {
-        if is_matched(&pattern, text)? {
-            let space = if texts.is_empty() { "" } else { " " };
-            write!(texts, "{space}\"{text}\"")?;
+        if is_matched(p, text)? {
+            texts = texts.made(quoted(alloc, text));
         }
     }
-    Ok(texts)
+    texts.end()
 }
 
 fn is_matched(p: &Pattern, text: &str) -> Result<bool, NoAnswer> {

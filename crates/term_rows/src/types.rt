@@ -1,8 +1,7 @@
 //! Types, unknowns, operators and variables.
-use crate::compared::{compared, equal};
 use crate::placed::placed_type;
 use cedar_terms::{BinaryOp, EntityType, SchemaType, Type, UnaryOp, Unknown, Var};
-use row_parts::{NoAnswer, Part, boolean, name, shared_text};
+use row_parts::{Answer, NoAnswer, Part, boolean, compare, copy_of, equal, name, shared_text};
 use std::alloc::Global;
 use std::boxed::Box;
 use std::collections::BTreeMap;
@@ -35,29 +34,30 @@ pub fn answer(alloc: Global, call: &str, args: &[Part]) -> Result<String, NoAnsw
     }
 }
 
-fn given(alloc: Global, part: &Part) -> Result<String, NoAnswer> {
-    let ty = placed_type(alloc, part)?;
-    told(alloc, &ty)
-}
-
 // The text of a copy.
-fn told(alloc: Global, ty: &Type) -> Result<String, NoAnswer> {
-    Ok(ty.clone(alloc)?.to_string(alloc)?)
+fn given(alloc: Global, part: &Part) -> Result<String, NoAnswer> {
+    Answer::new(alloc)
+        .made(copy_of(alloc, placed_type(alloc, part)))
+        .end()
 }
 
 fn compared_types(alloc: Global, a: &Part, b: &Part) -> Result<String, NoAnswer> {
-    let (a, b) = (placed_type(alloc, a)?, placed_type(alloc, b)?);
-    compared(alloc, &a, &b)
+    compare(alloc, placed_type(alloc, a), placed_type(alloc, b))
 }
 
 fn unknown(alloc: Global, name: &Part, ty: &Part) -> Result<Unknown, NoAnswer> {
-    let name = shared_text(alloc, name)?;
     match ty {
-        Part::Word("-") => Ok(Unknown::new_untyped(name)),
-        _ => Ok(Unknown::new_with_type(name, placed_type(alloc, ty)?)),
+        Part::Word("-") => Ok(Unknown::new_untyped(shared_text(alloc, name)?)),
+        _ => typed_unknown(alloc, name, ty),
     }
 }
 
+fn typed_unknown(alloc: Global, name: &Part, ty: &Part) -> Result<Unknown, NoAnswer> {
+    let ty = placed_type(alloc, ty)?;
+    Ok(Unknown::new_with_type(shared_text(alloc, name)?, ty))
+}
+
+// By a copy of the first.
 fn equal_unknowns(
     alloc: Global,
     x: &Part,
@@ -65,16 +65,23 @@ fn equal_unknowns(
     y: &Part,
     t: &Part,
 ) -> Result<String, NoAnswer> {
-    let (a, b) = (unknown(alloc, x, s)?, unknown(alloc, y, t)?);
-    equal(alloc, &a.clone(alloc)?, &b)
+    equal(
+        alloc,
+        copy_of(alloc, unknown(alloc, x, s)),
+        unknown(alloc, y, t),
+    )
 }
 
-// The type as a schema has it: a word, `(set S)`, `(record ("k" S) ..)`, `(entity N)`, `(extension N)`.
+// The type as a schema has it: a word, `(set S)`, `(record ("k" S) ..)`, `(entity N)`,
+// `(extension N)`.
 #[cycle(schema)]
 fn schema_type(alloc: Global, part: &Part) -> Result<SchemaType, NoAnswer> {
     match part {
         Part::Word(word) => plain(word),
-        Part::List(parts) => compound(alloc, parts),
+        Part::List(parts) => match parts.as_slice() {
+            [head, inner @ ..] => compound(alloc, head.word()?, inner),
+            [] => Err(NoAnswer::NotTaken),
+        },
         _ => Err(NoAnswer::NotTaken),
     }
 }
@@ -90,18 +97,16 @@ fn plain(word: &str) -> Result<SchemaType, NoAnswer> {
 }
 
 #[cycle(schema)]
-fn compound(alloc: Global, parts: &[Part]) -> Result<SchemaType, NoAnswer> {
-    match parts {
-        [head, inner] => match head.word()? {
+fn compound(alloc: Global, head: &str, inner: &[Part]) -> Result<SchemaType, NoAnswer> {
+    if head == "record" {
+        return record(alloc, inner);
+    }
+    match inner {
+        [inner] => match head {
             "set" => set_of(alloc, schema_type(alloc, inner)?),
-            "record" => record(alloc, parts),
-            head => named(alloc, head, inner.word()?),
+            _ => named(alloc, head, inner.word()?),
         },
-        [head, ..] => match head.word()? {
-            "record" => record(alloc, parts),
-            _ => Err(NoAnswer::NotTaken),
-        },
-        [] => Err(NoAnswer::NotTaken),
+        _ => Err(NoAnswer::NotTaken),
     }
 }
 
@@ -122,47 +127,59 @@ fn named(alloc: Global, head: &str, word: &str) -> Result<SchemaType, NoAnswer> 
     }
 }
 
-// The attributes stand behind the head.
 #[cycle(schema)]
 fn record(alloc: Global, parts: &[Part]) -> Result<SchemaType, NoAnswer> {
     let mut attrs = BTreeMap::new(alloc);
-    for (index, part) in parts.iter().enumerate() {
-        if index >= 1 {
-            let (key, ty) = attribute(alloc, part)?;
-            drop(attrs.insert(key, ty)?);
-        }
+    for part in parts {
+        let Part::List(pair) = part else {
+            return Err(NoAnswer::NotTaken);
+        };
+        let [key, ty] = pair.as_slice() else {
+            return Err(NoAnswer::NotTaken);
+        };
+        insert(alloc, &mut attrs, key, schema_type(alloc, ty)?)?;
     }
     Ok(SchemaType::Record { attrs })
 }
 
-#[cycle(schema)]
-fn attribute(alloc: Global, part: &Part) -> Result<(RcStr, SchemaType), NoAnswer> {
-    match part {
-        Part::List(parts) => match parts.as_slice() {
-            [key, ty] => {
-                let key = shared_text(alloc, key)?;
-                Ok((key, schema_type(alloc, ty)?))
-            }
-            _ => Err(NoAnswer::NotTaken),
-        },
-        _ => Err(NoAnswer::NotTaken),
-    }
+fn insert(
+    alloc: Global,
+    attrs: &mut BTreeMap<RcStr, SchemaType>,
+    key: &Part,
+    ty: SchemaType,
+) -> Result<(), NoAnswer> {
+    drop(attrs.insert(shared_text(alloc, key)?, ty)?);
+    Ok(())
 }
 
 // The type of the values of a copy, and the extension types inside it.
 fn told_schema(alloc: Global, part: &Part) -> Result<String, NoAnswer> {
-    let ty = schema_type(alloc, part)?;
-    let copy = ty.clone(alloc)?;
-    let mut told = format!(in alloc; "{}", copy.to_type(alloc)?)?;
-    for name in copy.contained_ext_types(alloc)?.iter() {
-        write!(told, " {name}")?;
-    }
-    Ok(told)
+    let copy = copy_of(alloc, schema_type(alloc, part))?;
+    let told = Answer::new(alloc).allocated(copy.to_type(alloc));
+    with_extensions(alloc, told, &copy)
 }
 
+fn with_extensions(alloc: Global, told: Answer, ty: &SchemaType) -> Result<String, NoAnswer> {
+    let names = ty.contained_ext_types(alloc)?;
+    let mut told = told;
+    for name in names.iter() {
+        told = told.word(name);
+    }
+    told.end()
+}
+
+// By a copy of the first.
 fn equal_schema_types(alloc: Global, a: &Part, b: &Part) -> Result<String, NoAnswer> {
-    let (a, b) = (schema_type(alloc, a)?, schema_type(alloc, b)?);
-    boolean(alloc, a.clone(alloc)? == b)
+    let copy = copy_of(alloc, schema_type(alloc, a));
+    boolean(alloc, are_equal(copy, schema_type(alloc, b))?)
+}
+
+// Whether two values are equal, where both were made.
+fn are_equal<T: PartialEq + Drop>(
+    a: Result<T, NoAnswer>,
+    b: Result<T, NoAnswer>,
+) -> Result<bool, NoAnswer> {
+    Ok(a? == b?)
 }
 
 fn operators(alloc: Global) -> Result<String, NoAnswer> {
@@ -181,13 +198,23 @@ fn operators(alloc: Global) -> Result<String, NoAnswer> {
         BinaryOp::GetTag,
         BinaryOp::HasTag,
     ];
-    let (unary, binary) = (rising(alloc, &unary)?, rising(alloc, &binary)?);
-    Ok(format!(in alloc; "unary{unary} binary{binary}")?)
+    Answer::new(alloc)
+        .labelled_made("unary ", rising(alloc, &unary))
+        .labelled_made("binary ", rising(alloc, &binary))
+        .end()
 }
 
 // The texts of items, each of which has to be above the one before.
 fn rising<T: Ord + Display>(alloc: Global, items: &[T]) -> Result<String, NoAnswer> {
-    let mut texts = String::new(alloc);
+    rise(items)?;
+    let mut texts = Answer::new(alloc);
+    for item in items {
+        texts = texts.word(item);
+    }
+    texts.end()
+}
+
+fn rise<T: Ord>(items: &[T]) -> Result<(), NoAnswer> {
     let mut before: Option<&T> = None;
     for item in items {
         if let Some(before) = before {
@@ -196,18 +223,24 @@ fn rising<T: Ord + Display>(alloc: Global, items: &[T]) -> Result<String, NoAnsw
             }
         }
         before = Some(item);
-        write!(texts, " {item}")?;
     }
-    Ok(texts)
+    Ok(())
 }
 
 fn variables(alloc: Global) -> Result<String, NoAnswer> {
     let vars = [Var::Principal, Var::Action, Var::Resource, Var::Context];
-    let mut ids = String::new(alloc);
-    for var in &vars {
-        let (id, unreserved) = (var.to_id(alloc)?, var.to_unreserved_id(alloc)?);
-        write!(ids, " {id} {unreserved}")?;
+    Answer::new(alloc)
+        .labelled_made("texts ", rising(alloc, &vars))
+        .labelled_made("identifiers ", identifiers(alloc, &vars))
+        .end()
+}
+
+fn identifiers(alloc: Global, vars: &[Var]) -> Result<String, NoAnswer> {
+    let mut ids = Answer::new(alloc);
+    for var in vars {
+        ids = ids
+            .allocated(var.to_id(alloc))
+            .allocated(var.to_unreserved_id(alloc));
     }
-    let texts = rising(alloc, &vars)?;
-    Ok(format!(in alloc; "texts{texts} identifiers{ids}")?)
+    ids.end()
 }

@@ -1,8 +1,5 @@
 //! What the calls here read and answer alike.
-use cedar_names::Loc;
-use row_parts::{NoAnswer, Part};
-use std::alloc::Global;
-use std::rc::RcStr;
+use row_parts::NoAnswer;
 
 /// Answers that have to agree: whether they do, and what they are.
 pub fn agreed(holds: bool, what: &'static str) -> Result<(), NoAnswer> {
@@ -16,24 +13,6 @@ pub fn agreed(holds: bool, what: &'static str) -> Result<(), NoAnswer> {
 /// Whether the two are equal.
 pub fn are_equal<T: PartialEq + Drop>(a: T, b: T) -> bool {
     a == b
-}
-
-/// The place `3..7`, in the text `src`; none for `-`.
-pub fn maybe_loc(alloc: Global, part: &Part) -> Result<Option<Loc>, NoAnswer> {
-    match part.word()? {
-        "-" => Ok(None),
-        word => match word.split_once("..") {
-            Some((start, stop)) => {
-                let src = RcStr::from_str(alloc, "src")?;
-                Ok(Some(Loc::new(number(start)?, number(stop)?, src)))
-            }
-            None => Err(NoAnswer::NotTaken),
-        },
-    }
-}
-
-fn number(word: &str) -> Result<usize, NoAnswer> {
-    word.parse().map_err(|_| NoAnswer::NotTaken)
 }
 
 /// Puts an item behind those before it, with a comma between.

@@ -1,9 +1,9 @@
 //! Values as expressions and back.
-use crate::answers::{agreed, maybe_loc};
+use crate::answers::agreed;
 use crate::copies::placed_value;
 use cedar_exprs::{Expr, SubstituteValue};
 use cedar_values::{NotValue, ValueKind};
-use row_parts::{NoAnswer, Part, place};
+use row_parts::{NoAnswer, Part, maybe_place, place};
 use row_trees::{Keyed, KeyedValue, expr, placed, sketch, value};
 use std::alloc::Global;
 
@@ -17,9 +17,9 @@ pub fn answer(alloc: Global, call: &str, args: &[Part]) -> Result<String, NoAnsw
 
 fn of_one(alloc: Global, call: &str, part: &Part) -> Result<String, NoAnswer> {
     match call {
-        "toexpr" => sketch(alloc, &written(alloc, value(alloc, part)?)?),
-        "toexpr-placed" => placed(alloc, &written(alloc, value(alloc, part)?)?),
-        "roundtrip" => returned(alloc, value(alloc, part)?),
+        "toexpr" => sketch(alloc, &written(alloc, &value(alloc, part)?)?),
+        "toexpr-placed" => placed(alloc, &written(alloc, &value(alloc, part)?)?),
+        "roundtrip" => returned(alloc, &value(alloc, part)?),
         "tryvalue" => tried(alloc, expr(alloc, part)?),
         "tryvalue-placed" => tried_with_places(alloc, expr(alloc, part)?),
         "trykind" => tried_kind(alloc, expr(alloc, part)?),
@@ -29,36 +29,36 @@ fn of_one(alloc: Global, call: &str, part: &Part) -> Result<String, NoAnswer> {
 }
 
 // The expression of a value, which `value_expr` and the kind have to give too.
-fn written(alloc: Global, v: KeyedValue) -> Result<Expr, NoAnswer> {
+fn written(alloc: Global, v: &KeyedValue) -> Result<Expr, NoAnswer> {
     let e = v.to_expr(alloc)?;
-    agreed(
-        *v.value_expr(alloc)?.as_expr() == e,
-        "the expressions of a value",
-    )?;
-    let of_kind = v.value_kind().to_expr(alloc)?;
-    agreed(
-        of_kind == e && of_kind.source_loc().is_none(),
-        "values and kinds",
-    )?;
+    is_value_expr(alloc, v, &e)?;
+    is_kind_expr(alloc, v.value_kind(), &e)?;
     Ok(e)
 }
 
-fn returned(alloc: Global, v: KeyedValue) -> Result<String, NoAnswer> {
-    match read(alloc, v.to_expr(alloc)?)? {
-        Ok(w) => Ok(format!(in alloc; "ok {}", w == v)?),
-        Err(_) => Ok(format!(in alloc; "not-a-value")?),
+fn is_value_expr(alloc: Global, v: &KeyedValue, e: &Expr) -> Result<(), NoAnswer> {
+    let restricted = v.value_expr(alloc)?;
+    agreed(*restricted.as_expr() == *e, "the expressions of a value")
+}
+
+fn is_kind_expr(alloc: Global, kind: &ValueKind<Keyed>, e: &Expr) -> Result<(), NoAnswer> {
+    let of_kind = kind.to_expr(alloc)?;
+    agreed(
+        of_kind == *e && of_kind.source_loc().is_none(),
+        "values and kinds",
+    )
+}
+
+fn returned(alloc: Global, v: &KeyedValue) -> Result<String, NoAnswer> {
+    match KeyedValue::try_from_expr(alloc, v.to_expr(alloc)?) {
+        Ok(w) => Ok(format!(in alloc; "ok {}", w == *v)?),
+        Err(NotValue::NotValue { .. }) => Ok(format!(in alloc; "not-a-value")?),
+        Err(NotValue::Memory) => Err(NoAnswer::Memory),
     }
 }
 
-// The value of an expression, or the place of the refusal.
-fn read(alloc: Global, e: Expr) -> Result<Result<KeyedValue, String>, NoAnswer> {
-    match KeyedValue::try_from_expr(alloc, e) {
-        Ok(v) => Ok(Ok(v)),
-        Err(fault) => Ok(Err(refusal(alloc, fault)?)),
-    }
-}
-
-fn refusal(alloc: Global, fault: NotValue) -> Result<String, NoAnswer> {
+// The place of the refusal.
+fn refusal(alloc: Global, fault: &NotValue) -> Result<String, NoAnswer> {
     match fault {
         NotValue::NotValue { loc } => {
             let loc = place(alloc, loc.as_ref())?;
@@ -69,35 +69,41 @@ fn refusal(alloc: Global, fault: NotValue) -> Result<String, NoAnswer> {
 }
 
 fn tried(alloc: Global, e: Expr) -> Result<String, NoAnswer> {
-    match read(alloc, e)? {
-        Ok(v) => {
-            let loc = place(alloc, v.source_loc())?;
-            Ok(format!(in alloc; "ok {v} @{loc}")?)
-        }
-        Err(refusal) => Ok(refusal),
+    match KeyedValue::try_from_expr(alloc, e) {
+        Ok(v) => value_text(alloc, &v),
+        Err(fault) => refusal(alloc, &fault),
     }
 }
 
+fn value_text(alloc: Global, v: &KeyedValue) -> Result<String, NoAnswer> {
+    let loc = place(alloc, v.source_loc())?;
+    Ok(format!(in alloc; "ok {v} @{loc}")?)
+}
+
 fn tried_with_places(alloc: Global, e: Expr) -> Result<String, NoAnswer> {
-    match read(alloc, e)? {
+    match KeyedValue::try_from_expr(alloc, e) {
         Ok(v) => Ok(format!(in alloc; "ok {}", placed_value(alloc, &v)?)?),
-        Err(refusal) => Ok(refusal),
+        Err(fault) => refusal(alloc, &fault),
     }
 }
 
 fn tried_kind(alloc: Global, e: Expr) -> Result<String, NoAnswer> {
     match ValueKind::<Keyed>::try_from_expr(alloc, e) {
         Ok(kind) => placed(alloc, &kind.to_expr(alloc)?),
-        Err(fault) => refusal(alloc, fault),
+        Err(fault) => refusal(alloc, &fault),
     }
 }
 
 fn not_value(alloc: Global, part: &Part) -> Result<String, NoAnswer> {
-    let fault = match part.word()? {
-        "memory" => NotValue::Memory,
-        _ => NotValue::NotValue {
-            loc: maybe_loc(alloc, part)?,
-        },
-    };
+    match part.word()? {
+        "memory" => not_value_text(alloc, &NotValue::Memory),
+        _ => {
+            let loc = maybe_place(alloc, part)?;
+            not_value_text(alloc, &NotValue::NotValue { loc })
+        }
+    }
+}
+
+fn not_value_text(alloc: Global, fault: &NotValue) -> Result<String, NoAnswer> {
     Ok(format!(in alloc; "{fault}")?)
 }

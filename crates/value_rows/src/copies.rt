@@ -1,7 +1,8 @@
 //! Places of values, and copies.
 use crate::answers::agreed;
 use crate::values::called;
-use cedar_terms::Escaped;
+use cedar_names::Loc;
+use cedar_terms::{Escaped, Literal};
 use cedar_values::{Set, ValueKind};
 use row_parts::{NoAnswer, Part, place};
 use row_trees::{Keyed, KeyedValue, value};
@@ -14,18 +15,21 @@ pub fn answer(alloc: Global, call: &str, args: &[Part]) -> Result<String, NoAnsw
     match args {
         [v] => match call {
             "placedval" => placed_value(alloc, &value(alloc, v)?),
-            "copyval" => copied(alloc, value(alloc, v)?),
+            "copyval" => copied(alloc, &value(alloc, v)?),
             _ => Err(NoAnswer::OtherCall),
         },
         _ => Err(NoAnswer::OtherCall),
     }
 }
 
-fn copied(alloc: Global, v: KeyedValue) -> Result<String, NoAnswer> {
-    let copy = v.clone(alloc)?;
-    agreed(copy.eq_and_same_source_loc(&v), "a value and its copy")?;
+fn copied(alloc: Global, v: &KeyedValue) -> Result<String, NoAnswer> {
     copied_kind(alloc, v.value_kind())?;
-    placed_value(alloc, &copy)
+    same(alloc, &v.clone(alloc)?, v)
+}
+
+fn same(alloc: Global, copy: &KeyedValue, v: &KeyedValue) -> Result<String, NoAnswer> {
+    agreed(copy.eq_and_same_source_loc(v), "a value and its copy")?;
+    placed_value(alloc, copy)
 }
 
 fn copied_kind(alloc: Global, kind: &ValueKind<Keyed>) -> Result<(), NoAnswer> {
@@ -37,10 +41,14 @@ fn copied_kind(alloc: Global, kind: &ValueKind<Keyed>) -> Result<(), NoAnswer> {
 }
 
 fn copied_set(alloc: Global, set: &Set<Keyed>) -> Result<(), NoAnswer> {
-    let copy = set.clone(alloc)?;
-    agreed(copy == *set, "a set and its copy")?;
+    same_set(&set.clone(alloc)?, set)
+}
+
+fn same_set(copy: &Set<Keyed>, set: &Set<Keyed>) -> Result<(), NoAnswer> {
+    agreed(*copy == *set, "a set and its copy")?;
+    let is_fast = copy.fast().is_some();
     agreed(
-        copy.fast().is_some() == set.fast().is_some(),
+        is_fast == set.fast().is_some(),
         "the forms of a set and its copy",
     )
 }
@@ -55,13 +63,22 @@ pub fn placed_value(alloc: Global, v: &KeyedValue) -> Result<String, NoAnswer> {
 #[cycle(placed)]
 fn write_placed(alloc: Global, text: &mut String, v: &KeyedValue) -> Result<(), NoAnswer> {
     match v.value_kind() {
-        ValueKind::Lit(literal) => text.push_str(format!(in alloc; "{literal}")?.as_str())?,
+        ValueKind::Lit(literal) => write_literal(alloc, text, literal)?,
         ValueKind::Set(set) => write_members(alloc, text, set)?,
         ValueKind::Record(pairs) => write_pairs(alloc, text, pairs)?,
         ValueKind::ExtensionValue(x) => text.push_str(called(alloc, x)?.as_str())?,
     }
+    write_place(alloc, text, v.source_loc())
+}
+
+fn write_literal(alloc: Global, text: &mut String, literal: &Literal) -> Result<(), NoAnswer> {
+    text.push_str(format!(in alloc; "{literal}")?.as_str())?;
+    Ok(())
+}
+
+fn write_place(alloc: Global, text: &mut String, loc: Option<&Loc>) -> Result<(), NoAnswer> {
     text.push('@')?;
-    text.push_str(place(alloc, v.source_loc())?.as_str())?;
+    text.push_str(place(alloc, loc)?.as_str())?;
     Ok(())
 }
 

@@ -1,6 +1,6 @@
 //! Extensions, and tables of them.
 use crate::answers::list;
-use crate::functions::{named_function, returns, signature, style_text};
+use crate::functions::{named_function, names, returns, signature, style_text};
 use cedar_calls::{Extension, Extensions, FunctionTable};
 use cedar_names::Name;
 use row_parts::{NoAnswer, Part, name};
@@ -11,12 +11,12 @@ use std::alloc::Global;
 pub fn answer(alloc: Global, call: &str, args: &[Part]) -> Result<String, NoAnswer> {
     match args {
         [x] => match call {
-            "extension" => about(alloc, extension(alloc, x)?),
+            "extension" => about(alloc, &extension(alloc, x)?),
             _ => Err(NoAnswer::OtherCall),
         },
         [x, f] => match call {
-            "getfunc" => of_extension(alloc, extension(alloc, x)?, name(alloc, f.word()?)?),
-            "tablefunc" => of_table(alloc, table(alloc, x.list()?)?, name(alloc, f.word()?)?),
+            "getfunc" => of_extension(alloc, &extension(alloc, x)?, &name(alloc, f.word()?)?),
+            "tablefunc" => of_table(alloc, &table(alloc, x.list()?)?, &name(alloc, f.word()?)?),
             _ => Err(NoAnswer::OtherCall),
         },
         _ => Err(NoAnswer::OtherCall),
@@ -28,7 +28,7 @@ fn extension(alloc: Global, part: &Part) -> Result<Extension<Keyed>, NoAnswer> {
     match part.list()? {
         [x, functions, types] => {
             let x = name(alloc, x.word()?)?;
-            made(alloc, x, functions.list()?, names(alloc, types.list()?)?)
+            made(alloc, x, functions.list()?, named(alloc, types.list()?)?)
         }
         _ => Err(NoAnswer::NotTaken),
     }
@@ -47,7 +47,7 @@ fn made(
     Ok(Extension::new(alloc, x, functions, types)?)
 }
 
-fn names(alloc: Global, parts: &[Part]) -> Result<Vec<Name>, NoAnswer> {
+fn named(alloc: Global, parts: &[Part]) -> Result<Vec<Name>, NoAnswer> {
     let mut names = Vec::new(alloc);
     for part in parts {
         names.push(name(alloc, part.word()?)?)?;
@@ -63,10 +63,10 @@ fn table(alloc: Global, parts: &[Part]) -> Result<Extensions<Keyed>, NoAnswer> {
     Ok(Extensions::new(extensions))
 }
 
-fn about(alloc: Global, x: Extension<Keyed>) -> Result<String, NoAnswer> {
-    let functions = functions(alloc, &x)?;
-    let types = types(alloc, &x)?;
-    let overloading = overloading(alloc, &x)?;
+fn about(alloc: Global, x: &Extension<Keyed>) -> Result<String, NoAnswer> {
+    let functions = functions(alloc, x)?;
+    let types = names(alloc, x.ext_types(alloc)?.as_slice())?;
+    let overloading = overloading(alloc, x)?;
     let name = x.name();
     Ok(format!(in alloc;
         "{x:?} name={name} functions={functions} types={types} overloading={overloading}"
@@ -81,14 +81,6 @@ fn functions(alloc: Global, x: &Extension<Keyed>) -> Result<String, NoAnswer> {
     Ok(text)
 }
 
-fn types(alloc: Global, x: &Extension<Keyed>) -> Result<String, NoAnswer> {
-    let mut text = String::new(alloc);
-    for name in x.ext_types(alloc)? {
-        list(&mut text, format!(in alloc; "{name}")?.as_str())?;
-    }
-    Ok(text)
-}
-
 fn overloading(alloc: Global, x: &Extension<Keyed>) -> Result<String, NoAnswer> {
     let mut text = String::new(alloc);
     for name in x.types_with_operator_overloading() {
@@ -97,16 +89,16 @@ fn overloading(alloc: Global, x: &Extension<Keyed>) -> Result<String, NoAnswer> 
     Ok(text)
 }
 
-fn of_extension(alloc: Global, x: Extension<Keyed>, f: Name) -> Result<String, NoAnswer> {
-    match x.get_func(&f) {
+fn of_extension(alloc: Global, x: &Extension<Keyed>, f: &Name) -> Result<String, NoAnswer> {
+    match x.get_func(f) {
         Some(f) => signature(alloc, f),
         None => Ok(format!(in alloc; "none")?),
     }
 }
 
-fn of_table(alloc: Global, table: Extensions<Keyed>, f: Name) -> Result<String, NoAnswer> {
-    let told = told(alloc, &table, &f)?;
-    match table.func(&f) {
+fn of_table(alloc: Global, table: &Extensions<Keyed>, f: &Name) -> Result<String, NoAnswer> {
+    let told = told(alloc, table, f)?;
+    match table.func(f) {
         Some(f) => Ok(format!(in alloc; "{told} | {}", signature(alloc, f)?)?),
         None => Ok(format!(in alloc; "{told} | none")?),
     }

@@ -1,10 +1,11 @@
 //! Calls of stored functions, and what these say of themselves.
 use crate::answers::list;
 use cedar_calls::{CallStyle, EvaluationError, ExtensionFunction, ExtensionOutputValue};
+use cedar_names::Name;
 use cedar_terms::{SchemaType, Unknown};
 use cedar_values::PartialValue;
 use row_parts::{NoAnswer, Part, place};
-use row_trees::{Keyed, function, sketch, value, values};
+use row_trees::{Keyed, KeyedValue, function, sketch, value, values};
 use std::alloc::Global;
 use std::rc::RcStr;
 
@@ -14,9 +15,9 @@ type Outcome = Result<PartialValue<Keyed>, EvaluationError>;
 pub fn answer(alloc: Global, call: &str, args: &[Part]) -> Result<String, NoAnswer> {
     match args {
         [first, later @ ..] => match call {
-            "call" => called(alloc, first.word()?, later),
-            "callfault" => refused(alloc, first.word()?, later),
-            "function" => about(alloc, function(alloc, "f", first.word()?)?),
+            "call" => called(alloc, first.word()?, values(alloc, later, 0)?.as_slice()),
+            "callfault" => refused(alloc, first.word()?, values(alloc, later, 0)?.as_slice()),
+            "function" => about(alloc, &function(alloc, "f", first.word()?)?),
             "signature" => signature(alloc, &named_function(alloc, first)?),
             "output" => output(alloc, first),
             _ => Err(NoAnswer::OtherCall),
@@ -33,26 +34,36 @@ pub fn named_function(alloc: Global, part: &Part) -> Result<ExtensionFunction<Ke
     }
 }
 
-// What the function `f` of this word answers. That there is no memory is an answer of `wanting`
-// alone.
-fn outcome(alloc: Global, word: &str, parts: &[Part]) -> Result<Outcome, NoAnswer> {
-    let args = values(alloc, parts, 0)?;
-    let outcome = function(alloc, "f", word)?.call(alloc, args.as_slice());
-    if word != "wanting" && matches!(outcome, Err(EvaluationError::Memory)) {
-        return Err(NoAnswer::Memory);
-    }
-    Ok(outcome)
+// What the function `f` of this word answers.
+fn outcome(alloc: Global, word: &str, args: &[KeyedValue]) -> Result<Outcome, NoAnswer> {
+    let f = function(alloc, "f", word)?;
+    Ok(f.call(alloc, args))
 }
 
-fn called(alloc: Global, word: &str, parts: &[Part]) -> Result<String, NoAnswer> {
-    match outcome(alloc, word, parts)? {
-        Ok(PartialValue::Value(v)) => Ok(format!(in alloc; "value {v}")?),
-        Ok(PartialValue::Residual(e)) => Ok(format!(in alloc; "residual {}", sketch(alloc, &e)?)?),
-        Err(fault) => fault_text(alloc, fault),
+fn called(alloc: Global, word: &str, args: &[KeyedValue]) -> Result<String, NoAnswer> {
+    match outcome(alloc, word, args)? {
+        Ok(answer) => answer_text(alloc, &answer),
+        Err(fault) => fault_text(alloc, word, &fault),
     }
 }
 
-fn fault_text(alloc: Global, fault: EvaluationError) -> Result<String, NoAnswer> {
+fn answer_text(alloc: Global, answer: &PartialValue<Keyed>) -> Result<String, NoAnswer> {
+    match answer {
+        PartialValue::Value(v) => Ok(format!(in alloc; "value {v}")?),
+        PartialValue::Residual(e) => Ok(format!(in alloc; "residual {}", sketch(alloc, e)?)?),
+    }
+}
+
+// That there is no memory is an answer of `wanting` alone.
+fn is_answer(word: &str, fault: &EvaluationError) -> Result<(), NoAnswer> {
+    match fault {
+        EvaluationError::Memory if word != "wanting" => Err(NoAnswer::Memory),
+        _ => Ok(()),
+    }
+}
+
+fn fault_text(alloc: Global, word: &str, fault: &EvaluationError) -> Result<String, NoAnswer> {
+    is_answer(word, fault)?;
     match fault {
         EvaluationError::WrongNumArguments {
             name,
@@ -70,14 +81,19 @@ fn fault_text(alloc: Global, fault: EvaluationError) -> Result<String, NoAnswer>
     }
 }
 
-fn refused(alloc: Global, word: &str, parts: &[Part]) -> Result<String, NoAnswer> {
-    match outcome(alloc, word, parts)? {
+fn refused(alloc: Global, word: &str, args: &[KeyedValue]) -> Result<String, NoAnswer> {
+    match outcome(alloc, word, args)? {
         Ok(_) => Ok(format!(in alloc; "none")?),
-        Err(fault) => Ok(format!(in alloc; "{fault}")?),
+        Err(fault) => shown(alloc, word, &fault),
     }
 }
 
-fn about(alloc: Global, f: ExtensionFunction<Keyed>) -> Result<String, NoAnswer> {
+fn shown(alloc: Global, word: &str, fault: &EvaluationError) -> Result<String, NoAnswer> {
+    is_answer(word, fault)?;
+    Ok(format!(in alloc; "{fault}")?)
+}
+
+fn about(alloc: Global, f: &ExtensionFunction<Keyed>) -> Result<String, NoAnswer> {
     let variadic = f.is_variadic();
     let args = f.arg_types().len();
     let returns = f.return_type().is_some();
@@ -90,12 +106,18 @@ pub fn signature(alloc: Global, f: &ExtensionFunction<Keyed>) -> Result<String, 
     let style = style_text(f.style());
     let takes = takes(alloc, f.arg_types())?;
     let returns = returns(alloc, f.return_type())?;
-    let mut types = String::new(alloc);
-    for name in f.ext_types(alloc)? {
-        list(&mut types, format!(in alloc; "{name}")?.as_str())?;
-    }
+    let types = names(alloc, f.ext_types(alloc)?.as_slice())?;
     let name = f.name();
     Ok(format!(in alloc; "{name} {style} takes={takes} returns={returns} types={types}")?)
+}
+
+/// The names, with commas between.
+pub fn names(alloc: Global, names: &[Name]) -> Result<String, NoAnswer> {
+    let mut text = String::new(alloc);
+    for name in names {
+        list(&mut text, format!(in alloc; "{name}")?.as_str())?;
+    }
+    Ok(text)
 }
 
 /// `function` or `method`.
@@ -128,15 +150,18 @@ fn type_text(alloc: Global, ty: &SchemaType) -> Result<String, NoAnswer> {
 
 // A copy of what a function answers: `(v V)` a value, `(u NAME)` an unknown.
 fn output(alloc: Global, part: &Part) -> Result<String, NoAnswer> {
-    let output = match part.list()? {
+    match part.list()? {
         [head, inner] => match head.word()? {
-            "v" => ExtensionOutputValue::from(value(alloc, inner)?),
-            "u" => unknown(alloc, inner.word()?)?,
-            _ => return Err(NoAnswer::NotTaken),
+            "v" => copied(alloc, &known(value(alloc, inner)?)),
+            "u" => copied(alloc, &unknown(alloc, inner.word()?)?),
+            _ => Err(NoAnswer::NotTaken),
         },
-        _ => return Err(NoAnswer::NotTaken),
-    };
-    copied(alloc, output)
+        _ => Err(NoAnswer::NotTaken),
+    }
+}
+
+fn known(v: KeyedValue) -> ExtensionOutputValue<Keyed> {
+    ExtensionOutputValue::from(v)
 }
 
 fn unknown(alloc: Global, name: &str) -> Result<ExtensionOutputValue<Keyed>, NoAnswer> {
@@ -144,9 +169,8 @@ fn unknown(alloc: Global, name: &str) -> Result<ExtensionOutputValue<Keyed>, NoA
     Ok(ExtensionOutputValue::Unknown(Unknown::new_untyped(name)))
 }
 
-fn copied(alloc: Global, output: ExtensionOutputValue<Keyed>) -> Result<String, NoAnswer> {
-    let copy = output.clone(alloc)?;
-    output_text(alloc, &copy)
+fn copied(alloc: Global, output: &ExtensionOutputValue<Keyed>) -> Result<String, NoAnswer> {
+    output_text(alloc, &output.clone(alloc)?)
 }
 
 fn output_text(alloc: Global, output: &ExtensionOutputValue<Keyed>) -> Result<String, NoAnswer> {

@@ -12,7 +12,7 @@ use std::rc::RcStr;
 /// The answer to a call on what is large.
 pub fn answer(alloc: Global, call: &str, args: &[Part]) -> Result<String, NoAnswer> {
     match (call, args) {
-        ("many", [times, v]) => many(alloc, count(times)?, value(alloc, v)?),
+        ("many", [times, v]) => many(alloc, count(times)?, &value(alloc, v)?),
         ("falling", [before, first, last, after]) => {
             let span = Span {
                 first: number(first)?,
@@ -28,11 +28,19 @@ fn number(part: &Part) -> Result<i64, NoAnswer> {
     part.word()?.parse().map_err(|_| NoAnswer::NotTaken)
 }
 
-fn many(alloc: Global, times: usize, v: KeyedValue) -> Result<String, NoAnswer> {
-    let made = length(&Set::new(alloc, copies(alloc, times, &v)?)?, &v)?;
-    let gathered = length(&Set::from_values(alloc, copies(alloc, times, &v)?)?, &v)?;
-    let read = read(alloc, times, &v)?;
+fn many(alloc: Global, times: usize, v: &KeyedValue) -> Result<String, NoAnswer> {
+    let made = made(alloc, times, v)?;
+    let gathered = gathered(alloc, times, v)?;
+    let read = read(alloc, times, v)?;
     Ok(format!(in alloc; "new={made} from_values={gathered} read={read}")?)
+}
+
+fn made(alloc: Global, times: usize, v: &KeyedValue) -> Result<usize, NoAnswer> {
+    length(&Set::new(alloc, copies(alloc, times, v)?)?, v)
+}
+
+fn gathered(alloc: Global, times: usize, v: &KeyedValue) -> Result<usize, NoAnswer> {
+    length(&Set::from_values(alloc, copies(alloc, times, v)?)?, v)
 }
 
 fn copies(alloc: Global, times: usize, v: &KeyedValue) -> Result<Vec<KeyedValue>, NoAnswer> {
@@ -54,17 +62,25 @@ fn length(set: &Set<Keyed>, v: &KeyedValue) -> Result<usize, NoAnswer> {
 
 // How many members the value of the set expression has.
 fn read(alloc: Global, times: usize, v: &KeyedValue) -> Result<String, NoAnswer> {
+    match KeyedValue::try_from_expr(alloc, set_expr(alloc, times, v)?) {
+        Ok(read) => members_text(alloc, &read, v),
+        Err(NotValue::NotValue { .. }) => Ok(format!(in alloc; "not-a-value")?),
+        Err(NotValue::Memory) => Err(NoAnswer::Memory),
+    }
+}
+
+fn set_expr(alloc: Global, times: usize, v: &KeyedValue) -> Result<Expr, NoAnswer> {
     let mut members = Vec::new(alloc);
     for _ in 0..times {
         members.push(v.to_expr(alloc)?)?;
     }
-    match KeyedValue::try_from_expr(alloc, Expr::set(alloc, members)?) {
-        Ok(read) => match read.value_kind() {
-            ValueKind::Set(set) => Ok(format!(in alloc; "{}", length(set, v)?)?),
-            _ => Err(NoAnswer::Disagree("a set and its expression")),
-        },
-        Err(NotValue::NotValue { .. }) => Ok(format!(in alloc; "not-a-value")?),
-        Err(NotValue::Memory) => Err(NoAnswer::Memory),
+    Ok(Expr::set(alloc, members)?)
+}
+
+fn members_text(alloc: Global, read: &KeyedValue, v: &KeyedValue) -> Result<String, NoAnswer> {
+    match read.value_kind() {
+        ValueKind::Set(set) => Ok(format!(in alloc; "{}", length(set, v)?)?),
+        _ => Err(NoAnswer::Disagree("a set and its expression")),
     }
 }
 
@@ -78,8 +94,18 @@ struct Span {
 fn falling(alloc: Global, before: &[Part], span: Span, after: &[Part]) -> Result<String, NoAnswer> {
     let v = Value::record(alloc, pairs(alloc, before, span, after)?, None)?;
     let text = about(alloc, &v)?;
-    let written = pairs(alloc, before, span, after)?;
-    match Expr::record(alloc, exprs(alloc, written)?) {
+    written(alloc, &v, text, pairs(alloc, before, span, after)?)
+}
+
+// The text where the record expression is the value's; behind it what the error says, if there is
+// none.
+fn written(
+    alloc: Global,
+    v: &KeyedValue,
+    text: String,
+    pairs: Vec<(RcStr, KeyedValue)>,
+) -> Result<String, NoAnswer> {
+    match Expr::record(alloc, exprs(alloc, pairs)?) {
         Ok(record) => {
             same(alloc, v, record)?;
             Ok(text)
@@ -98,20 +124,21 @@ fn pairs(
 ) -> Result<Vec<(RcStr, KeyedValue)>, NoAnswer> {
     let mut pairs = Vec::new(alloc);
     for key in before {
-        pairs.push((key_of(alloc, number(key)?)?, Value::from(0)))?;
+        pairs.push(pair(alloc, number(key)?, 0)?)?;
     }
     for step in 0..span.last.saturating_sub(span.first).saturating_add(1) {
         let number = span.last.saturating_sub(step);
-        pairs.push((key_of(alloc, number)?, Value::from(number)))?;
+        pairs.push(pair(alloc, number, number)?)?;
     }
     for key in after {
-        pairs.push((key_of(alloc, number(key)?)?, Value::from(0)))?;
+        pairs.push(pair(alloc, number(key)?, 0)?)?;
     }
     Ok(pairs)
 }
 
-fn key_of(alloc: Global, number: i64) -> Result<RcStr, NoAnswer> {
-    Ok(RcStr::from_string(format!(in alloc; "{number}")?)?)
+fn pair(alloc: Global, key: i64, number: i64) -> Result<(RcStr, KeyedValue), NoAnswer> {
+    let key = RcStr::from_string(format!(in alloc; "{key}")?)?;
+    Ok((key, Value::from(number)))
 }
 
 fn exprs(alloc: Global, pairs: Vec<(RcStr, KeyedValue)>) -> Result<Vec<(RcStr, Expr)>, NoAnswer> {
@@ -131,21 +158,42 @@ fn about(alloc: Global, v: &KeyedValue) -> Result<String, NoAnswer> {
 }
 
 fn counted(alloc: Global, pairs: &BTreeMap<RcStr, KeyedValue>) -> Result<String, NoAnswer> {
-    let mut rises = true;
-    let mut numbered: usize = 0;
-    let mut before: Option<&RcStr> = None;
-    for (key, v) in pairs.iter() {
-        rises = rises && before < Some(key);
-        before = Some(key);
-        if is_numbered(key, v) {
-            numbered = numbered.saturating_add(1);
-        }
-    }
+    let rises = rises(pairs);
+    let numbered = numbered(pairs);
     Ok(format!(in alloc; "keys={} rising={rises} numbered={numbered}", pairs.len())?)
 }
 
-fn is_numbered(key: &RcStr, v: &KeyedValue) -> bool {
-    match key.as_str().parse::<i64>() {
+// Whether each key comes before the next.
+fn rises(pairs: &BTreeMap<RcStr, KeyedValue>) -> bool {
+    let mut rises = true;
+    let mut before: Option<&str> = None;
+    for key in pairs.keys() {
+        rises = rises && is_after(key.as_str(), before);
+        before = Some(key.as_str());
+    }
+    rises
+}
+
+fn is_after(key: &str, before: Option<&str>) -> bool {
+    match before {
+        Some(before) => before < key,
+        None => true,
+    }
+}
+
+// How many keys have their number.
+fn numbered(pairs: &BTreeMap<RcStr, KeyedValue>) -> usize {
+    let mut numbered: usize = 0;
+    for (key, v) in pairs.iter() {
+        if is_numbered(key.as_str(), v) {
+            numbered = numbered.saturating_add(1);
+        }
+    }
+    numbered
+}
+
+fn is_numbered(key: &str, v: &KeyedValue) -> bool {
+    match key.parse::<i64>() {
         Ok(number) => *v == Value::from(number),
         Err(_) => false,
     }
@@ -153,15 +201,16 @@ fn is_numbered(key: &RcStr, v: &KeyedValue) -> bool {
 
 // The record expression stays what it is when it is copied, substituted in or built, and is the
 // value's.
-fn same(alloc: Global, v: KeyedValue, record: Expr) -> Result<(), NoAnswer> {
-    agreed(is_copied(alloc, &record)?, "a record and its copy")?;
-    agreed(is_substituted(alloc, &record)?, "a record and substitution")?;
-    agreed(is_rebuilt(alloc, &record)?, "a record and what is built")?;
-    agreed(
-        is_written(alloc, &v, &record)?,
-        "a value and its expression",
-    )?;
-    agreed(is_read(alloc, record, &v)?, "an expression and its value")
+fn same(alloc: Global, v: &KeyedValue, record: Expr) -> Result<(), NoAnswer> {
+    stays(alloc, &record)?;
+    agreed(is_written(alloc, v, &record)?, "a value and its expression")?;
+    agreed(is_read(alloc, record, v)?, "an expression and its value")
+}
+
+fn stays(alloc: Global, record: &Expr) -> Result<(), NoAnswer> {
+    agreed(is_copied(alloc, record)?, "a record and its copy")?;
+    agreed(is_substituted(alloc, record)?, "a record and substitution")?;
+    agreed(is_rebuilt(alloc, record)?, "a record and what is built")
 }
 
 fn is_copied(alloc: Global, e: &Expr) -> Result<bool, AllocError> {

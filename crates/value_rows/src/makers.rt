@@ -1,10 +1,10 @@
 //! The constructors of values and of kinds, which have to make the same.
-use crate::answers::{agreed, maybe_loc};
+use crate::answers::agreed;
 use crate::copies::placed_value;
 use cedar_names::Loc;
 use cedar_terms::Literal;
 use cedar_values::{Set, Value, ValueKind};
-use row_parts::{NoAnswer, Part};
+use row_parts::{NoAnswer, Part, maybe_place};
 use row_trees::{Keyed, KeyedValue, literals, value_pairs, values};
 use std::alloc::Global;
 use std::collections::BTreeMap;
@@ -16,124 +16,158 @@ type Kind = ValueKind<Keyed>;
 pub fn answer(alloc: Global, call: &str, args: &[Part]) -> Result<String, NoAnswer> {
     match (call, args) {
         ("makeval", [place, f, args @ ..]) => {
-            let place = maybe_loc(alloc, place)?;
-            match f.word()? {
-                "empty_set" => empty_set(alloc, place),
-                "empty_record" => empty_record(alloc, place),
-                "set" => set(alloc, args, place),
-                "from_vec" => from_vec(alloc, args),
-                "set_of_lits" => set_of_lits(alloc, args, place),
-                "record" => record(alloc, args, place),
-                "record_arc" => record_arc(alloc, args, place),
-                "from" => from(alloc, args),
-                _ => Err(NoAnswer::NotTaken),
-            }
+            let f = f.word()?;
+            made(alloc, f, args, maybe_place(alloc, place)?)
         }
         _ => Err(NoAnswer::OtherCall),
     }
 }
 
+fn made(alloc: Global, f: &str, args: &[Part], loc: Option<Loc>) -> Result<String, NoAnswer> {
+    match f {
+        "empty_set" => empty_set(alloc, loc),
+        "empty_record" => empty_record(alloc, loc),
+        "set" => set(alloc, args, loc),
+        "from_vec" => from_vec(alloc, args),
+        "set_of_lits" => set_of_lits(alloc, args, loc),
+        "record" => record(alloc, args, loc),
+        "record_arc" => record_arc(alloc, args, loc),
+        "from" => from(alloc, args),
+        _ => Err(NoAnswer::NotTaken),
+    }
+}
+
 // The text of the value with its places, where the kind is the same.
-fn same(alloc: Global, v: KeyedValue, kind: Kind) -> Result<String, NoAnswer> {
-    agreed(*v.value_kind() == kind, "values and kinds")?;
-    agreed(
-        v.is_well_formed() && kind.is_well_formed(),
-        "well formed values and kinds",
-    )?;
-    placed_value(alloc, &v)
+fn same(alloc: Global, v: &KeyedValue, kind: &Kind) -> Result<String, NoAnswer> {
+    agreed(*v.value_kind() == *kind, "values and kinds")?;
+    agreed(are_well_formed(v, kind), "well formed values and kinds")?;
+    placed_value(alloc, v)
+}
+
+fn are_well_formed(v: &KeyedValue, kind: &Kind) -> bool {
+    v.is_well_formed() && kind.is_well_formed()
 }
 
 fn empty_set(alloc: Global, loc: Option<Loc>) -> Result<String, NoAnswer> {
-    agreed(Set::<Keyed>::empty(alloc)?.is_empty(), "the empty sets")?;
+    is_empty(alloc)?;
     let v = Value::empty_set(alloc, loc)?;
-    same(alloc, v, ValueKind::empty_set(alloc)?)
+    same(alloc, &v, &ValueKind::empty_set(alloc)?)
+}
+
+fn is_empty(alloc: Global) -> Result<(), NoAnswer> {
+    let set = Set::<Keyed>::empty(alloc)?;
+    agreed(set.is_empty(), "the empty sets")
 }
 
 fn empty_record(alloc: Global, loc: Option<Loc>) -> Result<String, NoAnswer> {
     let v = Value::empty_record(alloc, loc)?;
-    same(alloc, v, ValueKind::empty_record(alloc)?)
+    same(alloc, &v, &ValueKind::empty_record(alloc)?)
 }
 
 fn set(alloc: Global, parts: &[Part], loc: Option<Loc>) -> Result<String, NoAnswer> {
     let v = Value::set(alloc, values(alloc, parts, 0)?, loc)?;
-    same(alloc, v, ValueKind::set(alloc, values(alloc, parts, 0)?)?)
+    same(alloc, &v, &set_kind(alloc, parts)?)
+}
+
+fn set_kind(alloc: Global, parts: &[Part]) -> Result<Kind, NoAnswer> {
+    Ok(ValueKind::set(alloc, values(alloc, parts, 0)?)?)
 }
 
 fn from_vec(alloc: Global, parts: &[Part]) -> Result<String, NoAnswer> {
     let v = Value::from_vec(alloc, values(alloc, parts, 0)?)?;
-    same(
-        alloc,
-        v,
-        ValueKind::from_vec(alloc, values(alloc, parts, 0)?)?,
-    )
+    same(alloc, &v, &vec_kind(alloc, parts)?)
+}
+
+fn vec_kind(alloc: Global, parts: &[Part]) -> Result<Kind, NoAnswer> {
+    Ok(ValueKind::from_vec(alloc, values(alloc, parts, 0)?)?)
 }
 
 fn set_of_lits(alloc: Global, parts: &[Part], loc: Option<Loc>) -> Result<String, NoAnswer> {
-    let kind = ValueKind::set_of_lits(alloc, literals(alloc, parts, 0)?)?;
-    let set = Set::from_lits(alloc, literals(alloc, parts, 0)?)?;
-    agreed(ValueKind::Set(set) == kind, "sets and kinds")?;
     let v = Value::set_of_lits(alloc, literals(alloc, parts, 0)?, loc)?;
-    same(alloc, v, kind)
+    is_set_of_lits(alloc, parts, v.value_kind())?;
+    same(alloc, &v, &lits_kind(alloc, parts)?)
+}
+
+fn lits_kind(alloc: Global, parts: &[Part]) -> Result<Kind, NoAnswer> {
+    Ok(ValueKind::set_of_lits(alloc, literals(alloc, parts, 0)?)?)
+}
+
+fn is_set_of_lits(alloc: Global, parts: &[Part], kind: &Kind) -> Result<(), NoAnswer> {
+    let set = Set::from_lits(alloc, literals(alloc, parts, 0)?)?;
+    agreed(ValueKind::Set(set) == *kind, "sets and kinds")
 }
 
 fn record(alloc: Global, parts: &[Part], loc: Option<Loc>) -> Result<String, NoAnswer> {
     let v = Value::record(alloc, value_pairs(alloc, parts, 0)?, loc)?;
-    same(
-        alloc,
-        v,
-        ValueKind::record(alloc, value_pairs(alloc, parts, 0)?)?,
-    )
+    same(alloc, &v, &record_kind(alloc, parts)?)
 }
 
+fn record_kind(alloc: Global, parts: &[Part]) -> Result<Kind, NoAnswer> {
+    Ok(ValueKind::record(alloc, value_pairs(alloc, parts, 0)?)?)
+}
+
+// Of the pairs of a record, which the value and the kind share.
 fn record_arc(alloc: Global, parts: &[Part], loc: Option<Loc>) -> Result<String, NoAnswer> {
-    let pairs = by_key(alloc, parts)?;
-    let kind = ValueKind::record_arc(pairs.clone()?);
-    same(alloc, Value::record_arc(pairs, loc), kind)
-}
-
-fn by_key(alloc: Global, parts: &[Part]) -> Result<Rc<BTreeMap<RcStr, KeyedValue>>, NoAnswer> {
-    let kind = ValueKind::record(alloc, value_pairs(alloc, parts, 0)?)?;
-    pairs_of(&kind)
-}
-
-fn pairs_of(kind: &Kind) -> Result<Rc<BTreeMap<RcStr, KeyedValue>>, NoAnswer> {
-    match kind {
-        ValueKind::Record(pairs) => Ok(pairs.clone()?),
+    match record_kind(alloc, parts)? {
+        ValueKind::Record(pairs) => {
+            let kind = shared_kind(&pairs)?;
+            same(alloc, &Value::record_arc(pairs, loc), &kind)
+        }
         _ => Err(NoAnswer::Disagree("a record and its kind")),
     }
+}
+
+fn shared_kind(pairs: &Rc<BTreeMap<RcStr, KeyedValue>>) -> Result<Kind, NoAnswer> {
+    Ok(ValueKind::record_arc(pairs.clone()?))
 }
 
 // By what the literal holds, and by the literal itself.
 fn from(alloc: Global, parts: &[Part]) -> Result<String, NoAnswer> {
     match literals(alloc, parts, 0)?.pop() {
-        Some(literal) => from_literal(alloc, literal),
+        Some(literal) => from_literal(alloc, &literal),
         None => Err(NoAnswer::NotTaken),
     }
 }
 
-fn from_literal(alloc: Global, literal: Literal) -> Result<String, NoAnswer> {
-    let of_literal: KeyedValue = Value::from(literal.clone(alloc)?);
-    let kind_of_literal: Kind = ValueKind::from(literal.clone(alloc)?);
-    let (v, kind) = of_held(literal)?;
-    agreed(v == of_literal, "a literal and what it holds")?;
-    agreed(
-        kind == kind_of_literal,
-        "the kinds of a literal and of what it holds",
-    )?;
-    same(alloc, v, kind)
+fn from_literal(alloc: Global, literal: &Literal) -> Result<String, NoAnswer> {
+    let v = value_held(literal)?;
+    is_value_of(alloc, &v, literal)?;
+    same_as_held(alloc, &v, literal)
 }
 
-fn of_held(literal: Literal) -> Result<(KeyedValue, Kind), NoAnswer> {
+fn same_as_held(alloc: Global, v: &KeyedValue, literal: &Literal) -> Result<String, NoAnswer> {
+    let kind = kind_held(literal)?;
+    is_kind_of(alloc, &kind, literal)?;
+    same(alloc, v, &kind)
+}
+
+fn is_value_of(alloc: Global, v: &KeyedValue, literal: &Literal) -> Result<(), NoAnswer> {
+    let of_literal: KeyedValue = Value::from(literal.clone(alloc)?);
+    agreed(*v == of_literal, "a literal and what it holds")
+}
+
+fn is_kind_of(alloc: Global, kind: &Kind, literal: &Literal) -> Result<(), NoAnswer> {
+    let of_literal: Kind = ValueKind::from(literal.clone(alloc)?);
+    agreed(
+        *kind == of_literal,
+        "the kinds of a literal and of what it holds",
+    )
+}
+
+fn value_held(literal: &Literal) -> Result<KeyedValue, NoAnswer> {
     match literal {
-        Literal::Bool(b) => Ok((Value::from(b), ValueKind::from(b))),
-        Literal::Long(n) => Ok((Value::from(n), ValueKind::from(n))),
-        Literal::String(s) => {
-            let copy = s.clone()?;
-            Ok((Value::from(s), ValueKind::from(copy)))
-        }
-        Literal::EntityUID(uid) => {
-            let copy = uid.clone()?;
-            Ok((Value::from(uid), ValueKind::from(copy)))
-        }
+        Literal::Bool(b) => Ok(Value::from(*b)),
+        Literal::Long(n) => Ok(Value::from(*n)),
+        Literal::String(s) => Ok(Value::from(s.clone()?)),
+        Literal::EntityUID(uid) => Ok(Value::from(uid.clone()?)),
+    }
+}
+
+fn kind_held(literal: &Literal) -> Result<Kind, NoAnswer> {
+    match literal {
+        Literal::Bool(b) => Ok(ValueKind::from(*b)),
+        Literal::Long(n) => Ok(ValueKind::from(*n)),
+        Literal::String(s) => Ok(ValueKind::from(s.clone()?)),
+        Literal::EntityUID(uid) => Ok(ValueKind::from(uid.clone()?)),
     }
 }

@@ -1,11 +1,11 @@
 //! Partial values.
-use crate::answers::{agreed, are_equal, maybe_loc};
+use crate::answers::{agreed, are_equal};
 use cedar_exprs::Expr;
 use cedar_names::Loc;
 use cedar_terms::Unknown;
 use cedar_values::{ContainsUnknown, PartialValue, PartialValueToValueError, split};
 use either::Either;
-use row_parts::{NoAnswer, Part, boolean, place};
+use row_parts::{NoAnswer, Part, boolean, maybe_place, place};
 use row_trees::{Keyed, KeyedValue, expr, placed, sketch, value};
 use std::alloc::Global;
 use std::convert::TryFrom;
@@ -24,8 +24,8 @@ pub fn answer(alloc: Global, call: &str, args: &[Part]) -> Result<String, NoAnsw
                 _ => Err(NoAnswer::OtherCall),
             },
             [a, b] => match call {
-                "partial" => moved(alloc, item(alloc, b)?, maybe_loc(alloc, a)?),
-                "partialexpr" => written(alloc, item(alloc, b)?, maybe_loc(alloc, a)?),
+                "partial" => moved(alloc, item(alloc, b)?, maybe_place(alloc, a)?),
+                "partialexpr" => written(alloc, item(alloc, b)?, maybe_place(alloc, a)?),
                 "eqpartial" => boolean(alloc, are_equal(item(alloc, a)?, item(alloc, b)?)),
                 _ => Err(NoAnswer::OtherCall),
             },
@@ -74,12 +74,25 @@ fn from_expr(alloc: Global, e: Expr) -> Result<Item, NoAnswer> {
 
 // Text and place of the item at this place, and what it is as a value.
 fn moved(alloc: Global, item: Item, loc: Option<Loc>) -> Result<String, NoAnswer> {
-    let copy = item.clone(alloc)?;
-    agreed(copy == item, "a partial value and its copy")?;
+    let copy = copied(alloc, &item)?;
     let moved = item.with_maybe_source_loc(loc);
-    agreed(copy == moved, "a partial value at two places")?;
-    let text = at_place(alloc, &moved)?;
-    match value_of(moved) {
+    let text = same_at_place(alloc, &copy, &moved)?;
+    known(alloc, text, moved)
+}
+
+fn copied(alloc: Global, item: &Item) -> Result<Item, NoAnswer> {
+    let copy = item.clone(alloc)?;
+    agreed(copy == *item, "a partial value and its copy")?;
+    Ok(copy)
+}
+
+fn same_at_place(alloc: Global, copy: &Item, moved: &Item) -> Result<String, NoAnswer> {
+    agreed(*copy == *moved, "a partial value at two places")?;
+    at_place(alloc, moved)
+}
+
+fn known(alloc: Global, text: String, item: Item) -> Result<String, NoAnswer> {
+    match value_of(item) {
         Ok(v) => Ok(format!(in alloc; "{text} | value {v}")?),
         Err(_) => Ok(format!(in alloc; "{text} | contains-unknown")?),
     }
@@ -87,15 +100,19 @@ fn moved(alloc: Global, item: Item, loc: Option<Loc>) -> Result<String, NoAnswer
 
 fn at_place(alloc: Global, item: &Item) -> Result<String, NoAnswer> {
     match item {
-        PartialValue::Value(v) => {
-            let loc = place(alloc, v.source_loc())?;
-            Ok(format!(in alloc; "{v} | {loc}")?)
-        }
-        PartialValue::Residual(e) => {
-            let loc = place(alloc, e.source_loc())?;
-            Ok(format!(in alloc; "{} | {loc}", sketch(alloc, e)?)?)
-        }
+        PartialValue::Value(v) => value_text(alloc, v),
+        PartialValue::Residual(e) => residual_text(alloc, e),
     }
+}
+
+fn value_text(alloc: Global, v: &KeyedValue) -> Result<String, NoAnswer> {
+    let loc = place(alloc, v.source_loc())?;
+    Ok(format!(in alloc; "{v} | {loc}")?)
+}
+
+fn residual_text(alloc: Global, e: &Expr) -> Result<String, NoAnswer> {
+    let loc = place(alloc, e.source_loc())?;
+    Ok(format!(in alloc; "{} | {loc}", sketch(alloc, e)?)?)
 }
 
 fn value_of(item: Item) -> Result<KeyedValue, PartialValueToValueError> {
@@ -106,21 +123,31 @@ fn value_of(item: Item) -> Result<KeyedValue, PartialValueToValueError> {
 fn refused(alloc: Global, item: Item) -> Result<String, NoAnswer> {
     match value_of(item) {
         Ok(v) => Ok(format!(in alloc; "ok {v}")?),
-        Err(error) => {
-            let text = format!(in alloc; "{error}")?;
-            let PartialValueToValueError::ContainsUnknown(held) = error;
-            held_by(alloc, text, held)
-        }
+        Err(error) => refusal(alloc, error),
     }
 }
 
-fn held_by(alloc: Global, text: String, held: ContainsUnknown) -> Result<String, NoAnswer> {
-    let of_held = format!(in alloc; "{held}")?;
-    agreed(of_held.as_str() == text.as_str(), "the texts of a refusal")?;
-    let residual = sketch(alloc, held.residual())?;
-    let again = format!(in alloc; "{}", PartialValueToValueError::from(held))?;
-    agreed(again.as_str() == text.as_str(), "a refusal made anew")?;
+fn refusal(alloc: Global, error: PartialValueToValueError) -> Result<String, NoAnswer> {
+    let text = error_text(alloc, &error)?;
+    let PartialValueToValueError::ContainsUnknown(held) = error;
+    let residual = residual_of(alloc, text.as_str(), &held)?;
+    is_made_anew(alloc, text.as_str(), held)?;
     Ok(format!(in alloc; "{text} | {residual}")?)
+}
+
+fn error_text(alloc: Global, error: &PartialValueToValueError) -> Result<String, NoAnswer> {
+    Ok(format!(in alloc; "{error}")?)
+}
+
+fn residual_of(alloc: Global, text: &str, held: &ContainsUnknown) -> Result<String, NoAnswer> {
+    let of_held = format!(in alloc; "{held}")?;
+    agreed(of_held.as_str() == text, "the texts of a refusal")?;
+    sketch(alloc, held.residual())
+}
+
+fn is_made_anew(alloc: Global, text: &str, held: ContainsUnknown) -> Result<(), NoAnswer> {
+    let again = error_text(alloc, &PartialValueToValueError::from(held))?;
+    agreed(again.as_str() == text, "a refusal made anew")
 }
 
 fn written(alloc: Global, item: Item, loc: Option<Loc>) -> Result<String, NoAnswer> {

@@ -10,8 +10,8 @@ use std::rc::Rc;
 /// The answer to a call on values that are ordered in reverse.
 pub fn answer(alloc: Global, call: &str, args: &[Part]) -> Result<String, NoAnswer> {
     match (call, args) {
-        ("flips", [a, b]) => compared(alloc, set(alloc, a)?, set(alloc, b)?),
-        ("flipin", [k, a]) => found(alloc, number(alloc, k)?, set(alloc, a)?),
+        ("flips", [a, b]) => compared(alloc, &set(alloc, a)?, &set(alloc, b)?),
+        ("flipin", [k, a]) => found(alloc, number(alloc, k)?, &set(alloc, a)?),
         _ => Err(NoAnswer::OtherCall),
     }
 }
@@ -30,10 +30,15 @@ fn flip(alloc: Global, number: i64) -> Result<Value<Flip>, NoAnswer> {
 
 // The set of these, which those gathered twice have to make too.
 fn set(alloc: Global, part: &Part) -> Result<Set<Flip>, NoAnswer> {
-    let set = Set::new(alloc, flips(alloc, part.list()?, 1)?)?;
-    let gathered = Set::from_values(alloc, flips(alloc, part.list()?, 2)?)?;
-    agreed(gathered == set, "sets made and gathered")?;
+    let parts = part.list()?;
+    let set = Set::new(alloc, flips(alloc, parts, 1)?)?;
+    is_gathered(alloc, parts, &set)?;
     Ok(set)
+}
+
+fn is_gathered(alloc: Global, parts: &[Part], set: &Set<Flip>) -> Result<(), NoAnswer> {
+    let gathered = Set::from_values(alloc, flips(alloc, parts, 2)?)?;
+    agreed(gathered == *set, "sets made and gathered")
 }
 
 // The values of the numbers, each so many times.
@@ -47,14 +52,10 @@ fn flips(alloc: Global, parts: &[Part], times: usize) -> Result<Vec<Value<Flip>>
     Ok(flips)
 }
 
-fn compared(alloc: Global, a: Set<Flip>, b: Set<Flip>) -> Result<String, NoAnswer> {
-    let listed = listed(alloc, &a)?;
-    let subset = a.is_subset(&b);
-    let disjoint = a.is_disjoint(&b);
-    Ok(format!(in alloc;
-        "{listed} subset={subset} disjoint={disjoint} equal={}",
-        a == b
-    )?)
+fn compared(alloc: Global, a: &Set<Flip>, b: &Set<Flip>) -> Result<String, NoAnswer> {
+    let listed = listed(alloc, a)?;
+    let (subset, disjoint, equal) = (a.is_subset(b), a.is_disjoint(b), *a == *b);
+    Ok(format!(in alloc; "{listed} subset={subset} disjoint={disjoint} equal={equal}")?)
 }
 
 // The numbers of the members, in their order, and whether the set is well formed.
@@ -62,17 +63,18 @@ fn listed(alloc: Global, set: &Set<Flip>) -> Result<String, NoAnswer> {
     let mut text = String::new(alloc);
     for member in set.authoritative() {
         if let ValueKind::ExtensionValue(x) = member.value_kind() {
-            list(
-                &mut text,
-                format!(in alloc; "{}", x.value().number())?.as_str(),
-            )?;
+            list(&mut text, number_text(alloc, x.value())?.as_str())?;
         }
     }
     Ok(format!(in alloc; "{text} {}", set.is_well_formed())?)
 }
 
+fn number_text(alloc: Global, x: &Flip) -> Result<String, NoAnswer> {
+    Ok(format!(in alloc; "{}", x.number())?)
+}
+
 // Whether it is in the set, and its number as a literal is not.
-fn found(alloc: Global, number: i64, set: Set<Flip>) -> Result<String, NoAnswer> {
+fn found(alloc: Global, number: i64, set: &Set<Flip>) -> Result<String, NoAnswer> {
     agreed(
         !set.contains(&Value::from(number)),
         "numbers and values that are made of them",

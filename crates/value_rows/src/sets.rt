@@ -8,16 +8,20 @@ use std::alloc::Global;
 /// The answer to a call on sets.
 pub fn answer(alloc: Global, call: &str, args: &[Part]) -> Result<String, NoAnswer> {
     match call {
-        "kept" => kept(alloc, values(alloc, args, 0)?, values(alloc, args, 0)?),
+        "kept" => kept(
+            alloc,
+            values(alloc, args, 0)?.as_slice(),
+            &set_of(alloc, args)?,
+        ),
         _ => match args {
             [v] => match call {
-                "members" => members(alloc, value(alloc, v)?),
+                "members" => members(alloc, &value(alloc, v)?),
                 _ => Err(NoAnswer::OtherCall),
             },
             [v, w] => match call {
-                "contains" => contains(alloc, value(alloc, v)?, value(alloc, w)?),
-                "subset" => subset(alloc, value(alloc, v)?, value(alloc, w)?),
-                "disjoint" => disjoint(alloc, value(alloc, v)?, value(alloc, w)?),
+                "contains" => contains(alloc, &value(alloc, v)?, &value(alloc, w)?),
+                "subset" => subset(alloc, &value(alloc, v)?, &value(alloc, w)?),
+                "disjoint" => disjoint(alloc, &value(alloc, v)?, &value(alloc, w)?),
                 _ => Err(NoAnswer::OtherCall),
             },
             _ => Err(NoAnswer::OtherCall),
@@ -32,23 +36,23 @@ fn set(v: &KeyedValue) -> Result<&Set<Keyed>, NoAnswer> {
     }
 }
 
-fn contains(alloc: Global, v: KeyedValue, w: KeyedValue) -> Result<String, NoAnswer> {
-    boolean(alloc, set(&v)?.contains(&w))
+fn contains(alloc: Global, v: &KeyedValue, w: &KeyedValue) -> Result<String, NoAnswer> {
+    boolean(alloc, set(v)?.contains(w))
 }
 
-fn subset(alloc: Global, v: KeyedValue, w: KeyedValue) -> Result<String, NoAnswer> {
-    boolean(alloc, set(&v)?.is_subset(set(&w)?))
+fn subset(alloc: Global, v: &KeyedValue, w: &KeyedValue) -> Result<String, NoAnswer> {
+    boolean(alloc, set(v)?.is_subset(set(w)?))
 }
 
-fn disjoint(alloc: Global, v: KeyedValue, w: KeyedValue) -> Result<String, NoAnswer> {
-    let (v, w) = (set(&v)?, set(&w)?);
+fn disjoint(alloc: Global, v: &KeyedValue, w: &KeyedValue) -> Result<String, NoAnswer> {
+    let (v, w) = (set(v)?, set(w)?);
     let answer = v.is_disjoint(w);
     agreed(w.is_disjoint(v) == answer, "the two ways round")?;
     boolean(alloc, answer)
 }
 
-fn members(alloc: Global, v: KeyedValue) -> Result<String, NoAnswer> {
-    let set = set(&v)?;
+fn members(alloc: Global, v: &KeyedValue) -> Result<String, NoAnswer> {
+    let set = set(v)?;
     agreed(
         set.is_well_formed() == v.is_well_formed(),
         "a value and its set",
@@ -86,15 +90,14 @@ fn listed(alloc: Global, text: String, set: &Set<Keyed>) -> Result<String, NoAns
     Ok(text)
 }
 
-fn kept(
-    alloc: Global,
-    given: Vec<KeyedValue>,
-    values: Vec<KeyedValue>,
-) -> Result<String, NoAnswer> {
-    let set = Set::new(alloc, values)?;
+fn set_of(alloc: Global, parts: &[Part]) -> Result<Set<Keyed>, NoAnswer> {
+    Ok(Set::new(alloc, values(alloc, parts, 0)?)?)
+}
+
+fn kept(alloc: Global, given: &[KeyedValue], set: &Set<Keyed>) -> Result<String, NoAnswer> {
     let mut are_kept = true;
     for member in set.iter() {
-        are_kept = are_kept && is_among(member, given.as_slice());
+        are_kept = are_kept && is_among(member, given);
     }
     boolean(alloc, are_kept)
 }

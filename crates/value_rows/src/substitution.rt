@@ -13,20 +13,20 @@ type Values = HashMap<RcStr, KeyedValue>;
 pub fn answer(alloc: Global, call: &str, args: &[Part]) -> Result<String, NoAnswer> {
     match args {
         [e, env] => match call {
-            "valuesinto" => built(alloc, expr(alloc, e)?, bindings(alloc, env)?),
-            "typedvaluesinto" => built_typed(alloc, expr(alloc, e)?, bindings(alloc, env)?),
+            "valuesinto" => built(alloc, &expr(alloc, e)?, &bindings(alloc, env)?),
+            "typedvaluesinto" => built_typed(alloc, &expr(alloc, e)?, &bindings(alloc, env)?),
             _ => Err(NoAnswer::OtherCall),
         },
         _ => Err(NoAnswer::OtherCall),
     }
 }
 
-fn built(alloc: Global, e: Expr, values: Values) -> Result<String, NoAnswer> {
-    sketch(alloc, &by_struct::<()>(alloc, &e, &values)?)
+fn built(alloc: Global, e: &Expr, values: &Values) -> Result<String, NoAnswer> {
+    sketch(alloc, &by_struct::<()>(alloc, e, values)?)
 }
 
-fn built_typed(alloc: Global, e: Expr, values: Values) -> Result<String, NoAnswer> {
-    match typed_by_struct::<()>(alloc, &e, &values)? {
+fn built_typed(alloc: Global, e: &Expr, values: &Values) -> Result<String, NoAnswer> {
+    match typed_by_struct::<()>(alloc, e, values)? {
         Ok(made) => Ok(format!(in alloc; "ok {}", sketch(alloc, &made)?)?),
         Err(clash) => Ok(clash),
     }

@@ -10,16 +10,16 @@ use std::fmt;
 pub fn answer(alloc: Global, call: &str, args: &[Part]) -> Result<String, NoAnswer> {
     match call {
         "text" => match args {
-            [v] => unbounded(alloc, value(alloc, v)?),
-            [bound, v] => bounded(alloc, count(bound)?, value(alloc, v)?),
+            [v] => unbounded(alloc, &value(alloc, v)?),
+            [bound, v] => bounded(alloc, count(bound)?, &value(alloc, v)?),
             _ => Err(NoAnswer::OtherCall),
         },
         _ => Err(NoAnswer::OtherCall),
     }
 }
 
-fn unbounded(alloc: Global, v: KeyedValue) -> Result<String, NoAnswer> {
-    let text = whole(alloc, &v)?;
+fn unbounded(alloc: Global, v: &KeyedValue) -> Result<String, NoAnswer> {
+    let text = whole(alloc, v)?;
     agreed(
         whole(alloc, v.value_kind())?.as_str() == text.as_str(),
         "values and kinds",
@@ -27,8 +27,8 @@ fn unbounded(alloc: Global, v: KeyedValue) -> Result<String, NoAnswer> {
     Ok(text)
 }
 
-fn bounded(alloc: Global, bound: usize, v: KeyedValue) -> Result<String, NoAnswer> {
-    let text = within(alloc, &v, bound)?;
+fn bounded(alloc: Global, bound: usize, v: &KeyedValue) -> Result<String, NoAnswer> {
+    let text = within(alloc, v, bound)?;
     agreed(
         within(alloc, v.value_kind(), bound)?.as_str() == text.as_str(),
         "values and kinds",

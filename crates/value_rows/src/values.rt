@@ -1,7 +1,7 @@
 //! Comparisons of values, what is inside them, and what they say of themselves.
 use crate::answers::{agreed, are_equal};
 use cedar_exprs::SubstituteValue;
-use cedar_terms::{EntityUID, StaticallyTyped};
+use cedar_terms::{EntityUID, StaticallyTyped, Type};
 use cedar_values::{ExtensionValue, RepresentableExtensionValue, ValueKind};
 use row_parts::{NoAnswer, Part, boolean, sign};
 use row_trees::{Keyed, KeyedValue, sketch, value};
@@ -12,30 +12,30 @@ use std::collections::HashSet;
 pub fn answer(alloc: Global, call: &str, args: &[Part]) -> Result<String, NoAnswer> {
     match args {
         [v] => match call {
-            "valtype" => typed(alloc, value(alloc, v)?),
-            "uids" => uids(alloc, value(alloc, v)?),
-            "extval" => said(alloc, value(alloc, v)?),
+            "valtype" => typed(alloc, &value(alloc, v)?),
+            "uids" => uids(alloc, &value(alloc, v)?),
+            "extval" => said(alloc, &value(alloc, v)?),
             _ => Err(NoAnswer::OtherCall),
         },
         [v, w] => match call {
-            "cmpval" => compared(alloc, value(alloc, v)?, value(alloc, w)?),
+            "cmpval" => compared(alloc, &value(alloc, v)?, &value(alloc, w)?),
             "eqval" => boolean(alloc, are_equal(value(alloc, v)?, value(alloc, w)?)),
-            "eqloc" => equal_at_place(alloc, value(alloc, v)?, value(alloc, w)?),
+            "eqloc" => equal_at_place(alloc, &value(alloc, v)?, &value(alloc, w)?),
             _ => Err(NoAnswer::OtherCall),
         },
         _ => Err(NoAnswer::OtherCall),
     }
 }
 
-fn equal_at_place(alloc: Global, v: KeyedValue, w: KeyedValue) -> Result<String, NoAnswer> {
-    boolean(alloc, v.eq_and_same_source_loc(&w))
+fn equal_at_place(alloc: Global, v: &KeyedValue, w: &KeyedValue) -> Result<String, NoAnswer> {
+    boolean(alloc, v.eq_and_same_source_loc(w))
 }
 
-fn compared(alloc: Global, v: KeyedValue, w: KeyedValue) -> Result<String, NoAnswer> {
-    let order = v.cmp(&w);
-    agreed((v == w) == order.is_eq(), "equality and order")?;
-    agreed(w.cmp(&v) == order.reverse(), "the order and its reverse")?;
-    agreed(v.partial_cmp(&w) == Some(order), "the orders")?;
+fn compared(alloc: Global, v: &KeyedValue, w: &KeyedValue) -> Result<String, NoAnswer> {
+    let order = v.cmp(w);
+    agreed((*v == *w) == order.is_eq(), "equality and order")?;
+    agreed(w.cmp(v) == order.reverse(), "the order and its reverse")?;
+    agreed(v.partial_cmp(w) == Some(order), "the orders")?;
     agreed(
         v.value_kind().cmp(w.value_kind()) == order,
         "values and kinds",
@@ -43,19 +43,27 @@ fn compared(alloc: Global, v: KeyedValue, w: KeyedValue) -> Result<String, NoAns
     sign(alloc, order)
 }
 
-fn typed(alloc: Global, v: KeyedValue) -> Result<String, NoAnswer> {
+fn typed(alloc: Global, v: &KeyedValue) -> Result<String, NoAnswer> {
     let ty = v.type_of(alloc)?;
-    agreed(v.value_kind().type_of(alloc)? == ty, "values and kinds")?;
-    agreed(v.value_type(alloc)? == ty, "the types")?;
+    same_type(alloc, v, &ty)?;
     Ok(format!(in alloc; "{ty}")?)
 }
 
-fn uids(alloc: Global, v: KeyedValue) -> Result<String, NoAnswer> {
+fn same_type(alloc: Global, v: &KeyedValue, ty: &Type) -> Result<(), NoAnswer> {
+    agreed(v.value_kind().type_of(alloc)? == *ty, "values and kinds")?;
+    agreed(v.value_type(alloc)? == *ty, "the types")
+}
+
+fn uids(alloc: Global, v: &KeyedValue) -> Result<String, NoAnswer> {
     let uids = sorted(alloc, v.all_literal_uids(alloc)?)?;
     let of_kind = sorted(alloc, v.value_kind().all_literal_uids(alloc)?)?;
     agreed(uids == of_kind, "values and kinds")?;
+    uid_texts(alloc, uids.as_slice())
+}
+
+fn uid_texts(alloc: Global, uids: &[EntityUID]) -> Result<String, NoAnswer> {
     let mut text = String::new(alloc);
-    for uid in &uids {
+    for uid in uids {
         if !text.is_empty() {
             text.push(' ')?;
         }
@@ -73,7 +81,7 @@ fn sorted(alloc: Global, found: HashSet<EntityUID>) -> Result<Vec<EntityUID>, No
     Ok(uids)
 }
 
-fn said(alloc: Global, v: KeyedValue) -> Result<String, NoAnswer> {
+fn said(alloc: Global, v: &KeyedValue) -> Result<String, NoAnswer> {
     match v.value_kind() {
         ValueKind::ExtensionValue(x) => said_by(alloc, x),
         _ => Err(NoAnswer::NotTaken),

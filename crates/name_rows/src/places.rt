@@ -1,9 +1,10 @@
 //! Places, slots and lists of one item or more.
-use crate::compared::{compared, is_equal, same};
-use crate::placed::{place_in_text, place_of};
 use cedar_names::{Loc, NonEmpty, PrincipalOrResource, Slot, SlotId};
-use cedar_terms::{Escaped, Var};
-use row_parts::{NoAnswer, Part, count, join, shared_text};
+use cedar_terms::Var;
+use row_parts::{
+    Answer, NoAnswer, Part, compare, copy_of, count, equal, join, maybe_place, place_in_text,
+    quoted, same, shared_text,
+};
 use std::alloc::Global;
 use std::rc::RcStr;
 
@@ -38,9 +39,13 @@ fn place_in(alloc: Global, part: &Part) -> Result<Loc, NoAnswer> {
     }
 }
 
+// By a copy of the first.
 fn compared_places(alloc: Global, a: &Part, b: &Part) -> Result<String, NoAnswer> {
-    let (a, b) = (place_in(alloc, a)?, place_in(alloc, b)?);
-    compared(alloc, &a.clone(alloc)?, &b)
+    compare(
+        alloc,
+        copy_of(alloc, place_in(alloc, a)),
+        place_in(alloc, b),
+    )
 }
 
 fn principal_or_resource(part: &Part) -> Result<PrincipalOrResource, NoAnswer> {
@@ -58,26 +63,29 @@ fn slot_id(part: &Part) -> Result<SlotId, NoAnswer> {
     }
 }
 
-fn slot(alloc: Global, part: &Part, at: &Part) -> Result<Slot, NoAnswer> {
+fn slot_at(alloc: Global, id: &Part, at: &Part) -> Result<Slot, NoAnswer> {
+    let id = slot_id(id)?;
     Ok(Slot {
-        id: slot_id(part)?,
-        loc: place_of(alloc, at)?,
+        id,
+        loc: maybe_place(alloc, at)?,
     })
 }
 
 // What a copy of the slot says of itself.
-fn told(alloc: Global, part: &Part, at: &Part) -> Result<String, NoAnswer> {
-    let which = principal_or_resource(part)?;
-    let slot = slot(alloc, part, at)?;
-    let copy = slot.clone(alloc)?;
-    same(&copy.id, &SlotId::from(which))?;
-    let (principal, resource) = (copy.id.is_principal(), copy.id.is_resource());
-    let loc = place_in_text(alloc, copy.loc.as_ref())?;
-    Ok(format!(in alloc;
-        "{} principal={principal} resource={resource} var={} loc={loc}",
-        copy.id,
-        Var::from(which)
-    )?)
+fn told(alloc: Global, id: &Part, at: &Part) -> Result<String, NoAnswer> {
+    let copy = copy_of(alloc, slot_at(alloc, id, at))?;
+    told_slot(alloc, &copy, principal_or_resource(id)?)
+}
+
+fn told_slot(alloc: Global, slot: &Slot, which: PrincipalOrResource) -> Result<String, NoAnswer> {
+    same(&slot.id, &SlotId::from(which))?;
+    Answer::new(alloc)
+        .word(&slot.id)
+        .labelled("principal=", &slot.id.is_principal())
+        .labelled("resource=", &slot.id.is_resource())
+        .labelled("var=", &Var::from(which))
+        .labelled_made("loc=", place_in_text(alloc, slot.loc.as_ref()))
+        .end()
 }
 
 fn compared_slots(
@@ -87,34 +95,42 @@ fn compared_slots(
     b: &Part,
     beside: &Part,
 ) -> Result<String, NoAnswer> {
-    let (a, b) = (slot(alloc, a, at)?, slot(alloc, b, beside)?);
-    let equal = is_equal(&a, &b)?;
-    let sign = compared(alloc, &a.id, &b.id)?;
-    Ok(format!(in alloc; "{equal} {sign}")?)
+    Answer::new(alloc)
+        .made(equal(alloc, slot_at(alloc, a, at), slot_at(alloc, b, beside)))
+        .made(compare(alloc, slot_id(a), slot_id(b)))
+        .end()
 }
 
 fn list(alloc: Global, part: &Part) -> Result<NonEmpty<RcStr>, NoAnswer> {
     let [head, rest @ ..] = part.list()? else {
         return Err(NoAnswer::NotTaken);
     };
-    let mut tail = Vec::new(alloc);
-    for item in rest {
-        tail.push(shared_text(alloc, item)?)?;
-    }
-    Ok(NonEmpty::new(shared_text(alloc, head)?, tail))
+    let head = shared_text(alloc, head)?;
+    Ok(NonEmpty::new(head, texts(alloc, rest)?))
 }
 
+fn texts(alloc: Global, parts: &[Part]) -> Result<Vec<RcStr>, NoAnswer> {
+    let mut texts = Vec::new(alloc);
+    for part in parts {
+        texts.push(shared_text(alloc, part)?)?;
+    }
+    Ok(texts)
+}
+
+// By a copy of the first.
 fn compared_lists(alloc: Global, a: &Part, b: &Part) -> Result<String, NoAnswer> {
-    let (a, b) = (list(alloc, a)?, list(alloc, b)?);
-    compared(alloc, &a.clone(alloc)?, &b)
+    compare(alloc, copy_of(alloc, list(alloc, a)), list(alloc, b))
 }
 
 fn items_of(alloc: Global, part: &Part) -> Result<String, NoAnswer> {
     let list = list(alloc, part)?;
+    told_items(alloc, &list)
+}
+
+fn told_items(alloc: Global, list: &NonEmpty<RcStr>) -> Result<String, NoAnswer> {
     let mut items = String::new(alloc);
     for text in list.iter() {
-        let item = format!(in alloc; "\"{}\"", Escaped(text.as_str()))?;
-        join(&mut items, item.as_str())?;
+        join(&mut items, quoted(alloc, text.as_str())?.as_str())?;
     }
     Ok(items)
 }
