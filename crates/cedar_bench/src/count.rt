@@ -1,4 +1,4 @@
-//! An extension whose values are counts, and its function.
+//! An extension whose values are counts, and its function `total`.
 ghost use Rattle.std.specs.Prelude.{◌≡◌, IfOk, Some, codes};
 ghost use Rattle.cedar_names.specs.Names.{unqualified};
 ghost use Rattle.cedar_names.specs.PlainNames.{bare_name};
@@ -11,7 +11,7 @@ use cedar_calls::{
     UnaryFunction, VariadicFunction,
 };
 use cedar_exprs::RestrictedExpr;
-use cedar_names::Name;
+use cedar_names::{Name, ParseErrors};
 use cedar_terms::Literal;
 use cedar_values::{ExtensionValue, Value, ValueKind};
 use std::alloc::{AllocError, Global};
@@ -28,6 +28,11 @@ fn count_name(alloc: Global) -> Result<Name, AllocError>
         Ok(name) => Ok(name),
         Err(_) => Err(AllocError),
     }
+}
+
+/// The name of the function.
+pub fn total_name(alloc: Global) -> Result<Name, ParseErrors> {
+    Name::parse_unqualified_name(alloc, "total")
 }
 
 impl ExtensionValue for Count {

@@ -1,29 +1,41 @@
 //! The cases of `cedar_names`.
-use crate::case::{BenchFault, CaseFault, Visit};
+use crate::fault::CaseFault;
+use crate::stopwatch::Stopwatch;
 use cedar_names::{FromNormalizedStr, InternalName, Name, ParseErrors};
-use std::alloc::Global;
+use std::alloc::{AllocError, Global};
+use std::time::Duration;
 
-const SIZES: [usize; 1] = [100_000];
-
-impl From<ParseErrors> for CaseFault {
-    fn from(error: ParseErrors) -> CaseFault {
-        match error {
-            ParseErrors::Memory => CaseFault::Memory,
-            ParseErrors::NotNormalized { .. } | ParseErrors::Reserved(_) => CaseFault::Answer,
-        }
-    }
+/// Reads so many names.
+pub fn time_read(rt: &HostRuntime, count: usize) -> Result<Duration, CaseFault> {
+    let texts = texts(rt.alloc(), count, "Type")?;
+    let watch = Stopwatch::start(rt);
+    watch.stop(read(rt.alloc(), &texts))
 }
 
-/// The cases of names.
-pub fn cases<V: Visit>(visit: &mut V) -> Result<(), BenchFault> {
-    visit.case("names-read", &SIZES, type_texts, read)?;
-    visit.case("names-refuse", &SIZES, refused_texts, refuse)?;
-    visit.case("names-sort", &SIZES, type_names, sort)?;
-    visit.case("names-qualify", &SIZES, unqualified, qualify)
+/// Reads so many texts that are no names.
+pub fn time_refuse(rt: &HostRuntime, count: usize) -> Result<Duration, CaseFault> {
+    let texts = texts(rt.alloc(), count, "9Type")?;
+    let watch = Stopwatch::start(rt);
+    watch.stop(refuse(rt.alloc(), &texts))
+}
+
+/// Sorts so many names.
+pub fn time_sort(rt: &HostRuntime, count: usize) -> Result<Duration, CaseFault> {
+    let mut names = type_names(rt.alloc(), count)?;
+    let watch = Stopwatch::start(rt);
+    watch.stop(names.sort())
+}
+
+/// Puts so many names within a namespace.
+pub fn time_qualify(rt: &HostRuntime, count: usize) -> Result<Duration, CaseFault> {
+    let names = unqualified(rt.alloc(), count)?;
+    let namespace = InternalName::from_normalized_str(rt.alloc(), "A::B")?;
+    let watch = Stopwatch::start(rt);
+    watch.stop(qualify(rt.alloc(), &names, &namespace))
 }
 
 // The texts `Namespace::SubJ::KIND`, followed by a number that counts from 0; J is its last digit.
-fn texts(alloc: Global, count: usize, kind: &str) -> Result<Vec<String>, CaseFault> {
+fn texts(alloc: Global, count: usize, kind: &str) -> Result<Vec<String>, AllocError> {
     let mut texts = Vec::new(alloc);
     for i in 0..count {
         texts.push(format!(in alloc; "Namespace::Sub{}::{kind}{i}", i % 10)?)?;
@@ -31,28 +43,20 @@ fn texts(alloc: Global, count: usize, kind: &str) -> Result<Vec<String>, CaseFau
     Ok(texts)
 }
 
-fn type_texts(alloc: Global, count: usize) -> Result<Vec<String>, CaseFault> {
-    texts(alloc, count, "Type")
-}
-
-fn refused_texts(alloc: Global, count: usize) -> Result<Vec<String>, CaseFault> {
-    texts(alloc, count, "9Type")
-}
-
 fn type_names(alloc: Global, count: usize) -> Result<Vec<Name>, CaseFault> {
-    read(alloc, &mut type_texts(alloc, count)?)
+    read(alloc, &texts(alloc, count, "Type")?)
 }
 
-fn read(alloc: Global, texts: &mut Vec<String>) -> Result<Vec<Name>, CaseFault> {
+fn read(alloc: Global, texts: &[String]) -> Result<Vec<Name>, CaseFault> {
     let mut names = Vec::new(alloc);
-    for text in texts.iter() {
+    for text in texts {
         names.push(Name::from_normalized_str(alloc, text)?)?;
     }
     Ok(names)
 }
 
-fn refuse(alloc: Global, texts: &mut Vec<String>) -> Result<(), CaseFault> {
-    for text in texts.iter() {
+fn refuse(alloc: Global, texts: &[String]) -> Result<(), CaseFault> {
+    for text in texts {
         match Name::from_normalized_str(alloc, text) {
             Err(ParseErrors::NotNormalized { .. }) => {}
             Err(error) => return Err(CaseFault::from(error)),
@@ -62,31 +66,28 @@ fn refuse(alloc: Global, texts: &mut Vec<String>) -> Result<(), CaseFault> {
     Ok(())
 }
 
-fn sort(_: Global, names: &mut Vec<Name>) -> Result<(), CaseFault> {
-    Ok(names.sort()?)
-}
-
-// A namespace, and names to be put within it.
-#[derive(Drop)]
-struct Qualification {
-    namespace: InternalName,
-    names: Vec<InternalName>,
-}
-
-fn unqualified(alloc: Global, count: usize) -> Result<Qualification, CaseFault> {
-    let namespace = InternalName::from_normalized_str(alloc, "A::B")?;
+// The names `Type0`, `Type1` and so on.
+fn unqualified(alloc: Global, count: usize) -> Result<Vec<InternalName>, CaseFault> {
     let mut names = Vec::new(alloc);
     for i in 0..count {
-        let text = format!(in alloc; "Type{i}")?;
-        names.push(InternalName::from_normalized_str(alloc, &text)?)?;
+        names.push(unqualified_name(alloc, i)?)?;
     }
-    Ok(Qualification { namespace, names })
+    Ok(names)
 }
 
-fn qualify(alloc: Global, input: &mut Qualification) -> Result<Vec<InternalName>, CaseFault> {
+fn unqualified_name(alloc: Global, number: usize) -> Result<InternalName, CaseFault> {
+    let text = format!(in alloc; "Type{number}")?;
+    Ok(InternalName::from_normalized_str(alloc, &text)?)
+}
+
+fn qualify(
+    alloc: Global,
+    names: &[InternalName],
+    namespace: &InternalName,
+) -> Result<Vec<InternalName>, AllocError> {
     let mut qualified = Vec::new(alloc);
-    for name in input.names.iter() {
-        qualified.push(name.qualify_with(alloc, Some(&input.namespace))?)?;
+    for name in names {
+        qualified.push(name.qualify_with(alloc, Some(namespace))?)?;
     }
     Ok(qualified)
 }

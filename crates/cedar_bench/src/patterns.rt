@@ -1,37 +1,65 @@
 //! The cases of patterns.
-use crate::case::{BenchFault, CaseFault, Visit};
+use crate::fault::{CaseFault, expect};
+use crate::stopwatch::Stopwatch;
 use cedar_terms::{Pattern, PatternElem};
-use std::alloc::Global;
+use std::alloc::{AllocError, Global};
+use std::time::Duration;
 
-const SIZES: [usize; 4] = [1_000, 10_000, 100_000, 1_000_000];
-
-const RESTART_SIZES: [usize; 4] = [1_000, 3_000, 10_000, 30_000];
-
-const USUAL_SIZES: [usize; 1] = [100_000];
+/// A pattern, and a text of so many characters.
+#[derive(Clone, Copy)]
+pub enum Wild {
+    Restart,
+    Stars,
+    Literal,
+    Unicode,
+}
 
 // How often one of the usual patterns matches one of the usual texts. Of the texts, 33,334 are of
 // pictures, 33,333 of logs; the first three patterns match all of one kind, and the last the 3,666
 // pictures whose user's number begins with 7.
 const USUAL_MATCHES: u64 = 103_666;
 
-/// The cases of patterns.
-pub fn cases<V: Visit>(visit: &mut V) -> Result<(), BenchFault> {
-    visit.case("wild-restart", &RESTART_SIZES, restarted, refuse)?;
-    visit.case("wild-stars", &SIZES, starred, refuse)?;
-    visit.case("wild-literal", &SIZES, literal, accept)?;
-    visit.case("wild-unicode", &SIZES, unicode, refuse)?;
-    visit.case("wild-usual", &USUAL_SIZES, usual, count_usual)
+/// Matches a pattern with a text of so many characters.
+pub fn time_match(rt: &HostRuntime, wild: Wild, count: usize) -> Result<Duration, CaseFault> {
+    let pattern = wild.pattern(rt.alloc(), count)?;
+    let text = wild.text(rt.alloc(), count)?;
+    let watch = Stopwatch::start(rt);
+    watch.stop(expect(pattern.wildcard_match(&text) == wild.is_match()))
 }
 
-// A pattern, and a text to match it with.
-#[derive(Drop)]
-struct WildCase {
-    pattern: Pattern,
-    text: String,
+/// Matches some usual patterns with so many texts.
+pub fn time_match_usual(rt: &HostRuntime, count: usize) -> Result<Duration, CaseFault> {
+    let patterns = usual_patterns(rt.alloc())?;
+    let texts = usual_texts(rt.alloc(), count)?;
+    let watch = Stopwatch::start(rt);
+    watch.stop(expect(count_matches(&patterns, &texts) == USUAL_MATCHES))
+}
+
+impl Wild {
+    fn pattern(self, alloc: Global, count: usize) -> Result<Pattern, AllocError> {
+        match self {
+            Wild::Restart => pattern_around(alloc, "*", "a", count / 2, "b"),
+            Wild::Stars => pattern_around(alloc, "", "*a", 20, "*b"),
+            Wild::Literal => pattern_around(alloc, "", "a", count, ""),
+            Wild::Unicode => pattern_of(alloc, "*日*é日"),
+        }
+    }
+
+    fn text(self, alloc: Global, count: usize) -> Result<String, AllocError> {
+        match self {
+            Wild::Restart | Wild::Stars | Wild::Literal => around(alloc, "", "a", count, ""),
+            Wild::Unicode => around(alloc, "", "é", count.saturating_sub(2), "é日"),
+        }
+    }
+
+    // Whether the pattern matches the text.
+    fn is_match(self) -> bool {
+        matches!(self, Wild::Literal)
+    }
 }
 
 // The pattern in which `*` is the wildcard.
-fn pattern_of(alloc: Global, text: &str) -> Result<Pattern, CaseFault> {
+fn pattern_of(alloc: Global, text: &str) -> Result<Pattern, AllocError> {
     let mut elems = Vec::new(alloc);
     for c in text.chars() {
         elems.push(match c {
@@ -39,72 +67,37 @@ fn pattern_of(alloc: Global, text: &str) -> Result<Pattern, CaseFault> {
             c => PatternElem::Char(c),
         })?;
     }
-    Ok(Pattern::from_vec(alloc, elems)?)
+    Pattern::from_vec(alloc, elems)
 }
 
-// The character so many times.
-fn repeated(alloc: Global, c: char, count: usize) -> Result<String, CaseFault> {
-    let mut text = String::new(alloc);
-    for _i in 0..count {
-        text.push(c)?;
+fn pattern_around(
+    alloc: Global,
+    before: &str,
+    part: &str,
+    count: usize,
+    after: &str,
+) -> Result<Pattern, AllocError> {
+    pattern_of(alloc, &around(alloc, before, part, count, after)?)
+}
+
+// The part so many times, between what stands before and after it.
+fn around(
+    alloc: Global,
+    before: &str,
+    part: &str,
+    count: usize,
+    after: &str,
+) -> Result<String, AllocError> {
+    let mut text = String::from_str(alloc, before)?;
+    for _ in 0..count {
+        text.push_str(part)?;
     }
+    text.push_str(after)?;
     Ok(text)
 }
 
-fn restarted(alloc: Global, count: usize) -> Result<WildCase, CaseFault> {
-    let half = repeated(alloc, 'a', count / 2)?;
-    let pattern = pattern_of(alloc, &format!(in alloc; "*{half}b")?)?;
-    let text = repeated(alloc, 'a', count)?;
-    Ok(WildCase { pattern, text })
-}
-
-fn starred(alloc: Global, count: usize) -> Result<WildCase, CaseFault> {
-    let mut stars = String::new(alloc);
-    for _i in 0..20 {
-        stars.push_str("*a")?;
-    }
-    let pattern = pattern_of(alloc, &format!(in alloc; "{stars}*b")?)?;
-    let text = repeated(alloc, 'a', count)?;
-    Ok(WildCase { pattern, text })
-}
-
-fn literal(alloc: Global, count: usize) -> Result<WildCase, CaseFault> {
-    let text = repeated(alloc, 'a', count)?;
-    let pattern = pattern_of(alloc, &text)?;
-    Ok(WildCase { pattern, text })
-}
-
-fn unicode(alloc: Global, count: usize) -> Result<WildCase, CaseFault> {
-    let pattern = pattern_of(alloc, "*日*é日")?;
-    let mut text = repeated(alloc, 'é', count.saturating_sub(2))?;
-    text.push_str("é日")?;
-    Ok(WildCase { pattern, text })
-}
-
-fn accept(_: Global, wild: &mut WildCase) -> Result<(), CaseFault> {
-    if wild.pattern.wildcard_match(&wild.text) {
-        Ok(())
-    } else {
-        Err(CaseFault::Answer)
-    }
-}
-
-fn refuse(_: Global, wild: &mut WildCase) -> Result<(), CaseFault> {
-    if wild.pattern.wildcard_match(&wild.text) {
-        Err(CaseFault::Answer)
-    } else {
-        Ok(())
-    }
-}
-
-// Patterns as policies have them, and texts to match each with.
-#[derive(Drop)]
-struct UsualCase {
-    patterns: Vec<Pattern>,
-    texts: Vec<String>,
-}
-
-fn usual(alloc: Global, count: usize) -> Result<UsualCase, CaseFault> {
+// Patterns as policies have them.
+fn usual_patterns(alloc: Global) -> Result<Vec<Pattern>, AllocError> {
     let mut patterns = Vec::new(alloc);
     for text in [
         "users/*/photos/*.jpg",
@@ -114,30 +107,35 @@ fn usual(alloc: Global, count: usize) -> Result<UsualCase, CaseFault> {
     ] {
         patterns.push(pattern_of(alloc, text)?)?;
     }
-    let mut texts = Vec::new(alloc);
-    for i in 0..count {
-        let of = i % 100;
-        texts.push(match i % 3 {
-            0 => format!(in alloc; "users/{of}/photos/picture-{i}.jpg")?,
-            1 => format!(in alloc; "arn:aws:s3:::bucket-{of}/logs/{i}.png")?,
-            _ => format!(in alloc; "tmp/{i}")?,
-        })?;
-    }
-    Ok(UsualCase { patterns, texts })
+    Ok(patterns)
 }
 
-fn count_usual(_: Global, input: &mut UsualCase) -> Result<(), CaseFault> {
+fn usual_texts(alloc: Global, count: usize) -> Result<Vec<String>, AllocError> {
+    let mut texts = Vec::new(alloc);
+    for i in 0..count {
+        texts.push(usual_text(alloc, i)?)?;
+    }
+    Ok(texts)
+}
+
+// A text to match with each of the usual patterns.
+fn usual_text(alloc: Global, number: usize) -> Result<String, AllocError> {
+    let of = number % 100;
+    match number % 3 {
+        0 => format!(in alloc; "users/{of}/photos/picture-{number}.jpg"),
+        1 => format!(in alloc; "arn:aws:s3:::bucket-{of}/logs/{number}.png"),
+        _ => format!(in alloc; "tmp/{number}"),
+    }
+}
+
+fn count_matches(patterns: &[Pattern], texts: &[String]) -> u64 {
     let mut count = 0u64;
-    for text in input.texts.iter() {
-        for pattern in input.patterns.iter() {
+    for text in texts {
+        for pattern in patterns {
             if pattern.wildcard_match(text) {
                 count = count.saturating_add(1);
             }
         }
     }
-    if count == USUAL_MATCHES {
-        Ok(())
-    } else {
-        Err(CaseFault::Answer)
-    }
+    count
 }

@@ -1,0 +1,151 @@
+//! Why there is no figure.
+use cedar_builders::ExpressionConstructionError;
+use cedar_calls::EvaluationError;
+use cedar_exprs::{ExprValidationError, SubstitutionError};
+use cedar_names::ParseErrors;
+use cedar_script::RunFault;
+use cedar_values::NotValue;
+use std::alloc::{AllocError, AllocFailed};
+use std::io;
+use std::rc::RcStr;
+use thiserror::Error;
+
+/// Why a case has no figure.
+#[derive(Debug, Drop, Error)]
+pub enum CaseFault {
+    /// Memory was wanted, and none was given.
+    #[error("no memory")]
+    Memory,
+    /// A call was refused that should not be, or the other way round.
+    #[error("not the answer that was expected")]
+    Answer,
+    /// The clock can't be read.
+    #[error("the clock can't be read")]
+    Clock,
+}
+
+/// Why the program ends before its end.
+#[derive(Debug, Drop, Error)]
+pub enum BenchFault {
+    /// No case has a name with this beginning.
+    #[error("no case begins with {word}")]
+    Unknown {
+        word: RcStr,
+    },
+    /// A case has no figure.
+    #[error("{name}: {fault}")]
+    Case {
+        name: &'static str,
+        fault: CaseFault,
+    },
+    /// The arguments can't be read, or a line can't be written.
+    #[error("input or output fault")]
+    Io,
+    /// Memory was wanted for something else than a case.
+    #[error("no memory")]
+    Memory,
+}
+
+/// Refuses an answer that does not hold.
+pub fn expect(holds: bool) -> Result<(), CaseFault> {
+    if holds {
+        Ok(())
+    } else {
+        Err(CaseFault::Answer)
+    }
+}
+
+impl From<AllocError> for CaseFault {
+    fn from(_: AllocError) -> CaseFault {
+        CaseFault::Memory
+    }
+}
+
+impl<T: Drop> From<AllocFailed<T>> for CaseFault {
+    fn from(_: AllocFailed<T>) -> CaseFault {
+        CaseFault::Memory
+    }
+}
+
+impl From<ParseErrors> for CaseFault {
+    fn from(error: ParseErrors) -> CaseFault {
+        match error {
+            ParseErrors::Memory => CaseFault::Memory,
+            ParseErrors::NotNormalized { .. } | ParseErrors::Reserved(_) => CaseFault::Answer,
+        }
+    }
+}
+
+impl From<SubstitutionError> for CaseFault {
+    fn from(error: SubstitutionError) -> CaseFault {
+        match error {
+            SubstitutionError::Memory => CaseFault::Memory,
+            SubstitutionError::TypeError { .. } => CaseFault::Answer,
+        }
+    }
+}
+
+impl From<ExpressionConstructionError> for CaseFault {
+    fn from(error: ExpressionConstructionError) -> CaseFault {
+        match error {
+            ExpressionConstructionError::Memory => CaseFault::Memory,
+            ExpressionConstructionError::DuplicateKey(_) => CaseFault::Answer,
+        }
+    }
+}
+
+impl From<ExprValidationError> for CaseFault {
+    fn from(error: ExprValidationError) -> CaseFault {
+        match error {
+            ExprValidationError::Memory => CaseFault::Memory,
+            _ => CaseFault::Answer,
+        }
+    }
+}
+
+impl From<NotValue> for CaseFault {
+    fn from(error: NotValue) -> CaseFault {
+        match error {
+            NotValue::Memory => CaseFault::Memory,
+            NotValue::NotValue { .. } => CaseFault::Answer,
+        }
+    }
+}
+
+impl From<EvaluationError> for CaseFault {
+    fn from(error: EvaluationError) -> CaseFault {
+        match error {
+            EvaluationError::Memory => CaseFault::Memory,
+            EvaluationError::WrongNumArguments { .. } | EvaluationError::Function { .. } => {
+                CaseFault::Answer
+            }
+        }
+    }
+}
+
+impl From<RunFault> for CaseFault {
+    fn from(fault: RunFault) -> CaseFault {
+        match fault {
+            RunFault::Memory => CaseFault::Memory,
+            RunFault::Line { .. } | RunFault::Input | RunFault::Output => CaseFault::Answer,
+        }
+    }
+}
+
+impl From<AllocError> for BenchFault {
+    fn from(_: AllocError) -> BenchFault {
+        BenchFault::Memory
+    }
+}
+
+impl<T: Drop> From<AllocFailed<T>> for BenchFault {
+    fn from(_: AllocFailed<T>) -> BenchFault {
+        BenchFault::Memory
+    }
+}
+
+impl From<io::Error> for BenchFault {
+    fn from(_: io::Error) -> BenchFault {
+        BenchFault::Io
+    }
+}

@@ -1,0 +1,56 @@
+//! The cases of `cedar_script`, each script read from a text in memory and written into a vector.
+use crate::fault::CaseFault;
+use crate::stopwatch::Stopwatch;
+use cedar_script::{RunFault, run};
+use std::alloc::{AllocError, Global};
+use std::time::Duration;
+
+/// What a script does.
+#[derive(Clone, Copy)]
+pub enum Script {
+    Flat,
+    DeepAnd,
+}
+
+/// The time of a script of so many lines.
+pub fn time_run(rt: &HostRuntime, script: Script, count: usize) -> Result<Duration, CaseFault> {
+    let text = script.text(rt.alloc(), count)?;
+    let watch = Stopwatch::start(rt);
+    watch.stop(shown(rt.alloc(), &text))
+}
+
+fn shown(alloc: Global, script: &str) -> Result<Vec<u8>, RunFault> {
+    let mut reader = script.as_bytes();
+    let mut writer = Vec::new(alloc);
+    run(alloc, &mut reader, &mut writer)?;
+    Ok(writer)
+}
+
+impl Script {
+    fn text(self, alloc: Global, count: usize) -> Result<String, AllocError> {
+        match self {
+            Script::Flat => flat(alloc, count),
+            Script::DeepAnd => deep_and(alloc, count),
+        }
+    }
+}
+
+// A set of numbers.
+fn flat(alloc: Global, count: usize) -> Result<String, AllocError> {
+    let mut script = String::new(alloc);
+    for i in 0..count {
+        script.push_str(&format!(in alloc; "long {i}\n")?)?;
+    }
+    script.push_str(&format!(in alloc; "set {count}\nshow\n")?)?;
+    Ok(script)
+}
+
+// A chain of `and`s, each the left side of the next, over an unknown that is bound at last.
+fn deep_and(alloc: Global, count: usize) -> Result<String, AllocError> {
+    let mut script = String::from_str(alloc, "unknown x\n")?;
+    for _ in 0..count {
+        script.push_str("bool true\nand\n")?;
+    }
+    script.push_str("bool true\nbind x\nsubstitute\nshow\n")?;
+    Ok(script)
+}

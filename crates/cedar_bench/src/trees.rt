@@ -1,0 +1,164 @@
+//! Expressions that cases work on.
+use crate::count::total_name;
+use crate::fault::CaseFault;
+use cedar_exprs::Expr;
+use cedar_terms::{Literal, Type, Unknown};
+use std::alloc::{AllocError, Global};
+use std::collections::HashMap;
+use std::mem;
+use std::rc::RcStr;
+
+/// What the leaves of an expression are: every fourth is the unknown x, any other the number of
+/// those before it.
+#[derive(Clone, Copy)]
+pub enum Leaves {
+    /// The unknown is not annotated.
+    Untyped,
+    /// The unknown is annotated as an integer.
+    Typed,
+    /// The unknown is not annotated, and every eighth leaf is a call of no arguments.
+    WithCalls,
+}
+
+// How nodes are made of those of the level below.
+#[derive(Clone, Copy)]
+enum Level {
+    // Sums of two.
+    Sums,
+    // Records of ten.
+    Records,
+}
+
+/// The unknown x, which is annotated as an integer, or is not.
+pub fn unknown(alloc: Global, is_typed: bool) -> Result<Expr, AllocError> {
+    let name = RcStr::from_str(alloc, "x")?;
+    Ok(Expr::unknown(if is_typed {
+        Unknown::new_with_type(name, Type::Long)
+    } else {
+        Unknown::new_untyped(name)
+    }))
+}
+
+/// The unknown x is bound to the value.
+pub fn bound_to<V: Drop>(alloc: Global, value: V) -> Result<HashMap<RcStr, V>, AllocError> {
+    let mut values = HashMap::new(alloc);
+    drop(values.insert(RcStr::from_str(alloc, "x")?, value)?);
+    Ok(values)
+}
+
+/// A full tree of `+`, of which every second node is a leaf.
+pub fn sums(alloc: Global, leaves: Leaves, nodes: usize) -> Result<Expr, CaseFault> {
+    only(
+        alloc,
+        make_leaves(alloc, leaves, nodes / 2 + 1)?,
+        Level::Sums,
+    )
+}
+
+/// A set of leaves.
+pub fn set(alloc: Global, nodes: usize) -> Result<Expr, CaseFault> {
+    let members = make_leaves(alloc, Leaves::Untyped, nodes.saturating_sub(1))?;
+    Ok(Expr::set(alloc, members)?)
+}
+
+/// Records of ten records each, and so on.
+pub fn records(alloc: Global, nodes: usize) -> Result<Expr, CaseFault> {
+    let leaves = make_leaves(alloc, Leaves::Untyped, nodes - nodes / 10)?;
+    only(alloc, leaves, Level::Records)
+}
+
+/// A chain of `!` over the unknown x.
+pub fn negations(alloc: Global, levels: usize) -> Result<Expr, AllocError> {
+    let mut expr = unknown(alloc, false)?;
+    for _ in 0..levels {
+        expr = Expr::not(alloc, expr)?;
+    }
+    Ok(expr)
+}
+
+fn make_leaves(alloc: Global, leaves: Leaves, count: usize) -> Result<Vec<Expr>, CaseFault> {
+    let mut exprs = Vec::new(alloc);
+    for index in 0..count {
+        exprs.push(leaf(alloc, leaves, index)?)?;
+    }
+    Ok(exprs)
+}
+
+fn leaf(alloc: Global, leaves: Leaves, index: usize) -> Result<Expr, CaseFault> {
+    if matches!(leaves, Leaves::WithCalls) && index % 8 == 7 {
+        call(alloc)
+    } else if index % 4 == 3 {
+        Ok(unknown(alloc, matches!(leaves, Leaves::Typed))?)
+    } else {
+        number(index)
+    }
+}
+
+fn call(alloc: Global) -> Result<Expr, CaseFault> {
+    Ok(Expr::call_extension_fn(alloc, total_name(alloc)?, Vec::new(alloc))?)
+}
+
+fn number(number: usize) -> Result<Expr, CaseFault> {
+    match i64::try_from(number) {
+        Ok(number) => Ok(Expr::val(Literal::Long(number))),
+        Err(_) => Err(CaseFault::Answer),
+    }
+}
+
+// What is left of the expressions when level after level was made of them until there is one.
+fn only(alloc: Global, leaves: Vec<Expr>, level: Level) -> Result<Expr, CaseFault> {
+    let mut exprs = leaves;
+    for _ in 0..usize::BITS {
+        if exprs.len() > 1 {
+            exprs = next_level(alloc, exprs, level)?;
+        }
+    }
+    exprs.pop().ok_or(CaseFault::Answer)
+}
+
+fn next_level(alloc: Global, exprs: Vec<Expr>, level: Level) -> Result<Vec<Expr>, CaseFault> {
+    match level {
+        Level::Sums => Ok(by_two(alloc, exprs)?),
+        Level::Records => by_ten(alloc, exprs),
+    }
+}
+
+// The sum of the first two, of the next two, and so on.
+fn by_two(alloc: Global, exprs: Vec<Expr>) -> Result<Vec<Expr>, AllocError> {
+    let mut sums = Vec::new(alloc);
+    let mut waiting = None;
+    for expr in exprs {
+        match waiting.take() {
+            None => waiting = Some(expr),
+            Some(first) => push_sum(alloc, &mut sums, first, expr)?,
+        }
+    }
+    Ok(sums)
+}
+
+fn push_sum(
+    alloc: Global,
+    sums: &mut Vec<Expr>,
+    left: Expr,
+    right: Expr,
+) -> Result<(), AllocError> {
+    sums.push(Expr::add(alloc, left, right)?)?;
+    Ok(())
+}
+
+// The record of the first ten, of the next ten, and so on.
+fn by_ten(alloc: Global, exprs: Vec<Expr>) -> Result<Vec<Expr>, CaseFault> {
+    let mut records = Vec::new(alloc);
+    let mut pairs = Vec::new(alloc);
+    for expr in exprs {
+        pairs.push((key(alloc, pairs.len())?, expr))?;
+        if pairs.len() == 10 {
+            records.push(Expr::record(alloc, mem::replace(&mut pairs, Vec::new(alloc)))?)?;
+        }
+    }
+    Ok(records)
+}
+
+fn key(alloc: Global, index: usize) -> Result<RcStr, AllocError> {
+    Ok(RcStr::from_string(format!(in alloc; "k{index}")?)?)
+}
