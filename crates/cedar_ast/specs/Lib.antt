@@ -18,3 +18,4 @@ pub use Rattle.cedar_exprs.specs.Refusals
 pub use Rattle.cedar_exprs.specs.RestrictedExprs
 pub mod Construction
 pub mod Exprs
+pub mod Evaluations

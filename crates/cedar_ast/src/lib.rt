@@ -4,6 +4,7 @@
 //! The words of contracts stay in the `specs` of the library that defines them.
 #![tactic(auto)]
 
+pub mod evaluator;
 pub mod expr_builder;
 pub mod expression_construction_errors;
 pub mod laws;

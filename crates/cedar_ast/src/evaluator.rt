@@ -1,0 +1,2 @@
+//! The closed evaluator: what it makes of an expression is the expression's outcome.
+pub use cedar_evaluator::{CallRefused, EvalFault, Evaluator, Outcome, evaluate, laws};

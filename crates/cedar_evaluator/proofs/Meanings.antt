@@ -1,0 +1,58 @@
+-- Outcomes by what they mean.
+use Rattle.std.proofs.Common.{◌≡◌, ◌≢◌, true, Result, Ok, Err, IsOk, IsOkAnd, refl, sym, ap, subst, ◌∙◌}
+use Rattle.std.specs.Result.{ForOk}
+use Rattle.std.specs.declared.cmp.Ordering.{Ordering}
+use Rattle.rising.specs.Rising.{and_left}
+use Rattle.value_trees.specs.BareValue.{BareValue}
+use Rattle.value_trees.specs.WellFormed.{is_well_formed}
+use Rattle.cedar_values.specs.BareValues.{bare_value}
+use Rattle.cedar_values.specs.Holders.{NoExtension}
+use Rattle.cedar_values.specs.WellFormed.{is_hashed, well_formed}
+use Rattle.cedar_values.specs.declared.value.Value.{Value}
+use Rattle.evaluations.specs.Outcomes as meant
+use Rattle.cedar_evaluator.specs.Laws.{IsDecided, IsValue}
+use Rattle.cedar_evaluator.specs.Outcomes.{bare_outcome, meaning_of, result_of}
+use Rattle.cedar_evaluator.specs.declared.fault.EvalFault.{EvalFault}
+use Rattle.cedar_evaluator.specs.declared.fault.EvalFault.TheVariants.{Open}
+use Rattle.cedar_evaluator.specs.declared.outcome.Outcome.{Outcome}
+
+pub tree_well_formed : {X : Type 0} (R : X → X → Ordering) (v : Value X) → well_formed R v ≡ true
+    → is_well_formed R (bare_value v) ≡ true
+unfolding well_formed
+tree_well_formed R v h = and_left (is_well_formed R (bare_value v)) (is_hashed v) h
+
+abbrev ok_of : {A E : Type 0} → A → Result A E → A
+ok_of a (Ok b) = b
+ok_of a (Err e) = a
+
+same_ok : {A E : Type 0} (r : Result A E) (a b : A) → r ≡ Ok a → r ≡ Ok b → a ≡ b
+same_ok r a b h g = ap (ok_of a) (sym h ∙ g)
+
+-- what means a value is a value with this tree
+value_of : (r : Result (Value NoExtension) EvalFault) (t : BareValue NoExtension)
+    → bare_outcome r ≡ Ok t → IsOkAnd r (λ w. bare_value w ≡ t)
+value_of (Ok w) t h = same_ok (bare_outcome (Ok w)) (bare_value w) t refl h
+value_of (Err f) t h = cc
+
+pub is_value : {F : Type 0} (r : Result (meant.Outcome NoExtension) F) (v : Value NoExtension)
+    → r ≡ Ok (Ok (bare_value v)) → IsValue meaning_of r v
+is_value r v h = record {
+  accepted = subst IsOk (sym h) refl;
+  value = λ m is. value_of (result_of m) (bare_value v)
+      (same_ok r (meaning_of m) (Ok (bare_value v)) is h);
+}
+
+no_value : {A E : Type 0} (P : A → Type 0) (e : E) → ForOk (Err e) P
+no_value P e a is = cc
+
+-- the open outcome
+abbrev open_outcome : Outcome
+open_outcome = record { result = Err Open; kept = no_value _ Open }
+
+pub not_open : {F : Type 0} (r : Result (meant.Outcome NoExtension) F) → IsDecided meaning_of r
+    → r ≢ Ok (Err meant.Open)
+not_open r h is = h open_outcome is refl
+
+pub decided : {F : Type 0} (r : Result (meant.Outcome NoExtension) F) → r ≢ Ok (Err meant.Open)
+    → IsDecided meaning_of r
+decided r h m is opens = h (is ∙ ap (λ q. Ok (bare_outcome q)) opens)

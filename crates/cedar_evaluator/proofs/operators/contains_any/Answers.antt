@@ -1,0 +1,13 @@
+use Rattle.cedar_values.specs.BareValues.{bare_value}
+use Rattle.cedar_evaluator.proofs.MemberTests.{meeting}
+use Rattle.cedar_evaluator.proofs.operators.contains_any.Goals as goal
+
+pub returns-in-Some-Some : goal.returns-in-Some-Some
+returns-in-Some-Some g c first second =
+    let here = c.in-Some-Some in
+    meeting g.X.Ord.cmp c.order_of_values.ensures.total c.is_disjoint.result here.set.now
+    here.others.now
+    (bare_value c.args.left.now)
+    (bare_value c.args.right.now) here.ensures.members here.ensures'.members
+    (c.is_disjoint.ensures (here.ensures'.well_formed second)
+    (here.ensures.well_formed first))

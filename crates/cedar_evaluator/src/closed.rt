@@ -1,0 +1,45 @@
+//! The outcome of an expression.
+ghost use Rattle.std.specs.Prelude.{◌≢◌, Err, IfOk, IsTrue};
+ghost use Rattle.cedar_names.specs.PlainNames.{bare_name};
+ghost use Rattle.cedar_builders.specs.Answers.{Gives};
+ghost use Rattle.cedar_builders.specs.Environment.{fold};
+ghost use Rattle.cedar_exprs.specs.BareExpr.{bare_expr};
+ghost use Rattle.cedar_values.specs.Holders.{plain_env};
+ghost use Rattle.evaluations.specs.Evaluator.{evaluator_ops};
+ghost use Rattle.evaluations.specs.Laws.{is_closed};
+ghost use Rattle.evaluations.specs.Outcomes.{Open};
+ghost use Rattle.cedar_evaluator.specs.Outcomes.{meaning_of};
+
+use crate::evaluator::Evaluator;
+use crate::fault::CallRefused;
+use crate::outcome::Outcome;
+use cedar_builders::BuildFault;
+use cedar_exprs::Expr;
+use cedar_values::laws::maps_bind_plain_values;
+use cedar_values::{NoExtension, Value, substitute_values_into_expr};
+use evaluations::laws::{never_open, plain_where_none};
+use std::alloc::Global;
+use std::collections::HashMap;
+use std::rc::RcStr;
+
+/// The outcome of an expression, where the unknowns that `values` binds are these values.
+///
+/// The error is the first call of an extension function, children before parents and each in field
+/// order, or want of memory.
+pub fn evaluate(
+    alloc: Global,
+    expr: &Expr<()>,
+    values: &HashMap<RcStr, Value<NoExtension>>,
+) -> Result<Outcome, BuildFault<CallRefused>>
+    ensures outcome { Gives meaning_of (λ (refused : CallRefused). bare_name refused.name)
+        (fold (evaluator_ops ⟦<NoExtension as Ord>⟧.cmp ⟦<NoExtension as PartialEq>⟧.eq)
+        (plain_env values.now) (bare_expr expr.now))
+        result }
+    ensures decided { IsTrue (is_closed (plain_env values.now) (bare_expr expr.now))
+        → IfOk result (λ m. meaning_of m ≢ Err Open) }
+{
+    maps_bind_plain_values::<NoExtension>();
+    never_open::<NoExtension>();
+    plain_where_none::<NoExtension>();
+    substitute_values_into_expr::<Evaluator, NoExtension>(alloc, expr, values)
+}

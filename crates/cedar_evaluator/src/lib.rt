@@ -1,0 +1,17 @@
+//! The closed evaluator, as a builder: what it makes of an expression is the expression's outcome.
+#![tactic(auto)]
+
+mod attributes;
+mod closed;
+mod evaluator;
+mod fault;
+mod kinds;
+pub mod laws;
+mod operators;
+mod outcome;
+mod rows;
+
+pub use closed::evaluate;
+pub use evaluator::Evaluator;
+pub use fault::{CallRefused, EvalFault};
+pub use outcome::Outcome;

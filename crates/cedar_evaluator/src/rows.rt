@@ -1,0 +1,106 @@
+//! Rows of outcomes: their values, or the first fault.
+ghost use Rattle.std.specs.Prelude.{◌≡◌, IfOk, IsTrue, OnOk, map};
+ghost use Rattle.std.specs.BTreeMap.{insert_entry};
+ghost use Rattle.std.specs.List.{list_all};
+ghost use Rattle.cedar_builders.specs.Fold.{on_one};
+ghost use Rattle.cedar_builders.specs.Keys.{IsRising, keys_of, meant_pairs};
+ghost use Rattle.value_trees.specs.BareValue.{RecordValue, pairs_of};
+ghost use Rattle.cedar_values.specs.BareValues.{bare_value};
+ghost use Rattle.cedar_values.specs.Records.{key_cmp};
+ghost use Rattle.cedar_values.specs.WellFormed.{well_formed};
+ghost use Rattle.evaluations.specs.Rows.{all_pairs, all_values, set_value};
+ghost use Rattle.cedar_evaluator.specs.Outcomes.{faulted, meaning_of};
+
+use crate::fault::EvalFault;
+use crate::outcome::Outcome;
+use cedar_values::laws::values_by_kind;
+use cedar_values::{NoExtension, Set, Value, ValueKind};
+use evaluations::laws::{one_list, plain_where_none};
+use std::alloc::{AllocError, Global};
+use std::collections::BTreeMap;
+use std::rc::{Rc, RcStr};
+use value_trees::laws::values_are_ordered;
+
+// The values of a row, or its first fault.
+pub(crate) fn split_row(
+    alloc: Global,
+    row: Vec<Outcome>,
+) -> Result<Result<Vec<Value<NoExtension>>, EvalFault>, AllocError>
+    ensures values { IfOk result (λ split. on_one (λ vs. map bare_value vs.items) (faulted split)
+        ≡ all_values (map meaning_of row.items)) }
+    ensures well_formed { IfOk result (λ split. IfOk split (λ vs.
+        IsTrue (list_all (well_formed ⟦<NoExtension as Ord>⟧.cmp) vs.items))) }
+{
+    let mut values = Vec::with_capacity(alloc, row.len())?;
+    for outcome in row {
+        match outcome.into_result() {
+            Ok(value) => values.push(value)?,
+            Err(fault) => return Ok(Err(fault)),
+        }
+    }
+    Ok(Ok(values))
+}
+
+// The set of some values.
+pub(crate) fn set_of(
+    alloc: Global,
+    values: Vec<Value<NoExtension>>,
+) -> Result<Value<NoExtension>, AllocError>
+    ensures tree { IfOk result (λ v. bare_value v
+        ≡ set_value ⟦<NoExtension as Ord>⟧.cmp (map bare_value values.items)) }
+    ensures well_formed { IsTrue (list_all (well_formed ⟦<NoExtension as Ord>⟧.cmp) values.items)
+        → IfOk result (λ v. IsTrue (well_formed ⟦<NoExtension as Ord>⟧.cmp v)) }
+{
+    values_are_ordered::<NoExtension>();
+    values_by_kind::<NoExtension>();
+    one_list::<NoExtension>();
+    plain_where_none::<NoExtension>();
+    let set = Set::new(alloc, values)?;
+    Ok(Value::new(ValueKind::Set(set), None))
+}
+
+// The values of a row by their keys, or its first fault.
+pub(crate) fn split_pairs(
+    alloc: Global,
+    row: Vec<(RcStr, Outcome)>,
+) -> Result<Result<BTreeMap<RcStr, Value<NoExtension>>, EvalFault>, AllocError>
+    ensures pairs { IsRising (keys_of row.items) → IfOk result (λ split.
+        on_one (λ m. meant_pairs bare_value m.entries) (faulted split)
+        ≡ all_pairs (meant_pairs meaning_of row.items)) }
+    ensures well_formed { IfOk result (λ split. IfOk split (λ m.
+        IsTrue (list_all (λ e. well_formed ⟦<NoExtension as Ord>⟧.cmp e.1) m.entries))) }
+{
+    let mut values = BTreeMap::new(alloc);
+    for (key, outcome) in row {
+        match outcome.into_result() {
+            Ok(value) => put(&mut values, key, value)?,
+            Err(fault) => return Ok(Err(fault)),
+        }
+    }
+    Ok(Ok(values))
+}
+
+// Puts a value to a key.
+fn put<V: Drop>(map: &mut BTreeMap<RcStr, V>, key: RcStr, value: V) -> Result<(), AllocError>
+    ensures { OnOk result
+        (map.new.entries ≡ insert_entry key_cmp map.old.entries key value) }
+{
+    map.insert(key, value)?;
+    Ok(())
+}
+
+// The record of some values by their keys.
+pub(crate) fn record_of(
+    alloc: Global,
+    values: BTreeMap<RcStr, Value<NoExtension>>,
+) -> Result<Value<NoExtension>, AllocError>
+    ensures tree { IfOk result (λ v. bare_value v
+        ≡ RecordValue (pairs_of (meant_pairs bare_value values.entries))) }
+    ensures well_formed { IsTrue
+        (list_all (λ e. well_formed ⟦<NoExtension as Ord>⟧.cmp e.1) values.entries)
+        → IfOk result (λ v. IsTrue (well_formed ⟦<NoExtension as Ord>⟧.cmp v)) }
+{
+    values_by_kind::<NoExtension>();
+    let pairs = Rc::new(alloc, values)?;
+    Ok(Value::record_arc(pairs, None))
+}
