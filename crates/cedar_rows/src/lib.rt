@@ -90,21 +90,24 @@ fn answer(alloc: Global, row: &str) -> Result<String, NoAnswer> {
     }
 }
 
-// By the crate that knows the call.
+// By the crate that knows the call: those on expressions are asked first.
 fn answer_call(alloc: Global, call: &str, args: &[Part]) -> Result<String, NoAnswer> {
-    let mut answered = expr_rows::answer(alloc, call, args);
-    if is_of_others(&answered) {
-        answered = value_rows::answer(alloc, call, args);
+    match expr_rows::answer(alloc, call, args) {
+        Err(NoAnswer::OtherCall) => of_values(alloc, call, args),
+        answered => answered,
     }
-    if is_of_others(&answered) {
-        answered = term_rows::answer(alloc, call, args);
-    }
-    if is_of_others(&answered) {
-        answered = name_rows::answer(alloc, call, args);
-    }
-    answered
 }
 
-fn is_of_others(answered: &Result<String, NoAnswer>) -> bool {
-    matches!(answered, Err(NoAnswer::OtherCall))
+fn of_values(alloc: Global, call: &str, args: &[Part]) -> Result<String, NoAnswer> {
+    match value_rows::answer(alloc, call, args) {
+        Err(NoAnswer::OtherCall) => of_terms(alloc, call, args),
+        answered => answered,
+    }
+}
+
+fn of_terms(alloc: Global, call: &str, args: &[Part]) -> Result<String, NoAnswer> {
+    match term_rows::answer(alloc, call, args) {
+        Err(NoAnswer::OtherCall) => name_rows::answer(alloc, call, args),
+        answered => answered,
+    }
 }
