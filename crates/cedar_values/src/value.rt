@@ -90,12 +90,7 @@ impl<X> Value<X> {
     pub fn try_as_lit(&self) -> Option<&Literal>
         ensures { option_map (λ l. bare_literal l.now) result ≡ literal_of (bare_value self.now) }
     {
-        match self.value_kind() {
-            ValueKind::Lit(literal) => Some(literal),
-            ValueKind::Set(_) => None,
-            ValueKind::Record(_) => None,
-            ValueKind::ExtensionValue(_) => None,
-        }
+        self.kind.try_as_lit()
     }
 
     /// The record of these keys and values.

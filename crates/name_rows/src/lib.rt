@@ -18,28 +18,29 @@ use std::alloc::Global;
 ///
 /// `NoAnswer::OtherCall` where it is none of these calls.
 pub fn answer(alloc: Global, call: &str, args: &[Part]) -> Result<String, NoAnswer> {
-    let mut answered = names::answer(alloc, call, args);
-    if is_of_others(&answered) {
-        answered = qualified::answer(alloc, call, args);
+    match names::answer(alloc, call, args) {
+        Err(NoAnswer::OtherCall) => {}
+        answered => return answered,
     }
-    if is_of_others(&answered) {
-        answered = raw_names::answer(alloc, call, args);
+    match qualified::answer(alloc, call, args) {
+        Err(NoAnswer::OtherCall) => {}
+        answered => return answered,
     }
-    if is_of_others(&answered) {
-        answered = identifiers::answer(alloc, call, args);
+    match raw_names::answer(alloc, call, args) {
+        Err(NoAnswer::OtherCall) => {}
+        answered => return answered,
     }
-    if is_of_others(&answered) {
-        answered = references::answer(alloc, call, args);
+    match identifiers::answer(alloc, call, args) {
+        Err(NoAnswer::OtherCall) => {}
+        answered => return answered,
     }
-    if is_of_others(&answered) {
-        answered = places::answer(alloc, call, args);
+    match references::answer(alloc, call, args) {
+        Err(NoAnswer::OtherCall) => {}
+        answered => return answered,
     }
-    if is_of_others(&answered) {
-        answered = readers::answer(alloc, call, args);
+    match places::answer(alloc, call, args) {
+        Err(NoAnswer::OtherCall) => {}
+        answered => return answered,
     }
-    answered
-}
-
-fn is_of_others(answered: &Result<String, NoAnswer>) -> bool {
-    matches!(answered, Err(NoAnswer::OtherCall))
+    readers::answer(alloc, call, args)
 }

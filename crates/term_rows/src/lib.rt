@@ -13,16 +13,13 @@ use std::alloc::Global;
 ///
 /// `NoAnswer::OtherCall` where it is none of these calls.
 pub fn answer(alloc: Global, call: &str, args: &[Part]) -> Result<String, NoAnswer> {
-    let mut answered = literals::answer(alloc, call, args);
-    if is_of_others(&answered) {
-        answered = types::answer(alloc, call, args);
+    match literals::answer(alloc, call, args) {
+        Err(NoAnswer::OtherCall) => {}
+        answered => return answered,
     }
-    if is_of_others(&answered) {
-        answered = patterns::answer(alloc, call, args);
+    match types::answer(alloc, call, args) {
+        Err(NoAnswer::OtherCall) => {}
+        answered => return answered,
     }
-    answered
-}
-
-fn is_of_others(answered: &Result<String, NoAnswer>) -> bool {
-    matches!(answered, Err(NoAnswer::OtherCall))
+    patterns::answer(alloc, call, args)
 }
