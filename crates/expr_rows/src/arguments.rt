@@ -2,10 +2,10 @@
 use crate::struct_calls::leaf_expr;
 use cedar_builders::ExprBuilder as _;
 use cedar_exprs::{Expr, ExprBuilder, ExprKind};
-use cedar_names::{Name, NonEmpty};
+use cedar_names::Name;
 use cedar_terms::EntityType;
 use row_parts::{NoAnswer, Part, name, shared_text};
-use row_trees::{expr, texts};
+use row_trees::expr;
 use std::alloc::Global;
 use std::collections::BTreeMap;
 use std::rc::{Rc, RcStr};
@@ -82,16 +82,6 @@ fn put<T: Data>(
     let (key, value) = pair(alloc, part)?;
     drop(values.insert(key, value)?);
     Ok(())
-}
-
-/// The attributes that parts in quotes stand for.
-pub fn attributes(
-    alloc: Global,
-    first: &Part,
-    further: &[Part],
-) -> Result<NonEmpty<RcStr>, NoAnswer> {
-    let first = shared_text(alloc, first)?;
-    Ok(NonEmpty::new(first, texts(alloc, further)?))
 }
 
 /// The name that a word spells.

@@ -1,12 +1,10 @@
 //! The constructors of `Expr`, by their names.
-use crate::arguments::{
-    attributes, entity_type, function, leaf_of, members, pairs, shared, values,
-};
+use crate::arguments::{entity_type, function, leaf_of, members, pairs, shared, values};
 use cedar_builders::ExpressionConstructionError;
 use cedar_exprs::{Expr, ExprKind};
 use cedar_terms::BinaryOp;
 use row_parts::{NoAnswer, Part, pattern, shared_text};
-use row_trees::{binary, expr, sketch, unary};
+use row_trees::{attributes, binary, expr, sketch, unary};
 use std::alloc::Global;
 
 /// The tree that a constructor makes.

@@ -3,6 +3,7 @@ use cedar_builders::ExpressionConstructionError;
 use cedar_exprs::{ExprValidationError, RestrictedExprError, SubstitutionError};
 use row_parts::{NoAnswer, join};
 use std::alloc::Global;
+use std::fmt::Display;
 
 /// The text of a fault of validation, which a copy has too.
 pub fn validation_text(alloc: Global, e: &ExprValidationError) -> Result<String, NoAnswer> {
@@ -10,7 +11,7 @@ pub fn validation_text(alloc: Global, e: &ExprValidationError) -> Result<String,
     if copy != *e {
         return Err(NoAnswer::Disagree("the copy of an error"));
     }
-    Ok(format!(in alloc; "{copy}")?)
+    shown(alloc, &copy)
 }
 
 /// The text of an error of substitution, which a copy has too.
@@ -24,28 +25,20 @@ pub fn substitution_text(alloc: Global, e: &SubstitutionError) -> Result<String,
     }
 }
 
-fn shown(alloc: Global, e: &SubstitutionError) -> Result<String, NoAnswer> {
+fn shown<E: Display>(alloc: Global, e: &E) -> Result<String, NoAnswer> {
     Ok(format!(in alloc; "{e}")?)
 }
 
 /// What each error says of want of memory.
 pub fn no_memory(alloc: Global) -> Result<String, NoAnswer> {
     let mut text = String::new(alloc);
-    let construction = construction_text(alloc, &ExpressionConstructionError::Memory)?;
+    let construction = shown(alloc, &ExpressionConstructionError::Memory)?;
     join(&mut text, construction.as_str())?;
     let validation = validation_text(alloc, &ExprValidationError::Memory)?;
     join(&mut text, validation.as_str())?;
     let substitution = substitution_text(alloc, &SubstitutionError::Memory)?;
     join(&mut text, substitution.as_str())?;
-    let restriction = restriction_text(alloc, &RestrictedExprError::Memory)?;
+    let restriction = shown(alloc, &RestrictedExprError::Memory)?;
     join(&mut text, restriction.as_str())?;
     Ok(text)
-}
-
-fn construction_text(alloc: Global, e: &ExpressionConstructionError) -> Result<String, NoAnswer> {
-    Ok(format!(in alloc; "{e}")?)
-}
-
-fn restriction_text(alloc: Global, e: &RestrictedExprError) -> Result<String, NoAnswer> {
-    Ok(format!(in alloc; "{e}")?)
 }

@@ -1,13 +1,11 @@
 //! The calls of the struct `ExprBuilder`, by their names.
-use crate::arguments::{
-    Data, attributes, entity_type, function, leaf_of, members, pairs, shared, values,
-};
+use crate::arguments::{Data, entity_type, function, leaf_of, members, pairs, shared, values};
 use cedar_builders::{BuildFault, ExprBuilder as _, ExpressionConstructionError};
 use cedar_exprs::{Expr, ExprBuilder, ExprKind};
 use cedar_names::Loc;
 use cedar_terms::{BinaryOp, UnaryOp};
 use row_parts::{NoAnswer, Part, maybe_place, pattern, shared_text};
-use row_trees::{binary, expr, placed, unary};
+use row_trees::{attributes, binary, expr, placed, unary};
 use std::alloc::Global;
 use std::rc::RcStr;
 

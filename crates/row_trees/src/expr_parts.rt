@@ -55,9 +55,9 @@ fn compound(alloc: Global, parts: &[Part]) -> Result<Expr, NoAnswer> {
             op => of_one(alloc, op, expr(alloc, a)?),
         },
         [head, a, b] => match head.word()? {
-            "set" | "record" | "call" | "exthas" => several(alloc, head.word()?, parts),
+            "set" | "record" | "call" | "has" | "exthas" => several(alloc, head.word()?, parts),
             "unknown" => typed(alloc, a.word()?, b),
-            "get" | "has" | "like" | "is" => of_text(alloc, head.word()?, expr(alloc, a)?, b),
+            "get" | "like" | "is" => of_text(alloc, head.word()?, expr(alloc, a)?, b),
             op => of_two(alloc, op, expr(alloc, a)?, expr(alloc, b)?),
         },
         [head, a, b, c] => match head.word()? {
@@ -144,7 +144,6 @@ fn of_text(alloc: Global, op: &str, e: Expr, b: &Part) -> Result<Expr, NoAnswer>
     let expr = Rc::new(alloc, e)?;
     match op {
         "get" => Ok(get(expr, shared_text(alloc, b)?)),
-        "has" => Ok(has(alloc, expr, shared_text(alloc, b)?)),
         "like" => Ok(like(expr, pattern(alloc, b)?)),
         _ => Ok(is(expr, name(alloc, b.word()?)?)),
     }
@@ -152,11 +151,6 @@ fn of_text(alloc: Global, op: &str, e: Expr, b: &Part) -> Result<Expr, NoAnswer>
 
 fn get(expr: Rc<Expr>, attr: RcStr) -> Expr {
     made(ExprKind::GetAttr { expr, attr })
-}
-
-fn has(alloc: Global, expr: Rc<Expr>, attr: RcStr) -> Expr {
-    let attrs = NonEmpty::new(attr, Vec::new(alloc));
-    made(ExprKind::HasAttr { expr, attrs })
 }
 
 fn like(expr: Rc<Expr>, pattern: Pattern) -> Expr {
@@ -176,7 +170,7 @@ fn several(alloc: Global, head: &str, parts: &[Part]) -> Result<Expr, NoAnswer> 
         "record" => record(alloc, pairs(alloc, parts, 1)?),
         "call" => call(alloc, parts, exprs(alloc, parts, 2)?),
         "has" | "exthas" => match parts {
-            [_, e, ..] => ext_has(alloc, expr(alloc, e)?, parts),
+            [_, e, first, further @ ..] => has(alloc, expr(alloc, e)?, first, further),
             _ => Err(NoAnswer::NotTaken),
         },
         _ => Err(NoAnswer::NotTaken),
@@ -206,20 +200,20 @@ fn call(alloc: Global, parts: &[Part], args: Vec<Expr>) -> Result<Expr, NoAnswer
     }
 }
 
-fn ext_has(alloc: Global, e: Expr, parts: &[Part]) -> Result<Expr, NoAnswer> {
+fn has(alloc: Global, e: Expr, first: &Part, further: &[Part]) -> Result<Expr, NoAnswer> {
     let expr = Rc::new(alloc, e)?;
-    let attrs = attributes(alloc, parts)?;
+    let attrs = attributes(alloc, first, further)?;
     Ok(made(ExprKind::HasAttr { expr, attrs }))
 }
 
-fn attributes(alloc: Global, parts: &[Part]) -> Result<NonEmpty<RcStr>, NoAnswer> {
-    match parts {
-        [_, _, first, more @ ..] => {
-            let first = shared_text(alloc, first)?;
-            Ok(NonEmpty::new(first, texts(alloc, more)?))
-        }
-        _ => Err(NoAnswer::NotTaken),
-    }
+/// The attributes that parts in quotes stand for.
+pub fn attributes(
+    alloc: Global,
+    first: &Part,
+    further: &[Part],
+) -> Result<NonEmpty<RcStr>, NoAnswer> {
+    let first = shared_text(alloc, first)?;
+    Ok(NonEmpty::new(first, texts(alloc, further)?))
 }
 
 // The node of this kind, as it stands.
