@@ -1,5 +1,6 @@
 //! Why an expression has no value.
 use cedar_names::Name;
+use std::fmt;
 use thiserror::Error;
 
 /// Why an evaluation gives no value. `Open` may change where more unknowns are bound; the others
@@ -18,8 +19,26 @@ pub enum EvalFault {
     Store,
 }
 
+impl fmt::Display for EvalFault {
+    ghost use Rattle.std.specs.Prelude.{Some};
+    ghost use Rattle.cedar_evaluator.specs.Outcomes.{bare_fault};
+    ghost use Rattle.cedar_evaluator.specs.Texts.{fault_text};
+
+    ghost output = { λ fault. Some (fault_text (bare_fault fault)) };
+
+    fn fmt<W: fmt::Write>(&self, f: &mut fmt::Formatter<W>) -> fmt::Result {
+        match self {
+            EvalFault::Open => write!(f, "fault: open"),
+            EvalFault::WrongType => write!(f, "fault: type"),
+            EvalFault::Overflow => write!(f, "fault: overflow"),
+            EvalFault::Missing => write!(f, "fault: missing"),
+            EvalFault::Store => write!(f, "fault: store"),
+        }
+    }
+}
+
 /// The call of an extension function is refused: an evaluation here has no functions.
-#[derive(Debug, Drop, Error)]
+#[derive(Debug, PartialEq, Eq, Drop, Error)]
 #[error("call of `{name}` refused")]
 pub struct CallRefused {
     /// The name of the function that is called.

@@ -10,6 +10,7 @@ use crate::operators::{apply_one, apply_two, is_like, is_of_type, test};
 use cedar_terms::{BinaryOp, EntityType, Literal, Pattern, UnaryOp};
 use cedar_values::{NoExtension, Value};
 use std::alloc::{AllocError, Global};
+use std::fmt;
 use std::rc::RcStr;
 
 /// What an expression evaluates to: a well formed value, or why there is none.
@@ -192,6 +193,22 @@ impl Outcome {
                 Err(fault) => Outcome::fail(fault),
             },
             Err(fault) => Outcome::fail(*fault),
+        }
+    }
+}
+
+/// The whole text of the value, or the fault.
+impl fmt::Display for Outcome {
+    ghost use Rattle.std.specs.Prelude.{Some};
+    ghost use Rattle.cedar_evaluator.specs.Outcomes.{meaning_of};
+    ghost use Rattle.cedar_evaluator.specs.Texts.{outcome_text};
+
+    ghost output = { λ m. Some (outcome_text (meaning_of m)) };
+
+    fn fmt<W: fmt::Write>(&self, f: &mut fmt::Formatter<W>) -> fmt::Result {
+        match &self.result {
+            Ok(value) => write!(f, "{value}"),
+            Err(fault) => write!(f, "{fault}"),
         }
     }
 }
