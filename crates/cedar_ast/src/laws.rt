@@ -13,9 +13,10 @@ pub use cedar_terms::laws::{
     ordered_operators, pattern_texts_differ,
 };
 pub use cedar_values::laws::{
-    equal_partial_values, order_of_kinds, order_of_sets, order_of_values, sets_are_finite_sets,
-    then_is_both_of_maps,
+    equal_partial_values, maps_bind_plain_values, order_of_kinds, order_of_sets, order_of_values,
+    sets_are_finite_sets, then_is_both_of_maps, values_by_kind,
 };
+pub use evaluations::laws::plain_where_none;
 pub use value_trees::laws::{
     expressions_read_back, reading_gives_one_value, then_is_both_of_values, values_are_ordered,
 };

@@ -37,5 +37,6 @@ pub use cedar_terms::{
 pub use cedar_values::{
     BoundedDisplay, BoundedToString, ContainsUnknown, ExtensionValue, NoExtension, NotValue,
     PartialValue, PartialValueToValueError, RepresentableExtensionValue, Set, Value, ValueKind,
-    split,
+    split, substitute_typed_values_into_expr, substitute_values_into_expr,
 };
+pub use either;

@@ -8,6 +8,7 @@ use Rattle.std.specs.String.{string_bytes}
 use Rattle.std.specs.Vec.{vec_len}
 use Rattle.std.specs.declared.cmp.Ordering.{Ordering}
 use Rattle.std.specs.declared.string.String.{String as OwnedText}
+use Rattle.cedar_names.specs.Names.{BareName}
 use Rattle.cedar_names.specs.PlainNames.{bare_name}
 use Rattle.cedar_terms.specs.Entities.{bare_entity_type}
 use Rattle.cedar_terms.specs.Literals.{BoolLit, LongLit, StringLit}
@@ -15,16 +16,20 @@ use Rattle.cedar_terms.specs.Unknowns.{bare_annotation}
 use Rattle.cedar_builders.specs.BareExpr.{Text, BareExpr, Lit, Var as variable, Unknown as unknown, And as conjunction, Or as disjunction, ExtensionFunctionApp as call, Set as members, Record as record_tree, fields_of}
 use Rattle.cedar_builders.specs.TypeClash.{clash}
 use Rattle.cedar_builders.specs.Environment.{Env, empty, fold}
+use Rattle.cedar_builders.specs.Fold.{on_one}
 use Rattle.cedar_builders.specs.Trees.{tree_ops}
 use Rattle.cedar_builders.specs.Keys.{in_key_order}
+use Rattle.cedar_builders.specs.Ops.{Ops}
 use Rattle.cedar_exprs.specs.BareExpr.{bare_expr, bare_exprs}
 use Rattle.cedar_exprs.specs.declared.expr.Expr.{Expr}
 use Rattle.cedar_values.specs.Holders.{NoExtension}
+use Rattle.evaluations.specs.Outcomes.{Outcome}
+use Rattle.cedar_evaluator.specs.Texts.{outcome_text}
 use Rattle.cedar_script.specs.CommandWords.{texts_now}
 use Rattle.sketches.specs.SketchTexts.{sketch_ops}
 use Rattle.cedar_script.specs.Stack.{Stack, stack_of, bindings_of, environment, IsBoundToValueOf, Pushes, TopHas, ReplacesOne, ReplacesTwo, ReplacesThree, ReplacesMany}
 use Rattle.cedar_script.specs.declared.line.Command.{Command}
-use Rattle.cedar_script.specs.declared.line.Command.TheVariants.{Bool as Bool', Long, String, Var, Slot, Unknown, If, And, Or, RawAnd, RawOr, Unary, Binary, Call, Get, Has, ExtHas, Like, Is, Set, Record, Bind, Substitute, Typed, Show}
+use Rattle.cedar_script.specs.declared.line.Command.TheVariants.{Bool as Bool', Long, String, Var, Slot, Unknown, If, And, Or, RawAnd, RawOr, Unary, Binary, Call, Get, Has, ExtHas, Like, Is, Set, Record, Bind, Substitute, Typed, Show, Eval}
 use Rattle.cedar_script.specs.declared.work.State.{State}
 
 -- how many expressions a command needs on the stack
@@ -54,6 +59,7 @@ needed_count (Bind name) = 1
 needed_count Substitute = 1
 needed_count Typed = 1
 needed_count Show = 1
+needed_count Eval = 1
 
 -- how many expressions stand in place of those: `bind` leaves none, and every other command one
 abbrev pub left_count : Command → ℕ
@@ -95,6 +101,7 @@ Works env (Bind name) old new = new ≡ drop 1 old
 Works env Substitute old new = ReplacesOne (λ a e. fold tree_ops env (bare_expr a) ≡ Ok (bare_expr e)) old new
 Works env Typed old new = ReplacesOne (λ a e. (fold tree_ops env (bare_expr a) ≡ Ok (bare_expr e)) × (clash env (bare_expr a) ≡ None)) old new
 Works env Show old new = new ≡ old
+Works env Eval old new = new ≡ old
 
 -- what is bound after a command: `bind` binds its name to the value of the top, and every other
 -- command changes nothing; R is the order of extension values, of which there are none
@@ -102,9 +109,11 @@ abbrev pub Binds : (NoExtension → NoExtension → Ordering) → Command → St
 Binds R (Bind name) old new = TopHas (λ top. IsBoundToValueOf R name.now (bare_expr top) (environment (bindings_of old)) (environment (bindings_of new))) (stack_of old)
 Binds R _ old new = bindings_of new ≡ bindings_of old
 
--- what a command shows of the stack that it got: `show` the text of the top, and every other
--- command nothing
-abbrev pub Shows : Command → Stack → Option (OwnedText Global) → Type 0
-Shows Show stack None = ⊥
-Shows Show stack (Some text) = TopHas (λ top. fold sketch_ops empty (bare_expr top) ≡ Ok (string_bytes text)) stack
-Shows _ stack shown = shown ≡ None
+-- what a command shows of the stack that it got, where names are bound as `env` says: `show` the text
+-- of the top, `eval` the text of its outcome, and every other command nothing; B is the evaluator
+abbrev pub Shows : Ops (Outcome NoExtension) BareName → Env → Command → Stack → Option (OwnedText Global) → Type 0
+Shows B env Show stack None = ⊥
+Shows B env Show stack (Some text) = TopHas (λ top. fold sketch_ops empty (bare_expr top) ≡ Ok (string_bytes text)) stack
+Shows B env Eval stack None = ⊥
+Shows B env Eval stack (Some text) = TopHas (λ top. on_one outcome_text (fold B env (bare_expr top)) ≡ Ok (string_bytes text)) stack
+Shows B env _ stack shown = shown ≡ None

@@ -1,4 +1,4 @@
-//! The language of scripts: lines that make, bind, substitute and show expressions.
+//! The language of scripts: lines that make, bind, substitute, evaluate and show expressions.
 #![tactic(auto)]
 
 mod line;

@@ -77,6 +77,8 @@ pub enum Command<'a> {
     Typed,
     /// Shows the top, which stays.
     Show,
+    /// Shows the outcome of the top, which stays: its value, or the fault.
+    Eval,
 }
 
 impl<'a> Command<'a> {
@@ -138,6 +140,7 @@ fn parse_alone<'a>(alloc: Global, word: &str) -> Result<Command<'a>, Refusal>
         "substitute" => Ok(Command::Substitute),
         "typed" => Ok(Command::Typed),
         "show" => Ok(Command::Show),
+        "eval" => Ok(Command::Eval),
         _ => Ok(Command::Binary(parse_binary_op(word)?)),
     }
 }

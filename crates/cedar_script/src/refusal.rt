@@ -2,7 +2,8 @@
 ghost use Rattle.std.specs.Prelude.{◌≡◌};
 ghost use Rattle.cedar_script.specs.declared.refusal.Refusal.TheVariants.{Memory};
 
-use cedar_builders::{DuplicateKeyError, ExpressionConstructionError};
+use cedar_builders::{BuildFault, DuplicateKeyError, ExpressionConstructionError};
+use cedar_evaluator::CallRefused;
 use cedar_exprs::SubstitutionError;
 use cedar_terms::Type;
 use cedar_values::NotValue;
@@ -30,6 +31,9 @@ pub enum Refusal {
     /// The value of an unknown has another type than its annotation says.
     #[error("expected {expected}, actual {actual}")]
     TypeError { expected: Type, actual: Type },
+    /// An expression to evaluate calls an extension function.
+    #[error(transparent)]
+    Called(CallRefused),
     /// Memory was wanted, and none was given.
     #[error("no memory")]
     Memory,
@@ -75,6 +79,19 @@ impl From<SubstitutionError> for Refusal {
                 Refusal::TypeError { expected, actual }
             }
             SubstitutionError::Memory => Refusal::Memory,
+        }
+    }
+}
+
+impl From<BuildFault<CallRefused>> for Refusal {
+    ghost use Rattle.cedar_script.specs.Refusals.{refusal_of_call};
+
+    ghost from_gives = { λ e r. r ≡ refusal_of_call e };
+
+    fn from(error: BuildFault<CallRefused>) -> Refusal {
+        match error {
+            BuildFault::Build(refused) => Refusal::Called(refused),
+            BuildFault::Memory => Refusal::Memory,
         }
     }
 }

@@ -8,22 +8,25 @@ ghost use Rattle.cedar_terms.specs.Unknowns.{bare_annotation};
 ghost use Rattle.cedar_builders.specs.BareExpr.{Lit, Unknown as unknown_tree, And, Or, ExtensionFunctionApp as call_tree, Set as members};
 ghost use Rattle.cedar_builders.specs.TypeClash.{clash};
 ghost use Rattle.cedar_builders.specs.Environment.{empty, fold};
+ghost use Rattle.cedar_builders.specs.Fold.{on_one};
 ghost use Rattle.cedar_builders.specs.Trees.{tree_ops};
 ghost use Rattle.cedar_exprs.specs.BareExpr.{bare_expr, bare_exprs};
 ghost use Rattle.cedar_builders.specs.Keys.{keyed};
 ghost use Rattle.cedar_builders.specs.SubstitutionErrors.{IsClashError};
 ghost use Rattle.value_trees.specs.Reading.{IsValueOf};
 ghost use Rattle.cedar_values.specs.BareValues.{bare_value};
+ghost use Rattle.cedar_evaluator.specs.Texts.{outcome_text};
 ghost use Rattle.cedar_script.specs.CommandEffects.{needed_count, left_count, key_pairs, record_of, Works, Binds, Shows};
 ghost use Rattle.cedar_script.specs.CommandWords.{texts_now};
-ghost use Rattle.cedar_script.specs.Refusals.{IsValueRefusal};
+ghost use Rattle.cedar_script.specs.Refusals.{IsCallRefusal, IsValueRefusal};
 ghost use Rattle.sketches.specs.SketchTexts.{sketch_ops};
 ghost use Rattle.cedar_script.specs.Stack.{stack_of, depth, bindings_of, environment, binding_of, IsBoundTo, IsBoundToValueOf, TopHas, ReplacesOne, ReplacesTwo, ReplacesThree, ReplacesMany};
 ghost use Rattle.cedar_script.specs.declared.line.Command.{Command};
 
 use crate::line::Command;
 use crate::refusal::Refusal;
-use cedar_builders::ExprBuilder as _;
+use cedar_builders::ExprBuilder as Builder;
+use cedar_evaluator::{Evaluator, evaluate};
 use cedar_exprs::{Expr, ExprBuilder, ExprKind, SubstitutionError};
 use cedar_names::{Name, NonEmpty};
 use cedar_terms::{Literal, Type, Unknown};
@@ -69,7 +72,9 @@ impl State {
             ≡ depth self.old + left_count command.entry) }
         ensures too_few { IsErrOf result Refusal.TooFewExpressions
             ↔ (depth self.old < needed_count command.entry) }
-        ensures shows { IfOk result (Shows command.entry (stack_of self.old)) }
+        ensures shows { IfOk result
+            (Shows ⟦<Evaluator as Builder>⟧.ops (environment (bindings_of self.old)) command.entry
+            (stack_of self.old)) }
     {
         match command {
             Command::Bool(value) => self.push(Expr::val(Literal::Bool(value))),
@@ -103,6 +108,7 @@ impl State {
             Command::Substitute => self.substitute(alloc),
             Command::Typed => self.substitute_typed(alloc),
             Command::Show => self.show(alloc),
+            Command::Eval => self.evaluate(alloc),
         }
     }
 
@@ -328,11 +334,37 @@ impl State {
 
     // Shows the top, which stays.
     fn show(&self, alloc: Global) -> Shown
-        ensures shows { IfOk result (Shows Command.Show (stack_of self.now)) }
+        ensures shows { IfOk result
+            (Shows ⟦<Evaluator as Builder>⟧.ops (environment (bindings_of self.now)) Command.Show
+            (stack_of self.now)) }
         ensures too_few { IsErrOf result Refusal.TooFewExpressions ↔ (depth self.now < 1) }
     {
         let top = self.stack.last().ok_or(Refusal::TooFewExpressions)?;
         Ok(Some(write_expr(alloc, top)?))
+    }
+
+    // Shows the outcome of the top, which stays.
+    fn evaluate(&self, alloc: Global) -> Shown
+        ensures shows { IfOk result
+            (Shows ⟦<Evaluator as Builder>⟧.ops (environment (bindings_of self.now)) Command.Eval
+            (stack_of self.now)) }
+        ensures too_few { IsErrOf result Refusal.TooFewExpressions ↔ (depth self.now < 1) }
+    {
+        let top = self.stack.last().ok_or(Refusal::TooFewExpressions)?;
+        Ok(Some(self.write_outcome(alloc, top)?))
+    }
+
+    // Writes the text of the outcome of an expression.
+    fn write_outcome(&self, alloc: Global, expr: &Expr) -> Result<String, Refusal>
+        ensures text { IfOk result (λ text.
+            on_one outcome_text
+            (fold ⟦<Evaluator as Builder>⟧.ops (environment (bindings_of self.now)) (bare_expr expr.now))
+            ≡ Ok (string_bytes text)) }
+        ensures refused { IfErr result (IsCallRefusal
+            (fold ⟦<Evaluator as Builder>⟧.ops (environment (bindings_of self.now)) (bare_expr expr.now))) }
+    {
+        let outcome = evaluate(alloc, expr, &self.bindings)?;
+        Ok(outcome.to_string(alloc)?)
     }
 }
 
