@@ -90,8 +90,16 @@ fn answer(alloc: Global, row: &str) -> Result<String, NoAnswer> {
     }
 }
 
-// By the crate that knows the call: those on expressions are asked first.
+// By the crate that knows the call. The one that knows a single call is asked first, as it costs
+// the least.
 fn answer_call(alloc: Global, call: &str, args: &[Part]) -> Result<String, NoAnswer> {
+    match eval_rows::answer(alloc, call, args) {
+        Err(NoAnswer::OtherCall) => of_expressions(alloc, call, args),
+        answered => answered,
+    }
+}
+
+fn of_expressions(alloc: Global, call: &str, args: &[Part]) -> Result<String, NoAnswer> {
     match expr_rows::answer(alloc, call, args) {
         Err(NoAnswer::OtherCall) => of_values(alloc, call, args),
         answered => answered,
