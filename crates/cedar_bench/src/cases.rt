@@ -1,10 +1,11 @@
 //! The cases, a line each.
+use crate::evaluator::Rule;
 use crate::expressions::Input::{self, Balanced, Deep, Records, Unbound, Wide};
 use crate::fault::CaseFault;
 use crate::patterns::Wild;
 use crate::scripts::Script;
 use crate::sets::Members::{self, Few, Longs, Nested, Strings};
-use crate::{calls, expressions, names, patterns, scripts, sets, values};
+use crate::{calls, evaluator, expressions, names, patterns, scripts, sets, values};
 use std::time::Duration;
 
 /// What a case times.
@@ -39,6 +40,7 @@ pub enum Call {
     CallUnary,
     CallVariadic,
     Validate,
+    Evaluate(Rule),
     RunScript(Script),
 }
 
@@ -75,6 +77,7 @@ impl Call {
             Call::CallUnary => calls::time_unary(rt, size),
             Call::CallVariadic => calls::time_variadic(rt, size),
             Call::Validate => calls::time_validate(rt, size),
+            Call::Evaluate(rule) => evaluator::time_evaluate(rt, rule, size),
             Call::RunScript(script) => scripts::time_run(rt, script, size),
         }
     }
@@ -101,6 +104,9 @@ const NODES: [usize; 4] = [1_000, 10_000, 100_000, 1_000_000];
 // Numbers of nodes of records of ten records and so on, two to five deep.
 const RECORDS: [usize; 4] = [111, 1_111, 11_111, 111_111];
 
+// Numbers of nodes of records of ten that are asked, nested so.
+const ASKED: [usize; 4] = [122, 1_222, 12_222, 122_222];
+
 // Numbers of members of a set.
 const MEMBERS: [usize; 4] = [100, 1_000, 10_000, 100_000];
 
@@ -114,7 +120,7 @@ const CALLS: [usize; 3] = [1_000, 10_000, 100_000];
 const LINES: [usize; 3] = [1_000, 10_000, 100_000];
 
 /// The name of each case, its sizes from the least up, and its call.
-pub static CASES: [(&str, &[usize], Call); 56] = [
+pub static CASES: [(&str, &[usize], Call); 60] = [
     ("names-read", &NAMES, Call::ReadNames),
     ("names-refuse", &NAMES, Call::RefuseNames),
     ("names-sort", &NAMES, Call::SortNames),
@@ -169,6 +175,10 @@ pub static CASES: [(&str, &[usize], Call); 56] = [
     ("call-unary", &CALLS, Call::CallUnary),
     ("call-variadic", &CALLS, Call::CallVariadic),
     ("validate", &FULL, Call::Validate),
+    ("eval-balanced", &FULL, Call::Evaluate(Rule::Balanced)),
+    ("eval-deep", &NODES, Call::Evaluate(Rule::Deep)),
+    ("eval-records", &ASKED, Call::Evaluate(Rule::Records)),
+    ("eval-sets", &MEMBERS, Call::Evaluate(Rule::Sets)),
     ("script-flat", &LINES, Call::RunScript(Script::Flat)),
     ("script-deep-and", &LINES, Call::RunScript(Script::DeepAnd)),
 ];

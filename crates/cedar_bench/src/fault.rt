@@ -1,6 +1,7 @@
 //! Why there is no figure.
-use cedar_builders::ExpressionConstructionError;
+use cedar_builders::{BuildFault, ExpressionConstructionError};
 use cedar_calls::EvaluationError;
+use cedar_evaluator::CallRefused;
 use cedar_exprs::{ExprValidationError, SubstitutionError};
 use cedar_names::ParseErrors;
 use cedar_script::RunFault;
@@ -119,6 +120,15 @@ impl From<EvaluationError> for CaseFault {
             EvaluationError::WrongNumArguments { .. } | EvaluationError::Function { .. } => {
                 CaseFault::Answer
             }
+        }
+    }
+}
+
+impl From<BuildFault<CallRefused>> for CaseFault {
+    fn from(fault: BuildFault<CallRefused>) -> CaseFault {
+        match fault {
+            BuildFault::Memory => CaseFault::Memory,
+            BuildFault::Build(_) => CaseFault::Answer,
         }
     }
 }

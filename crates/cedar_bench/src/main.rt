@@ -8,6 +8,7 @@
 mod calls;
 mod cases;
 mod count;
+mod evaluator;
 mod expressions;
 mod fault;
 mod names;

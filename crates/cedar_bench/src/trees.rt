@@ -2,7 +2,7 @@
 use crate::count::total_name;
 use crate::fault::CaseFault;
 use cedar_exprs::Expr;
-use cedar_terms::{Literal, Type, Unknown};
+use cedar_terms::{BinaryOp, Literal, Type, Unknown};
 use std::alloc::{AllocError, Global};
 use std::collections::HashMap;
 use std::mem;
@@ -23,10 +23,12 @@ pub enum Leaves {
 // How nodes are made of those of the level below.
 #[derive(Clone, Copy)]
 enum Level {
-    // Sums of two.
-    Sums,
+    // An operator on two.
+    Pairs(BinaryOp),
     // Records of ten.
     Records,
+    // Records of ten, each asked for an attribute or whether it has it.
+    Questions,
 }
 
 /// The unknown x, which is annotated as an integer, or is not.
@@ -51,8 +53,16 @@ pub fn sums(alloc: Global, leaves: Leaves, nodes: usize) -> Result<Expr, CaseFau
     only(
         alloc,
         make_leaves(alloc, leaves, nodes / 2 + 1)?,
-        Level::Sums,
+        Level::Pairs(BinaryOp::Add),
     )
+}
+
+/// A full tree: sums of two leaves, `<` of two sums, and `==` of two of these and of all above.
+pub fn comparisons(alloc: Global, nodes: usize) -> Result<Expr, CaseFault> {
+    let leaves = make_leaves(alloc, Leaves::Untyped, nodes / 2 + 1)?;
+    let sums = by_two(alloc, leaves, BinaryOp::Add)?;
+    let tests = by_two(alloc, sums, BinaryOp::Less)?;
+    only(alloc, tests, Level::Pairs(BinaryOp::Eq))
 }
 
 /// A set of leaves.
@@ -67,11 +77,27 @@ pub fn records(alloc: Global, nodes: usize) -> Result<Expr, CaseFault> {
     only(alloc, leaves, Level::Records)
 }
 
+/// Records of ten, of which the first, the third and so on is asked for its attribute k3, and any
+/// other whether it has it; ten of these in a record, and so on.
+pub fn questions(alloc: Global, nodes: usize) -> Result<Expr, CaseFault> {
+    let leaves = make_leaves(alloc, Leaves::Untyped, nodes - nodes / 11 * 2)?;
+    only(alloc, leaves, Level::Questions)
+}
+
 /// A chain of `!` over the unknown x.
 pub fn negations(alloc: Global, levels: usize) -> Result<Expr, AllocError> {
     let mut expr = unknown(alloc, false)?;
     for _ in 0..levels {
         expr = Expr::not(alloc, expr)?;
+    }
+    Ok(expr)
+}
+
+/// A chain of `+`, each the left operand of the next, over the unknown x; the right ones are 1.
+pub fn additions(alloc: Global, levels: usize) -> Result<Expr, AllocError> {
+    let mut expr = unknown(alloc, false)?;
+    for _ in 0..levels {
+        expr = Expr::add(alloc, expr, Expr::val(Literal::Long(1)))?;
     }
     Ok(expr)
 }
@@ -118,31 +144,33 @@ fn only(alloc: Global, leaves: Vec<Expr>, level: Level) -> Result<Expr, CaseFaul
 
 fn next_level(alloc: Global, exprs: Vec<Expr>, level: Level) -> Result<Vec<Expr>, CaseFault> {
     match level {
-        Level::Sums => Ok(by_two(alloc, exprs)?),
+        Level::Pairs(op) => Ok(by_two(alloc, exprs, op)?),
         Level::Records => by_ten(alloc, exprs),
+        Level::Questions => Ok(asked(alloc, by_ten(alloc, exprs)?)?),
     }
 }
 
-// The sum of the first two, of the next two, and so on.
-fn by_two(alloc: Global, exprs: Vec<Expr>) -> Result<Vec<Expr>, AllocError> {
-    let mut sums = Vec::new(alloc);
+// The operator on the first two, on the next two, and so on.
+fn by_two(alloc: Global, exprs: Vec<Expr>, op: BinaryOp) -> Result<Vec<Expr>, AllocError> {
+    let mut pairs = Vec::new(alloc);
     let mut waiting = None;
     for expr in exprs {
         match waiting.take() {
             None => waiting = Some(expr),
-            Some(first) => push_sum(alloc, &mut sums, first, expr)?,
+            Some(first) => push_pair(alloc, &mut pairs, op, first, expr)?,
         }
     }
-    Ok(sums)
+    Ok(pairs)
 }
 
-fn push_sum(
+fn push_pair(
     alloc: Global,
-    sums: &mut Vec<Expr>,
+    pairs: &mut Vec<Expr>,
+    op: BinaryOp,
     left: Expr,
     right: Expr,
 ) -> Result<(), AllocError> {
-    sums.push(Expr::add(alloc, left, right)?)?;
+    pairs.push(Expr::binary_app(alloc, op, left, right)?)?;
     Ok(())
 }
 
@@ -161,4 +189,23 @@ fn by_ten(alloc: Global, exprs: Vec<Expr>) -> Result<Vec<Expr>, CaseFault> {
 
 fn key(alloc: Global, index: usize) -> Result<RcStr, AllocError> {
     Ok(RcStr::from_string(format!(in alloc; "k{index}")?)?)
+}
+
+// The attribute k3 of the first record, whether the next one has it, and so on.
+fn asked(alloc: Global, records: Vec<Expr>) -> Result<Vec<Expr>, AllocError> {
+    let mut asked = Vec::new(alloc);
+    for record in records {
+        let is_get = asked.len() % 2 == 0;
+        asked.push(question(alloc, is_get, record)?)?;
+    }
+    Ok(asked)
+}
+
+fn question(alloc: Global, is_get: bool, record: Expr) -> Result<Expr, AllocError> {
+    let attr = key(alloc, 3)?;
+    if is_get {
+        Expr::get_attr(alloc, record, attr)
+    } else {
+        Expr::has_attr(alloc, record, attr)
+    }
 }
