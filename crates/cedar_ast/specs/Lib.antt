@@ -16,10 +16,10 @@ pub use Rattle.cedar_exprs.specs.BuiltNode
 pub use Rattle.cedar_exprs.specs.RecordPairs
 pub use Rattle.cedar_exprs.specs.Refusals
 pub use Rattle.cedar_exprs.specs.RestrictedExprs
-pub use Rattle.value_trees.specs.BareValue
-pub use Rattle.value_trees.specs.ValueExpr
-pub use Rattle.value_trees.specs.ValueOrder
-pub use Rattle.value_trees.specs.ValueTypes
+pub use Rattle.cedar_value_trees.specs.BareValue
+pub use Rattle.cedar_value_trees.specs.ValueExpr
+pub use Rattle.cedar_value_trees.specs.ValueOrder
+pub use Rattle.cedar_value_trees.specs.ValueTypes
 pub use Rattle.cedar_values.specs.BareValues
 pub use Rattle.cedar_values.specs.BoundedTexts
 pub use Rattle.cedar_values.specs.Holders

@@ -5,18 +5,22 @@ pub use cedar_builders::laws::{
     then_is_not_always_both,
 };
 pub use cedar_exprs::laws::{
-    alike_expressions, bare_positions, equal_expressions, nodes_in_preorder, record_keys_rise,
+    alike_expressions, bare_positions, data_by_children, equal_expressions, nodes_in_preorder,
+    positions_by_children, record_keys_rise,
 };
-pub use cedar_names::laws::{compared_lists, equal_names, name_texts_differ, ordered_names};
+pub use cedar_names::laws::{
+    compared_lists, equal_names, name_texts_differ, ordered_names, qualified_twice,
+};
 pub use cedar_terms::laws::{
     equal_operators, equal_terms, hashed_entities, hashed_literals, ordered_entities,
     ordered_operators, pattern_texts_differ,
 };
-pub use cedar_values::laws::{
-    equal_partial_values, maps_bind_plain_values, order_of_kinds, order_of_sets, order_of_values,
-    sets_are_finite_sets, then_is_both_of_maps, values_by_kind,
+pub use cedar_value_trees::laws::{
+    expressions_read_back, plain_where_none, reading_gives_one_value, then_is_both_of_values,
+    values_are_ordered,
 };
-pub use evaluations::laws::plain_where_none;
-pub use value_trees::laws::{
-    expressions_read_back, reading_gives_one_value, then_is_both_of_values, values_are_ordered,
+pub use cedar_values::laws::{
+    equal_partial_values, maps_bind_plain_values, no_extension_values, order_of_extension_values,
+    order_of_kinds, order_of_sets, order_of_values, plain_values, sets_are_finite_sets,
+    then_is_both_of_maps, trees_of_values, value_keys_rise, values_by_kind, well_formed_parts,
 };

@@ -13,6 +13,7 @@ pub mod RisingKeys
 pub mod Errors
 pub mod SubstitutionErrors
 pub mod Answers
+pub mod BuildFaults
 pub mod Negated
 pub mod Count
 pub mod NodeByNode

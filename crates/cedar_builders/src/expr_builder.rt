@@ -14,6 +14,7 @@ ghost use Rattle.cedar_builders.specs.Lawful.{Lawful};
 ghost use Rattle.cedar_builders.specs.Keys.{keys_of, meant_pairs, IsRising, HasRepeat};
 ghost use Rattle.cedar_builders.specs.Errors.{OnDuplicateKey};
 ghost use Rattle.cedar_builders.specs.Answers.{Gives, Means};
+ghost use Rattle.cedar_builders.specs.BuildFaults.{build_fault_text};
 ghost use Rattle.cedar_builders.specs.Negated.{MakesNegated};
 ghost use Rattle.cedar_builders.specs.declared.expr_builder.BuildFault.TheVariants.{Memory};
 ghost use Rattle.cedar_builders.specs.declared.expression_construction_errors.ExpressionConstructionError.TheVariants as error;
@@ -23,10 +24,14 @@ use cedar_names::{Loc, Name, NonEmpty, SlotId};
 use cedar_terms::{BinaryOp, EntityType, Literal, Pattern, UnaryOp, Unknown, Var};
 use std::alloc::{AllocError, AllocFailed, Global};
 use std::convert::Infallible;
+use std::fmt;
 use std::rc::RcStr;
+use thiserror::Error;
 
 /// Why an expression was not built: the builder's own error, or want of memory.
-#[derive(Debug, Drop)]
+///
+/// Its text is that of the builder's own error, or `no memory`.
+#[derive(Debug, Drop, Error)]
 pub enum BuildFault<E> {
     /// The builder's own error.
     Build(E),
@@ -47,6 +52,17 @@ impl<E, T: Drop> From<AllocFailed<T>> for BuildFault<E> {
 
     fn from(_: AllocFailed<T>) -> BuildFault<E> {
         BuildFault::Memory
+    }
+}
+
+impl<E: fmt::Display> fmt::Display for BuildFault<E> {
+    ghost output = { build_fault_text E.output };
+
+    fn fmt<W: fmt::Write>(&self, f: &mut fmt::Formatter<W>) -> fmt::Result {
+        match self {
+            BuildFault::Build(error) => fmt::Display::fmt(error, f),
+            BuildFault::Memory => f.write_str("no memory"),
+        }
     }
 }
 

@@ -1,5 +1,5 @@
 -- Calls of functions (`ExtensionFunction::call` of Cedar's `extension.rs`).
-use Rattle.std.specs.Prelude.{◌≡◌, ⊤, ℕ, None, Result, Ok, Err}
+use Rattle.std.specs.Prelude.{[], ◌≡◌, ⊤, ℕ, None, Result, Ok, Err}
 use Rattle.cedar_names.specs.Names.{BareName}
 use Rattle.cedar_names.specs.PlainNames.{bare_name}
 use Rattle.cedar_terms.specs.Unknowns.{bare_unknown}
@@ -16,7 +16,7 @@ use Rattle.cedar_calls.specs.declared.output_value.ExtensionOutputValue.TheVaria
 -- a residual at no place, the error itself
 abbrev pub IsPassedOn : {X : Type 0} → Answer X → Result (PartialValue X) EvaluationError → Type 0
 IsPassedOn (Ok (Known v)) (Ok (partials.Value w)) = w ≡ v
-IsPassedOn (Ok (Unknown u)) (Ok (partials.Residual e)) = IsPlain (unknown_tree (bare_unknown u)) e
+IsPassedOn (Ok (Unknown u)) (Ok (partials.Residual e)) = IsPlain (unknown_tree (bare_unknown u)) [] e
 IsPassedOn (Err e) (Err f) = f ≡ e
 IsPassedOn answer result = ⊥
 

@@ -11,7 +11,7 @@ use Rattle.cedar_terms.specs.SchemaTypes.{bare_schema_type, extension_names}
 use Rattle.cedar_terms.specs.declared.schema_type.SchemaType.{SchemaType}
 use Rattle.cedar_values.specs.declared.extension_value.ExtensionValue as values
 use Rattle.cedar_values.specs.declared.value.Value.{Value}
-use Rattle.function_tables.specs.declared.call_style.CallStyle.{CallStyle}
+use Rattle.cedar_validation.specs.declared.call_style.CallStyle.{CallStyle}
 use Rattle.cedar_calls.specs.Objects.{Counts, counts, MayGive}
 use Rattle.cedar_calls.specs.OutputValues.{Answer}
 use Rattle.cedar_calls.specs.declared.extension_function.ExtensionFunction.{ExtensionFunction}

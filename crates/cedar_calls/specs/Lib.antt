@@ -7,4 +7,5 @@ pub mod Calls
 pub mod NameMaps
 pub mod NamedFunctions
 pub mod Extensions
+pub mod Found
 pub mod Refusals

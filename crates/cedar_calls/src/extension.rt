@@ -31,7 +31,7 @@ impl<X: ExtensionFunctions> Extension<X> {
     ghost use Rattle.std.specs.List.{flat_map};
     ghost use Rattle.std.specs.List.Sorted.{IsStrictlySortedBy};
     ghost use Rattle.std.specs.Slice.Iter.{iter_rest};
-    ghost use Rattle.rising.specs.Classes.{IsClassesOf};
+    ghost use Rattle.sorted_slices.specs.Classes.{IsClassesOf};
     ghost use Rattle.cedar_terms.specs.SchemaTypes.{bare_names};
     ghost use Rattle.cedar_calls.specs.Functions.{ext_types_of};
     ghost use Rattle.cedar_calls.specs.Extensions.{
@@ -55,10 +55,11 @@ impl<X: ExtensionFunctions> Extension<X> {
             (operator_types e) types_with_operator_overloading.items) }
     {
         let functions = by_name(alloc, functions)?;
+        let overloading = sorted_slices::into_rising(types_with_operator_overloading);
         Ok(Extension {
             name,
             functions,
-            types_with_operator_overloading: rising::into_rising(types_with_operator_overloading),
+            types_with_operator_overloading: overloading,
         })
     }
 

@@ -11,8 +11,8 @@ use crate::object::{
 use crate::output_value::ExtensionOutputValue;
 use cedar_names::Name;
 use cedar_terms::SchemaType;
+use cedar_validation::CallStyle;
 use cedar_values::{PartialValue, Value};
-use function_tables::CallStyle;
 use std::alloc::{AllocError, Global};
 use std::fmt;
 

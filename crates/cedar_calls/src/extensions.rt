@@ -10,7 +10,7 @@ use crate::extension_function::ExtensionFunction;
 use crate::object::ExtensionFunctions;
 use cedar_names::Name;
 use cedar_terms::SchemaType;
-use function_tables::{CallStyle, FunctionTable};
+use cedar_validation::{CallStyle, FunctionTable};
 
 /// Some extensions. A name that several have is that of the first one's function.
 #[derive(Drop)]
@@ -47,6 +47,7 @@ impl<X: ExtensionFunctions> FunctionTable for Extensions<X> {
     ghost use Rattle.std.specs.Prelude.{option_and_then, option_map};
     ghost use Rattle.cedar_terms.specs.SchemaTypes.{bare_schema_type};
     ghost use Rattle.cedar_calls.specs.Functions.{return_type_of, style_of};
+    ghost use Rattle.cedar_calls.specs.Found.{none_of_none};
 
     ghost style_at = { λ s name. option_map style_of (first_named name (extensions_of s)) };
 
@@ -66,4 +67,7 @@ impl<X: ExtensionFunctions> FunctionTable for Extensions<X> {
             None => None,
         }
     }
+
+    ghost types_of_known = { λ s name. none_of_none style_of return_type_of bare_schema_type
+        (first_named name (extensions_of s)) };
 }

@@ -9,11 +9,11 @@ mod no_function;
 mod object;
 mod output_value;
 
+pub use cedar_validation::{CallStyle, FunctionTable};
 pub use err::EvaluationError;
 pub use extension::Extension;
 pub use extension_function::ExtensionFunction;
 pub use extensions::Extensions;
-pub use function_tables::{CallStyle, FunctionTable};
 pub use no_function::NoFunction;
 pub use object::{
     BinaryExtensionFunctionObject, BinaryFunction, ExtensionFunctionObject, ExtensionFunctions,

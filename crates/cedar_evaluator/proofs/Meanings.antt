@@ -1,13 +1,9 @@
 -- Outcomes by what they mean.
-use Rattle.std.proofs.Common.{◌≡◌, ◌≢◌, true, Result, Ok, Err, IsOk, IsOkAnd, refl, sym, ap, subst, ◌∙◌}
+use Rattle.std.proofs.Common.{◌≡◌, ◌≢◌, Result, Ok, Err, IsOk, IsOkAnd, refl, sym, ap, subst, ◌∙◌}
 use Rattle.std.specs.Result.{ForOk}
-use Rattle.std.specs.declared.cmp.Ordering.{Ordering}
-use Rattle.rising.specs.Rising.{and_left}
-use Rattle.value_trees.specs.BareValue.{BareValue}
-use Rattle.value_trees.specs.WellFormed.{is_well_formed}
+use Rattle.cedar_value_trees.specs.BareValue.{BareValue}
 use Rattle.cedar_values.specs.BareValues.{bare_value}
 use Rattle.cedar_values.specs.Holders.{NoExtension}
-use Rattle.cedar_values.specs.WellFormed.{is_hashed, well_formed}
 use Rattle.cedar_values.specs.declared.value.Value.{Value}
 use Rattle.evaluations.specs.Outcomes as meant
 use Rattle.cedar_evaluator.specs.Laws.{IsDecided, IsValue}
@@ -15,11 +11,6 @@ use Rattle.cedar_evaluator.specs.Outcomes.{bare_outcome, meaning_of, result_of}
 use Rattle.cedar_evaluator.specs.declared.fault.EvalFault.{EvalFault}
 use Rattle.cedar_evaluator.specs.declared.fault.EvalFault.TheVariants.{Open}
 use Rattle.cedar_evaluator.specs.declared.outcome.Outcome.{Outcome}
-
-pub tree_well_formed : {X : Type 0} (R : X → X → Ordering) (v : Value X) → well_formed R v ≡ true
-    → is_well_formed R (bare_value v) ≡ true
-unfolding well_formed
-tree_well_formed R v h = and_left (is_well_formed R (bare_value v)) (is_hashed v) h
 
 abbrev ok_of : {A E : Type 0} → A → Result A E → A
 ok_of a (Ok b) = b

@@ -8,12 +8,12 @@ use Rattle.std.specs.Map.{lookup}
 use Rattle.std.specs.Option.{option_copied}
 use Rattle.std.specs.Rc.{rc_str_bytes}
 use Rattle.std.specs.declared.rc.RcStr.{RcStr}
-use Rattle.rising.specs.Rising.{and_left, and_right}
+use Rattle.sorted_slices.specs.Rising.{and_left, and_right}
 use Rattle.cedar_terms.specs.Literals.{EntityLit}
 use Rattle.cedar_builders.specs.BareExpr.{Text}
 use Rattle.cedar_builders.specs.Fold.{on_one}
 use Rattle.cedar_builders.specs.Keys.{meant_pairs}
-use Rattle.value_trees.specs.BareValue.{BareValue, LitValue, RecordValue}
+use Rattle.cedar_value_trees.specs.BareValue.{BareValue, LitValue, RecordValue}
 use Rattle.cedar_values.specs.BareValues.{bare_value}
 use Rattle.cedar_values.specs.declared.value.Value.{Value}
 use Rattle.evaluations.specs.Attributes.{get_in, has_path, value_at}

@@ -2,23 +2,17 @@
 use Rattle.std.proofs.Common.{◌≡◌, false, ◌||◌, List, [], ◌∷◌, map, refl, ap, ◌∙◌}
 use Rattle.std.specs.Cmp.{IsTotalOrder}
 use Rattle.std.specs.declared.cmp.Ordering.{Ordering}
-use Rattle.rising.specs.Classes.{IsClassesOf}
-use Rattle.rising.specs.Images.{classes_of_images}
-use Rattle.cedar_builders.specs.Answers.{never}
-use Rattle.value_trees.specs.BareValue.{BareValue, SetValue, values_of}
-use Rattle.value_trees.specs.ValueExpr.{has_extension, any_has_extension}
-use Rattle.value_trees.specs.ValueOrder.{value_cmp}
+use Rattle.sorted_slices.specs.Classes.{IsClassesOf}
+use Rattle.sorted_slices.specs.Images.{classes_of_images}
+use Rattle.cedar_value_trees.specs.BareValue.{BareValue, SetValue, values_of}
+use Rattle.cedar_value_trees.specs.ValueExpr.{has_extension, any_has_extension}
+use Rattle.cedar_value_trees.specs.ValueOrder.{value_cmp}
 use Rattle.cedar_values.specs.BareValues.{bare_value}
-use Rattle.cedar_values.specs.Holders.{NoExtension}
 use Rattle.cedar_values.specs.Sets.{by_tree, members}
 use Rattle.cedar_values.specs.declared.set.Set as set
 use Rattle.cedar_values.specs.declared.value.Value.{Value}
-use Rattle.evaluations.specs.Laws.{IsOneList, PlainWhereNone}
+use Rattle.evaluations.specs.Laws.{IsOneList}
 use Rattle.evaluations.specs.Rows.{set_value}
-
--- there is no extension value
-pub none : NoExtension → ⊥
-none h = never h.held
 
 all_plain : {X : Type 0} → ((t : BareValue X) → has_extension t ≡ false)
     → (ts : List (BareValue X)) → any_has_extension (values_of ts) ≡ false
@@ -26,13 +20,13 @@ all_plain h [] = refl
 all_plain h (t ∷ ts) = λ i. h t i || all_plain h ts i
 
 pub set_made : {X : Type 0} (R : X → X → Ordering) → IsTotalOrder (value_cmp R) → IsOneList R
-    → PlainWhereNone X → (X → ⊥) → (v : Value X) (s : set.Set X) (vs : List (Value X))
+    → ((t : BareValue X) → has_extension t ≡ false) → (v : Value X) (s : set.Set X) (vs : List (Value X))
     → bare_value v ≡ SetValue (values_of (map bare_value (members s)))
     → IsClassesOf (by_tree R) (members s) vs
     → bare_value v ≡ set_value R (map bare_value vs)
-set_made R o one plain no_value v s vs is classes =
+set_made R o one plain v s vs is classes =
     is
     ∙ ap (λ ts. SetValue (values_of ts))
     (one (map bare_value (members s)) (map bare_value vs)
-    (all_plain (plain no_value) (map bare_value vs))
+    (all_plain plain (map bare_value vs))
     (classes_of_images bare_value o (members s) vs classes))

@@ -6,7 +6,7 @@ use Rattle.cedar_builders.specs.BareExpr.{BareExpr}
 use Rattle.cedar_builders.specs.Environment.{empty, fold}
 use Rattle.cedar_builders.specs.Laws.{both}
 use Rattle.cedar_builders.specs.Ops.{Ops}
-use Rattle.value_trees.specs.ValueExpr.{value_expr}
+use Rattle.cedar_value_trees.specs.ValueExpr.{value_expr}
 use Rattle.cedar_values.specs.BareValues.{bare_value}
 use Rattle.cedar_values.specs.Holders.{NoExtension, held_call, plain_env}
 use Rattle.cedar_values.specs.ValueMaps.{ValueMap}

@@ -37,8 +37,8 @@ fn look_up<'a, X: Ord>(pairs: &'a BTreeMap<RcStr, Value<X>>, key: &RcStr) -> Opt
     pairs.get(key.as_str())
 }
 
-// The value of an attribute, if the record has it, or why there are no attributes.
-pub(crate) fn attribute<'a, X: Ord>(
+/// The value of an attribute, if the record has it, or why there are no attributes.
+pub fn attribute<'a, X: Ord>(
     value: &'a Value<X>,
     key: &RcStr,
 ) -> Result<Option<&'a Value<X>>, EvalFault>
@@ -53,12 +53,8 @@ pub(crate) fn attribute<'a, X: Ord>(
     }
 }
 
-// Whether a path of attributes is there.
-pub(crate) fn has_path<X: Ord>(
-    value: &Value<X>,
-    first: &RcStr,
-    rest: &[RcStr],
-) -> Result<bool, EvalFault>
+/// Whether a path of attributes is there.
+pub fn has_path<X: Ord>(value: &Value<X>, first: &RcStr, rest: &[RcStr]) -> Result<bool, EvalFault>
     ensures { on_one (λ b. truth {X = X} b) (faulted result)
         ≡ meant.has_path (Ok (bare_value value.now)) (rc_str_bytes first.now)
         (map rc_str_bytes rest.now) }

@@ -15,9 +15,9 @@ use crate::fault::CallRefused;
 use crate::outcome::Outcome;
 use cedar_builders::BuildFault;
 use cedar_exprs::Expr;
-use cedar_values::laws::maps_bind_plain_values;
+use cedar_values::laws::{maps_bind_plain_values, no_extension_values};
 use cedar_values::{NoExtension, Value, substitute_values_into_expr};
-use evaluations::laws::{never_open, plain_where_none};
+use evaluations::laws::never_open;
 use std::alloc::Global;
 use std::collections::HashMap;
 use std::rc::RcStr;
@@ -40,6 +40,6 @@ pub fn evaluate(
 {
     maps_bind_plain_values::<NoExtension>();
     never_open::<NoExtension>();
-    plain_where_none::<NoExtension>();
+    no_extension_values();
     substitute_values_into_expr::<Evaluator, NoExtension>(alloc, expr, values)
 }

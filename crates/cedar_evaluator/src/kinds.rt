@@ -4,7 +4,7 @@ ghost use Rattle.cedar_terms.specs.Entities.{bare_entity_uid};
 ghost use Rattle.cedar_terms.specs.Literals.{bare_literal};
 ghost use Rattle.std.specs.List.{list_all};
 ghost use Rattle.cedar_builders.specs.Keys.{meant_pairs};
-ghost use Rattle.value_trees.specs.BareValue.{LitValue};
+ghost use Rattle.cedar_value_trees.specs.BareValue.{LitValue};
 ghost use Rattle.cedar_values.specs.BareValues.{bare_value};
 ghost use Rattle.cedar_values.specs.Sets.{members};
 ghost use Rattle.cedar_values.specs.WellFormed.{set_well_formed, well_formed};
@@ -17,8 +17,8 @@ use cedar_values::{Set, Value, ValueKind};
 use std::collections::BTreeMap;
 use std::rc::RcStr;
 
-// The value of a literal, at no place.
-pub(crate) fn literal_value<X: Ord + Drop>(literal: Literal) -> Value<X>
+/// The value of a literal, at no place.
+pub fn literal_value<X: Ord + Drop>(literal: Literal) -> Value<X>
     ensures tree { bare_value result ≡ LitValue (bare_literal literal) }
     ensures well_formed { IsTrue (well_formed X.cmp result) }
 {
@@ -26,8 +26,8 @@ pub(crate) fn literal_value<X: Ord + Drop>(literal: Literal) -> Value<X>
     Value::new(ValueKind::Lit(literal), None)
 }
 
-// The Boolean, if it is one.
-pub(crate) fn as_bool<X>(value: &Value<X>) -> Option<bool>
+/// The Boolean, if it is one.
+pub fn as_bool<X>(value: &Value<X>) -> Option<bool>
     ensures { result ≡ truth_of (bare_value value.now) }
 {
     match value.try_as_lit() {

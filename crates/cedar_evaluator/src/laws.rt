@@ -6,7 +6,7 @@ ghost use Rattle.cedar_evaluator.specs.Laws.{DecidedStays, NeverOpen, ValueKept}
 use crate::evaluator::Evaluator;
 use cedar_builders::ExprBuilder;
 use cedar_values::NoExtension;
-use cedar_values::laws::maps_bind_plain_values;
+use cedar_values::laws::{maps_bind_plain_values, no_extension_values, well_formed_parts};
 use evaluations::laws as outcomes;
 
 /// The expression of a well formed value evaluates to that value: `to_expr` and then
@@ -16,7 +16,8 @@ pub fn value_kept()
         ⟦<NoExtension as Ord>⟧.cmp }
 {
     outcomes::value_kept::<NoExtension>();
-    outcomes::plain_where_none::<NoExtension>();
+    no_extension_values();
+    well_formed_parts::<NoExtension>();
 }
 
 /// What is decided stays: where unknowns are bound to the values of a map, and the outcome is a
@@ -27,7 +28,7 @@ pub fn decided_stays()
         ⟦<Evaluator as ExprBuilder>⟧.meaning_of }
 {
     outcomes::decided_stays::<NoExtension>();
-    outcomes::plain_where_none::<NoExtension>();
+    no_extension_values();
     maps_bind_plain_values::<NoExtension>();
 }
 
@@ -37,6 +38,6 @@ pub fn never_open()
     ensures { NeverOpen ⟦<Evaluator as ExprBuilder>⟧.ops ⟦<Evaluator as ExprBuilder>⟧.meaning_of }
 {
     outcomes::never_open::<NoExtension>();
-    outcomes::plain_where_none::<NoExtension>();
+    no_extension_values();
     maps_bind_plain_values::<NoExtension>();
 }

@@ -7,6 +7,7 @@ mod evaluator;
 mod fault;
 mod kinds;
 pub mod laws;
+pub mod operations;
 mod operators;
 mod outcome;
 mod rows;

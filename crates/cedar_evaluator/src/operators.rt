@@ -19,6 +19,7 @@ use cedar_terms::{BinaryOp, EntityType, Integer, Literal, Pattern, UnaryOp};
 use cedar_values::Value;
 use cedar_values::laws::order_of_values;
 use evaluations::laws::longs_fit;
+use sorted_slices::laws::{none_is_any, part_is_all};
 
 // A test of a value: it fails where the value has the wrong type.
 pub(crate) fn test<X>(answer: Option<bool>) -> Result<Literal, EvalFault>
@@ -42,8 +43,8 @@ fn long<X>(made: Option<Integer>) -> Result<Literal, EvalFault>
     }
 }
 
-// An operator on a value.
-pub(crate) fn apply_one<X: Ord>(op: UnaryOp, value: &Value<X>) -> Result<Literal, EvalFault>
+/// An operator on a value.
+pub fn apply_one<X: Ord>(op: UnaryOp, value: &Value<X>) -> Result<Literal, EvalFault>
     ensures { literal_outcome (faulted result) ≡ settled (apply_one op (bare_value value.now)) }
 {
     match op {
@@ -176,6 +177,7 @@ fn contains_all<X: Ord + Drop>(left: &Value<X>, right: &Value<X>) -> Option<bool
         ≡ apply_two X.cmp X.eq binary.ContainsAll (bare_value left.now) (bare_value right.now) }
 {
     order_of_values::<X>();
+    part_is_all::<Value<X>>();
     match (as_set(left), as_set(right)) {
         (Some(set), Some(others)) => Some(others.is_subset(set)),
         _ => None,
@@ -189,14 +191,15 @@ fn contains_any<X: Ord + Drop>(left: &Value<X>, right: &Value<X>) -> Option<bool
         ≡ apply_two X.cmp X.eq binary.ContainsAny (bare_value left.now) (bare_value right.now) }
 {
     order_of_values::<X>();
+    none_is_any::<Value<X>>();
     match (as_set(left), as_set(right)) {
         (Some(set), Some(others)) => Some(!others.is_disjoint(set)),
         _ => None,
     }
 }
 
-// An operator on two values.
-pub(crate) fn apply_two<X: Ord + Drop>(
+/// An operator on two values.
+pub fn apply_two<X: Ord + Drop>(
     op: BinaryOp,
     left: &Value<X>,
     right: &Value<X>,
@@ -221,8 +224,8 @@ pub(crate) fn apply_two<X: Ord + Drop>(
     }
 }
 
-// Whether a pattern matches a text.
-pub(crate) fn is_like<X>(value: &Value<X>, pattern: &Pattern) -> Option<bool>
+/// Whether a pattern matches a text.
+pub fn is_like<X>(value: &Value<X>, pattern: &Pattern) -> Option<bool>
     ensures { tested result ≡ like_in pattern.now (bare_value value.now) }
 {
     match as_text(value) {
@@ -231,8 +234,8 @@ pub(crate) fn is_like<X>(value: &Value<X>, pattern: &Pattern) -> Option<bool>
     }
 }
 
-// Whether an entity is of a type.
-pub(crate) fn is_of_type<X>(value: &Value<X>, ty: &EntityType) -> Option<bool>
+/// Whether an entity is of a type.
+pub fn is_of_type<X>(value: &Value<X>, ty: &EntityType) -> Option<bool>
     ensures { tested result ≡ is_in (bare_entity_type ty.now) (bare_value value.now) }
 {
     match as_entity(value) {

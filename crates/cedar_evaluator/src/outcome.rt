@@ -33,7 +33,7 @@ impl Outcome {
     ghost use Rattle.std.specs.Prelude.{Ok, Err, map};
     ghost use Rattle.std.specs.Rc.{rc_str_bytes};
     ghost use Rattle.cedar_values.specs.BareValues.{bare_value};
-    ghost use Rattle.value_trees.specs.BareValue.{LitValue};
+    ghost use Rattle.cedar_value_trees.specs.BareValue.{LitValue};
     ghost use Rattle.cedar_terms.specs.Literals.{bare_literal};
     ghost use Rattle.cedar_terms.specs.Entities.{bare_entity_type};
     ghost use Rattle.evaluations.specs.Attributes.{get_in, has_path as path_in, is_in, like_in};

@@ -4,7 +4,7 @@ ghost use Rattle.std.specs.BTreeMap.{insert_entry};
 ghost use Rattle.std.specs.List.{list_all};
 ghost use Rattle.cedar_builders.specs.Fold.{on_one};
 ghost use Rattle.cedar_builders.specs.Keys.{IsRising, keys_of, meant_pairs};
-ghost use Rattle.value_trees.specs.BareValue.{RecordValue, pairs_of};
+ghost use Rattle.cedar_value_trees.specs.BareValue.{RecordValue, pairs_of};
 ghost use Rattle.cedar_values.specs.BareValues.{bare_value};
 ghost use Rattle.cedar_values.specs.Records.{key_cmp};
 ghost use Rattle.cedar_values.specs.WellFormed.{well_formed};
@@ -13,13 +13,13 @@ ghost use Rattle.cedar_evaluator.specs.Outcomes.{faulted, meaning_of};
 
 use crate::fault::EvalFault;
 use crate::outcome::Outcome;
-use cedar_values::laws::values_by_kind;
+use cedar_value_trees::laws::values_are_ordered;
+use cedar_values::laws::{no_extension_values, values_by_kind};
 use cedar_values::{NoExtension, Set, Value, ValueKind};
-use evaluations::laws::{one_list, plain_where_none};
+use evaluations::laws::one_list;
 use std::alloc::{AllocError, Global};
 use std::collections::BTreeMap;
 use std::rc::{Rc, RcStr};
-use value_trees::laws::values_are_ordered;
 
 // The values of a row, or its first fault.
 pub(crate) fn split_row(
@@ -41,8 +41,8 @@ pub(crate) fn split_row(
     Ok(Ok(values))
 }
 
-// The set of some values.
-pub(crate) fn set_of(
+/// The set of some values.
+pub fn set_of(
     alloc: Global,
     values: Vec<Value<NoExtension>>,
 ) -> Result<Value<NoExtension>, AllocError>
@@ -54,30 +54,66 @@ pub(crate) fn set_of(
     values_are_ordered::<NoExtension>();
     values_by_kind::<NoExtension>();
     one_list::<NoExtension>();
-    plain_where_none::<NoExtension>();
+    no_extension_values();
     let set = Set::new(alloc, values)?;
     Ok(Value::new(ValueKind::Set(set), None))
 }
 
-// The values of a row by their keys, or its first fault.
+// The keys and values of a row, or its first fault.
 pub(crate) fn split_pairs(
     alloc: Global,
     row: Vec<(RcStr, Outcome)>,
-) -> Result<Result<BTreeMap<RcStr, Value<NoExtension>>, EvalFault>, AllocError>
-    ensures pairs { IsRising (keys_of row.items) → IfOk result (λ split.
-        on_one (λ m. meant_pairs bare_value m.entries) (faulted split)
+) -> Result<Result<Vec<(RcStr, Value<NoExtension>)>, EvalFault>, AllocError>
+    ensures pairs { IfOk result (λ split.
+        on_one (λ ps. meant_pairs bare_value ps.items) (faulted split)
         ≡ all_pairs (meant_pairs meaning_of row.items)) }
-    ensures well_formed { IfOk result (λ split. IfOk split (λ m.
-        IsTrue (list_all (λ e. well_formed ⟦<NoExtension as Ord>⟧.cmp e.1) m.entries))) }
+    ensures keys { IfOk result (λ split. IfOk split (λ ps.
+        keys_of ps.items ≡ keys_of row.items)) }
+    ensures well_formed { IfOk result (λ split. IfOk split (λ ps.
+        IsTrue (list_all (λ p. well_formed ⟦<NoExtension as Ord>⟧.cmp p.1) ps.items))) }
 {
-    let mut values = BTreeMap::new(alloc);
+    let mut pairs = Vec::with_capacity(alloc, row.len())?;
     for (key, outcome) in row {
         match outcome.into_result() {
-            Ok(value) => put(&mut values, key, value)?,
+            Ok(value) => pairs.push((key, value))?,
             Err(fault) => return Ok(Err(fault)),
         }
     }
-    Ok(Ok(values))
+    Ok(Ok(pairs))
+}
+
+/// The record of some pairs whose keys rise, by bytes.
+pub fn record_of(
+    alloc: Global,
+    pairs: Vec<(RcStr, Value<NoExtension>)>,
+) -> Result<Value<NoExtension>, AllocError>
+    ensures tree { IsRising (keys_of pairs.items) → IfOk result (λ v. bare_value v
+        ≡ RecordValue (pairs_of (meant_pairs bare_value pairs.items))) }
+    ensures well_formed { IsTrue
+        (list_all (λ p. well_formed ⟦<NoExtension as Ord>⟧.cmp p.1) pairs.items)
+        → IfOk result (λ v. IsTrue (well_formed ⟦<NoExtension as Ord>⟧.cmp v)) }
+{
+    values_by_kind::<NoExtension>();
+    let values = Rc::new(alloc, by_key(alloc, pairs)?)?;
+    Ok(Value::record_arc(values, None))
+}
+
+// The values of some pairs by their keys.
+fn by_key(
+    alloc: Global,
+    pairs: Vec<(RcStr, Value<NoExtension>)>,
+) -> Result<BTreeMap<RcStr, Value<NoExtension>>, AllocError>
+    ensures same { IsRising (keys_of pairs.items) → IfOk result (λ m. m.entries ≡ pairs.items) }
+    ensures well_formed { IsTrue
+        (list_all (λ p. well_formed ⟦<NoExtension as Ord>⟧.cmp p.1) pairs.items)
+        → IfOk result (λ m.
+        IsTrue (list_all (λ e. well_formed ⟦<NoExtension as Ord>⟧.cmp e.1) m.entries)) }
+{
+    let mut values = BTreeMap::new(alloc);
+    for (key, value) in pairs {
+        put(&mut values, key, value)?;
+    }
+    Ok(values)
 }
 
 // Puts a value to a key.
@@ -87,20 +123,4 @@ fn put<V: Drop>(map: &mut BTreeMap<RcStr, V>, key: RcStr, value: V) -> Result<()
 {
     map.insert(key, value)?;
     Ok(())
-}
-
-// The record of some values by their keys.
-pub(crate) fn record_of(
-    alloc: Global,
-    values: BTreeMap<RcStr, Value<NoExtension>>,
-) -> Result<Value<NoExtension>, AllocError>
-    ensures tree { IfOk result (λ v. bare_value v
-        ≡ RecordValue (pairs_of (meant_pairs bare_value values.entries))) }
-    ensures well_formed { IsTrue
-        (list_all (λ e. well_formed ⟦<NoExtension as Ord>⟧.cmp e.1) values.entries)
-        → IfOk result (λ v. IsTrue (well_formed ⟦<NoExtension as Ord>⟧.cmp v)) }
-{
-    values_by_kind::<NoExtension>();
-    let pairs = Rc::new(alloc, values)?;
-    Ok(Value::record_arc(pairs, None))
 }

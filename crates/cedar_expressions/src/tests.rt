@@ -1,4 +1,4 @@
-// Each item of the layers is reached here by the name that it has in Cedar, and each law by its own.
+//! Each item of the layers is reached here by the name that it has in Cedar, and each law by its own.
 use crate::ast::AllDefs;
 use crate::ast::AnyId;
 use crate::ast::BinaryExtensionFunctionObject;

@@ -9,6 +9,7 @@ pub mod Derived
 pub mod KeyOrder
 pub mod Walks
 pub mod BareWalks
+pub mod DataTrees
 pub mod NotRestrictedLemmas
 pub mod RecordKeys
 pub mod Running

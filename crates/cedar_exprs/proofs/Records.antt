@@ -11,10 +11,9 @@ use Rattle.std.specs.declared.rc.Rc.{Rc}
 use Rattle.std.specs.declared.rc.RcStr.{RcStr}
 use Rattle.cedar_builders.specs.BareExpr.{BareExpr, Record, field, fields_of}
 use Rattle.cedar_exprs.specs.BareExpr.{ExprKind, bare_expr, bare_expr_kind, node_step, bare_fields, kind_of}
-use Rattle.cedar_exprs.specs.ExprData.{data_tree, values_data, values_of, holds, child}
 use Rattle.cedar_builders.specs.Keys.{keyed, in_key_order, meant_pairs}
-use Rattle.cedar_exprs.specs.RecordPairs.{record_fields, record_data}
-use Rattle.cedar_exprs.specs.BuiltNode.{builder_data, IsMadeBy}
+use Rattle.cedar_exprs.specs.RecordPairs.{record_fields, record_values}
+use Rattle.cedar_exprs.specs.BuiltNode.{IsMadeBy}
 use Rattle.cedar_exprs.specs.declared.builder.ExprBuilder.{ExprBuilder}
 use Rattle.cedar_exprs.specs.declared.expr.Expr.{Expr, fold_out-Expr}
 use Rattle.cedar_exprs.specs.declared.expr.KindOf.TheVariants.{Record as RecordOf}
@@ -48,24 +47,25 @@ below_later first (x ∷ es) e more h = below_later first es e more h.1
 pub above_first : {T : Type 0} (first : Entry T) (es : List (Entry T)) (e : Entry T) (more : List (Entry T)) → AllByRecursion (λ y. text_cmp first.0 y ≡ Less) (keys_of (es ++ e ∷ more)) → text_cmp e.0 first.0 ≡ Greater
 above_first first es e more h = nat_list_cmp_total.antisymm (rc_str_bytes e.0) (rc_str_bytes first.0) ∙ ap ordering_reverse (below_later first es e more h)
 
--- the fields and the data of a map, by its pairs with their keys as texts
+-- the fields and the values of a map, by its pairs with their keys as texts
 pub fields-keyed : {T : Type 0} (es : List (Entry T)) → bare_fields es ≡ fields_of (map (λ p. (p.0, bare_expr p.1)) (keyed es))
 fields-keyed [] = refl
 fields-keyed (e ∷ es) = ap (field (rc_str_bytes e.0) (bare_expr e.1)) (fields-keyed es)
 
-pub values-keyed : {T : Type 0} (es : List (Entry T)) → values_data es ≡ values_of (map (λ p. (p.0, data_tree p.1)) (keyed es))
+values-keyed : {T : Type 0} (es : List (Entry T)) → map (λ p. p.1) es ≡ map (λ p. p.1) (keyed es)
 values-keyed [] = refl
-values-keyed (e ∷ es) = ap (child (data_tree e.1)) (values-keyed es)
+values-keyed (e ∷ es) = ap (λ vs. e.1 ∷ vs) (values-keyed es)
 
 -- the record of a map that was made of pairs
 pub made_of_pairs : {T : Type 0} (b : ExprBuilder T) (m n : BTreeMap (RcStr Global) (Expr T)) (ps : List (Entry T)) (e : Expr T) → n ≡ m → keyed m.entries ≡ in_key_order (keyed ps)
-    → IsMadeBy b (Record (bare_fields n.entries)) (values_data n.entries) e → IsMadeBy b (Record (record_fields ps)) (record_data ps) e
+    → IsMadeBy b (Record (bare_fields n.entries)) (map (λ p. p.1) n.entries) e → IsMadeBy b (Record (record_fields ps)) (record_values ps) e
 made_of_pairs {T} b m n ps e same made node =
     let entries : keyed n.entries ≡ in_key_order (keyed ps) = ap (λ (q : BTreeMap (RcStr Global) (Expr T)). keyed q.entries) same ∙ made in
     record {
       tree = node.tree ∙ ap Record (fields-keyed n.entries ∙ ap (λ qs. fields_of (map (λ p. (p.0, bare_expr p.1)) qs)) entries);
       place = node.place;
-      «data» = node.«data» ∙ ap (holds (builder_data b)) (values-keyed n.entries ∙ ap (λ qs. values_of (map (λ p. (p.0, data_tree p.1)) qs)) entries);
+      «data» = node.«data»;
+      over = node.over ∙ (values-keyed n.entries ∙ ap (map (λ p. p.1)) entries);
     }
 
 meant-keyed : {T : Type 0} (ps : List (Entry T)) → map (λ p. (p.0, bare_expr p.1)) (keyed ps) ≡ meant_pairs bare_expr ps

@@ -1,9 +1,8 @@
 -- The data at each position of an expression, in the shape of the tree.
-use Rattle.std.specs.Prelude.{Bool, IsTrue, ⊤, List, [], ◌∷◌, map, Option, Some, None}
+use Rattle.std.specs.Prelude.{Bool, IsTrue, ⊤, List, [], ◌∷◌, map}
 use Rattle.std.specs.Global.{Global}
 use Rattle.std.specs.declared.rc.RcStr.{RcStr}
-use Rattle.cedar_builders.specs.Trees.{bool_of}
-use Rattle.cedar_exprs.specs.BareExpr.{ExprKind, bare_expr, map_kind}
+use Rattle.cedar_exprs.specs.BareExpr.{ExprKind, map_kind}
 use Rattle.cedar_exprs.specs.declared.expr.Expr.{Expr, Expr-F, fold-Expr}
 use Rattle.cedar_exprs.specs.declared.expr.KindOf.{KindOf}
 
@@ -65,25 +64,6 @@ data_tree {T} = fold-Expr T (DataTree T) data_tree_step
 -- the data of the children of a kind
 abbrev pub kind_data : {T : Type 0} → ExprKind T → DataTrees T
 kind_data k = kind_data_step (map_kind data_tree k)
-
--- the data of one, two or three children
-abbrev pub one_child : {T : Type 0} → Expr T → DataTrees T
-one_child a = child (data_tree a) no_data
-
-abbrev pub two_children : {T : Type 0} → Expr T → Expr T → DataTrees T
-two_children a b = child (data_tree a) (one_child b)
-
-abbrev pub three_children : {T : Type 0} → Expr T → Expr T → Expr T → DataTrees T
-three_children a b c = child (data_tree a) (two_children b c)
-
-abbrev pub unless_folded : {T : Type 0} → Option Bool → Option Bool → DataTrees T → DataTrees T
-unless_folded (Some a) (Some b) ds = no_data
-unless_folded (Some a) None ds = ds
-unless_folded None b ds = ds
-
--- the data of the children of what `and` and `or` make: none where two Boolean literals become one
-abbrev pub of_connective : {T : Type 0} → Expr T → Expr T → DataTrees T
-of_connective a b = unless_folded (bool_of (bare_expr a)) (bool_of (bare_expr b)) (two_children a b)
 
 -- the data of a list of expressions, and of the values of a map
 abbrev pub data_trees : {T : Type 0} → List (Expr T) → DataTrees T

@@ -1,7 +1,8 @@
 -- What the walks over an expression still give, and which of its positions are slots and unknowns.
-use Rattle.std.specs.Prelude.{List, Option, Some, None}
+use Rattle.std.specs.Prelude.{ℕ, List, Option, Some, None}
 use Rattle.std.specs.List.{filter_map}
 use Rattle.std.specs.Option.{option_copied}
+use Rattle.std.specs.Vec.{vec_capacity}
 use Rattle.cedar_names.specs.Place.{Place}
 use Rattle.cedar_names.specs.declared.slot.SlotId.{SlotId}
 use Rattle.cedar_terms.specs.declared.unknown.Unknown.{Unknown}
@@ -34,6 +35,10 @@ slot_of e = slot_of_kind (expr_place e) (kind_of e)
 -- what a reference to a slot shows
 abbrev pub slot_at : SlotRef → SlotId × Option Place
 slot_at r = (r.id, option_copied r.loc)
+
+-- how many entries are reserved for the stack of a walk
+abbrev pub reserved : {T : Type 0} → ExprIterator T → ℕ
+reserved w = vec_capacity w.stack
 
 -- what is still given
 abbrev pub positions_left : {T : Type 0} → ExprIterator T → List (Expr T)

@@ -11,6 +11,7 @@ pub mod NotRestricted
 pub mod RestrictedExprs
 pub mod Refusals
 pub mod TypedAnswers
+pub mod TypedFaults
 pub mod Iterators
 pub mod ShapeOnly
 pub mod Waiting

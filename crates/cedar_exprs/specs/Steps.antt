@@ -6,12 +6,12 @@ use Rattle.std.specs.declared.rc.RcStr.{RcStr}
 use Rattle.cedar_builders.specs.Count.{count}
 use Rattle.cedar_exprs.specs.BareExpr.{ExprKind, bare_expr, bare_expr_kind}
 use Rattle.cedar_exprs.specs.declared.expr.Expr.{Expr}
-use Rattle.cedar_exprs.specs.declared.expr.Below.{Below}
-use Rattle.cedar_exprs.specs.declared.expr.Item.{Item}
+use Rattle.cedar_exprs.specs.declared.dropping.Below.{Below}
+use Rattle.cedar_exprs.specs.declared.dropping.Item.{Item}
 use Rattle.cedar_exprs.specs.declared.expr.KindOf.{KindOf}
-use Rattle.cedar_exprs.specs.declared.expr.Left.{Left}
-use Rattle.cedar_exprs.specs.declared.expr.Step.{Step}
-use Rattle.cedar_exprs.specs.declared.expr.Step.TheVariants.{Into, On, Watched, Row, Fields, End}
+use Rattle.cedar_exprs.specs.declared.dropping.Left.{Left}
+use Rattle.cedar_exprs.specs.declared.dropping.Step.{Step}
+use Rattle.cedar_exprs.specs.declared.dropping.Step.TheVariants.{Into, On, Watched, Row, Fields, End}
 
 -- the nodes of an expression, of a kind, of a node and a row that may wait, of the members of a row, of the values of a record
 abbrev pub nodes : {T : Type 0} → Expr T → ℕ

@@ -11,12 +11,11 @@ ghost use Rattle.cedar_builders.specs.Keys.{keys_of, are_distinct, meant_pairs, 
 ghost use Rattle.cedar_builders.specs.Errors.{key_of, context_of, OnDuplicateKey};
 ghost use Rattle.cedar_builders.specs.declared.expression_construction_errors.ExpressionConstructionError.TheVariants as error;
 ghost use Rattle.cedar_builders.specs.Trees.{tree_ops};
-ghost use Rattle.cedar_exprs.specs.BareExpr.{bare_expr, bare_expr_kind, bare_exprs, bare_fields, expr_place, further, unknown_tree};
-ghost use Rattle.cedar_exprs.specs.ExprData.{kind_data, data_trees, values_data, no_data, one_child, two_children, three_children, of_connective};
-ghost use Rattle.cedar_exprs.specs.RecordPairs.{record_fields, record_data};
+ghost use Rattle.cedar_exprs.specs.BareExpr.{bare_expr, bare_expr_kind, bare_exprs, bare_fields, expr_place, further, kind_of, unknown_tree};
+ghost use Rattle.cedar_exprs.specs.RecordPairs.{record_fields, record_values};
 ghost use Rattle.cedar_builders.specs.Answers.{never, IfBuilt};
-ghost use Rattle.cedar_exprs.specs.Walks.{children, kind_children};
-ghost use Rattle.cedar_exprs.specs.BuiltNode.{builder_place, builder_data, IsMadeBy};
+ghost use Rattle.cedar_exprs.specs.Walks.{kind_children};
+ghost use Rattle.cedar_exprs.specs.BuiltNode.{builder_place, builder_data, of_connective, IsMadeBy};
 
 use crate::expr::{Expr, ExprKind};
 use cedar_builders::keys::collect_distinct;
@@ -73,15 +72,15 @@ impl<T: Default + Copy> ExprBuilder<T> {
 
     /// The node of this kind, as it stands: nothing is simplified.
     pub fn with_expr_kind(self, expr_kind: ExprKind<T>) -> Expr<T>
-        ensures node { IsMadeBy self (bare_expr_kind expr_kind) (kind_data expr_kind) result }
-        ensures over { children result ≡ kind_children expr_kind }
+        ensures node { IsMadeBy self (bare_expr_kind expr_kind) (kind_children expr_kind) result }
+        ensures kind { kind_of result ≡ expr_kind }
     {
         Expr::new(expr_kind, self.source_loc, self.data)
     }
 
     // The literal of a Boolean.
     fn bool_literal(self, value: bool) -> Expr<T>
-        ensures { IsMadeBy self (Lit (BoolLit value)) no_data result }
+        ensures { IsMadeBy self (Lit (BoolLit value)) [] result }
     {
         self.with_expr_kind(ExprKind::Lit(Literal::Bool(value)))
     }
@@ -96,7 +95,7 @@ impl<T: Default + Copy> ExprBuilder<T> {
         ensures { IsMadeBy self
             (tree_ops.if_of (bare_expr test_expr.value) (bare_expr then_expr.value)
             (bare_expr else_expr.value))
-            (three_children test_expr.value then_expr.value else_expr.value) result }
+            (test_expr.value ∷ then_expr.value ∷ else_expr.value ∷ []) result }
     {
         self.with_expr_kind(ExprKind::If {
             test_expr,
@@ -130,7 +129,7 @@ impl<T: Default + Copy> ExprBuilder<T> {
     /// A record of a shared map.
     pub fn record_arc(self, values: Rc<BTreeMap<RcStr, Expr<T>>>) -> Expr<T>
         ensures { IsMadeBy self (Record (bare_fields values.value.entries))
-            (values_data values.value.entries) result }
+            (map (λ e. e.1) values.value.entries) result }
     {
         self.with_expr_kind(ExprKind::Record(values))
     }
@@ -160,11 +159,10 @@ impl<T: Default + Copy> expr_builder::ExprBuilder for ExprBuilder<T> {
     ghost kept_place = { λ place. place };
 
     ghost makes_unary = { λ b op arg e.
-        IsMadeBy b (tree_ops.unary_of op (bare_expr arg)) (one_child arg) e
-        × (children e ≡ arg ∷ []) };
+        IsMadeBy b (tree_ops.unary_of op (bare_expr arg)) (arg ∷ []) e };
 
-    ghost makes_binary = { λ b op arg1 arg2 e. IsMadeBy b (tree_ops.binary_of op (bare_expr arg1) (bare_expr arg2))
-        (two_children arg1 arg2) e };
+    ghost makes_binary = { λ b op arg1 arg2 e.
+        IsMadeBy b (tree_ops.binary_of op (bare_expr arg1) (bare_expr arg2)) (arg1 ∷ arg2 ∷ []) e };
 
     fn new() -> ExprBuilder<T>
         ensures place { builder_place result ≡ None }
@@ -209,25 +207,25 @@ impl<T: Default + Copy> expr_builder::ExprBuilder for ExprBuilder<T> {
     }
 
     fn val(self, _alloc: Global, literal: Literal) -> Result<Expr<T>, AllocError>
-        ensures { IfOk result (IsMadeBy self (tree_ops.lit_of (bare_literal literal)) no_data) }
+        ensures { IfOk result (IsMadeBy self (tree_ops.lit_of (bare_literal literal)) []) }
     {
         Ok(self.with_expr_kind(ExprKind::Lit(literal)))
     }
 
     fn var(self, _alloc: Global, var: Var) -> Result<Expr<T>, AllocError>
-        ensures { IfOk result (IsMadeBy self (tree_ops.var_of var) no_data) }
+        ensures { IfOk result (IsMadeBy self (tree_ops.var_of var) []) }
     {
         Ok(self.with_expr_kind(ExprKind::Var(var)))
     }
 
     fn slot(self, _alloc: Global, slot: SlotId) -> Result<Expr<T>, AllocError>
-        ensures { IfOk result (IsMadeBy self (tree_ops.slot_of slot) no_data) }
+        ensures { IfOk result (IsMadeBy self (tree_ops.slot_of slot) []) }
     {
         Ok(self.with_expr_kind(ExprKind::Slot(slot)))
     }
 
     fn unknown(self, _alloc: Global, unknown: Unknown) -> Result<Expr<T>, AllocError>
-        ensures { IfOk result (IsMadeBy self (unknown_tree (bare_unknown unknown)) no_data) }
+        ensures { IfOk result (IsMadeBy self (unknown_tree (bare_unknown unknown)) []) }
     {
         Ok(self.with_expr_kind(ExprKind::Unknown(unknown)))
     }
@@ -243,7 +241,7 @@ impl<T: Default + Copy> expr_builder::ExprBuilder for ExprBuilder<T> {
             (IsMadeBy self
             (tree_ops.if_of (bare_expr test_expr) (bare_expr then_expr)
             (bare_expr else_expr))
-            (three_children test_expr then_expr else_expr)) }
+            (test_expr ∷ then_expr ∷ else_expr ∷ [])) }
     {
         Ok(self.ite_arc(
             Rc::new(alloc, test_expr)?,
@@ -281,9 +279,8 @@ impl<T: Default + Copy> expr_builder::ExprBuilder for ExprBuilder<T> {
     }
 
     fn unary_app(self, alloc: Global, op: UnaryOp, arg: Expr<T>) -> Result<Expr<T>, AllocError>
-        ensures node { IfOk result
-            (IsMadeBy self (tree_ops.unary_of op (bare_expr arg)) (one_child arg)) }
-        ensures over { IfOk result (λ e. children e ≡ arg ∷ []) }
+        ensures { IfOk result
+            (IsMadeBy self (tree_ops.unary_of op (bare_expr arg)) (arg ∷ [])) }
     {
         Ok(self.with_expr_kind(ExprKind::UnaryApp {
             op,
@@ -300,7 +297,7 @@ impl<T: Default + Copy> expr_builder::ExprBuilder for ExprBuilder<T> {
     ) -> Result<Expr<T>, AllocError>
         ensures { IfOk result
             (IsMadeBy self (tree_ops.binary_of op (bare_expr arg1) (bare_expr arg2))
-            (two_children arg1 arg2)) }
+            (arg1 ∷ arg2 ∷ [])) }
     {
         Ok(self.with_expr_kind(ExprKind::BinaryApp {
             op,
@@ -317,7 +314,7 @@ impl<T: Default + Copy> expr_builder::ExprBuilder for ExprBuilder<T> {
     ) -> Result<Expr<T>, BuildFault<Infallible>>
         ensures { IfBuilt result
             (IsMadeBy self (ExtensionFunctionApp (bare_name fn_name) (bare_exprs args.items))
-            (data_trees args.items)) }
+            args.items) }
     {
         Ok(self.with_expr_kind(ExprKind::ExtensionFunctionApp {
             fn_name,
@@ -328,7 +325,7 @@ impl<T: Default + Copy> expr_builder::ExprBuilder for ExprBuilder<T> {
     fn get_attr(self, alloc: Global, expr: Expr<T>, attr: RcStr) -> Result<Expr<T>, AllocError>
         ensures { IfOk result
             (IsMadeBy self (tree_ops.get_of (bare_expr expr) (rc_str_bytes attr))
-            (one_child expr)) }
+            (expr ∷ [])) }
     {
         Ok(self.with_expr_kind(ExprKind::GetAttr {
             expr: Rc::new(alloc, expr)?,
@@ -345,7 +342,7 @@ impl<T: Default + Copy> expr_builder::ExprBuilder for ExprBuilder<T> {
         ensures { IfOk result
             (IsMadeBy self
             (tree_ops.has_of (bare_expr expr) (rc_str_bytes attrs.head) (further attrs))
-            (one_child expr)) }
+            (expr ∷ [])) }
     {
         Ok(self.with_expr_kind(ExprKind::HasAttr {
             expr: Rc::new(alloc, expr)?,
@@ -356,14 +353,14 @@ impl<T: Default + Copy> expr_builder::ExprBuilder for ExprBuilder<T> {
     fn has_attr(self, alloc: Global, expr: Expr<T>, attr: RcStr) -> Result<Expr<T>, AllocError>
         ensures { IfOk result
             (IsMadeBy self (tree_ops.has_of (bare_expr expr) (rc_str_bytes attr) [])
-            (one_child expr)) }
+            (expr ∷ [])) }
     {
         self.extended_has_attr(alloc, expr, NonEmpty::new(attr, Vec::new(alloc)))
     }
 
     fn like(self, alloc: Global, expr: Expr<T>, pattern: Pattern) -> Result<Expr<T>, AllocError>
         ensures { IfOk result
-            (IsMadeBy self (tree_ops.like_of (bare_expr expr) pattern) (one_child expr)) }
+            (IsMadeBy self (tree_ops.like_of (bare_expr expr) pattern) (expr ∷ [])) }
     {
         Ok(self.with_expr_kind(ExprKind::Like {
             expr: Rc::new(alloc, expr)?,
@@ -379,7 +376,7 @@ impl<T: Default + Copy> expr_builder::ExprBuilder for ExprBuilder<T> {
     ) -> Result<Expr<T>, AllocError>
         ensures { IfOk result
             (IsMadeBy self (tree_ops.is_of (bare_expr expr) (bare_entity_type entity_type))
-            (one_child expr)) }
+            (expr ∷ [])) }
     {
         Ok(self.with_expr_kind(ExprKind::Is {
             expr: Rc::new(alloc, expr)?,
@@ -389,7 +386,7 @@ impl<T: Default + Copy> expr_builder::ExprBuilder for ExprBuilder<T> {
 
     fn set(self, alloc: Global, members: Vec<Expr<T>>) -> Result<Expr<T>, AllocError>
         ensures { IfOk result
-            (IsMadeBy self (Set (bare_exprs members.items)) (data_trees members.items)) }
+            (IsMadeBy self (Set (bare_exprs members.items)) members.items) }
     {
         Ok(self.with_expr_kind(ExprKind::Set(Rc::new(alloc, members)?)))
     }
@@ -400,7 +397,7 @@ impl<T: Default + Copy> expr_builder::ExprBuilder for ExprBuilder<T> {
         pairs: Vec<(RcStr, Expr<T>)>,
     ) -> Result<Expr<T>, ExpressionConstructionError>
         ensures made { IfOk result
-            (IsMadeBy self (Record (record_fields pairs.items)) (record_data pairs.items)) }
+            (IsMadeBy self (Record (record_fields pairs.items)) (record_values pairs.items)) }
         ensures distinct { OnOk result (IsTrue (are_distinct (keys_of pairs.items))) }
         ensures refused { IfErr result (OnDuplicateKey
             (λ e. IsFirstRepeat (keys_of pairs.items) (key_of e))) }

@@ -1,4 +1,4 @@
-// The children of an expression.
+//! The children of an expression.
 ghost use Rattle.std.specs.Prelude.{◌≡◌, ◌++◌};
 ghost use Rattle.std.specs.Iterator.{YieldsFirstRef, YieldsLastRef, item_count};
 ghost use Rattle.cedar_builders.specs.RisingKeys.{NodeKeysRise};

@@ -1,6 +1,6 @@
 //! The constructors of expressions without data and places (`expr.rs`): what the builder makes that
 //! has neither.
-ghost use Rattle.std.specs.Prelude.{◌≡◌, None, map, [], ◌∷◌, IfOk, IfErr, OnOk, IsTrue, codes};
+ghost use Rattle.std.specs.Prelude.{◌≡◌, map, [], ◌∷◌, IfOk, IfErr, OnOk, IsTrue, codes};
 ghost use Rattle.std.specs.Rc.{rc_str_bytes};
 ghost use Rattle.cedar_names.specs.PlainNames.{bare_name};
 ghost use Rattle.cedar_terms.specs.Entities.{bare_entity_type};
@@ -10,10 +10,9 @@ ghost use Rattle.cedar_builders.specs.BareExpr.{ExtensionFunctionApp, Set, Recor
 ghost use Rattle.cedar_builders.specs.Keys.{keys_of, are_distinct, IsFirstRepeat};
 ghost use Rattle.cedar_builders.specs.Errors.{key_of, context_of, OnDuplicateKey};
 ghost use Rattle.cedar_builders.specs.Trees.{tree_ops};
-ghost use Rattle.cedar_exprs.specs.BareExpr.{bare_expr, bare_exprs, bare_fields, expr_place, further, unknown_tree};
-ghost use Rattle.cedar_exprs.specs.RecordPairs.{record_fields};
-ghost use Rattle.cedar_exprs.specs.BuiltNode.{IsPlain};
-ghost use Rattle.cedar_exprs.specs.Walks.{children};
+ghost use Rattle.cedar_exprs.specs.BareExpr.{bare_expr, bare_exprs, bare_fields, further, unknown_tree};
+ghost use Rattle.cedar_exprs.specs.RecordPairs.{record_fields, record_values};
+ghost use Rattle.cedar_exprs.specs.BuiltNode.{of_connective, IsPlain, IsPlainNegation};
 
 use crate::builder::ExprBuilder;
 use crate::expr::{Expr, ExprKind};
@@ -27,28 +26,28 @@ use std::rc::{Rc, RcStr};
 impl Expr<()> {
     /// A literal.
     pub fn val(literal: Literal) -> Expr<()>
-        ensures { IsPlain (tree_ops.lit_of (bare_literal literal)) result }
+        ensures { IsPlain (tree_ops.lit_of (bare_literal literal)) [] result }
     {
         ExprBuilder::new().with_expr_kind(ExprKind::Lit(literal))
     }
 
     /// A variable of the request.
     pub fn var(var: Var) -> Expr<()>
-        ensures { IsPlain (tree_ops.var_of var) result }
+        ensures { IsPlain (tree_ops.var_of var) [] result }
     {
         ExprBuilder::new().with_expr_kind(ExprKind::Var(var))
     }
 
     /// A slot of a template.
     pub fn slot(slot: SlotId) -> Expr<()>
-        ensures { IsPlain (tree_ops.slot_of slot) result }
+        ensures { IsPlain (tree_ops.slot_of slot) [] result }
     {
         ExprBuilder::new().with_expr_kind(ExprKind::Slot(slot))
     }
 
     /// A value that is not known yet.
     pub fn unknown(unknown: Unknown) -> Expr<()>
-        ensures { IsPlain (unknown_tree (bare_unknown unknown)) result }
+        ensures { IsPlain (unknown_tree (bare_unknown unknown)) [] result }
     {
         ExprBuilder::new().with_expr_kind(ExprKind::Unknown(unknown))
     }
@@ -62,8 +61,8 @@ impl Expr<()> {
     ) -> Result<Expr<()>, AllocError>
         ensures { IfOk result
             (IsPlain
-            (tree_ops.if_of (bare_expr test_expr) (bare_expr then_expr)
-            (bare_expr else_expr))) }
+            (tree_ops.if_of (bare_expr test_expr) (bare_expr then_expr) (bare_expr else_expr))
+            (test_expr ∷ then_expr ∷ else_expr ∷ [])) }
     {
         ExprBuilder::new().ite(alloc, test_expr, then_expr, else_expr)
     }
@@ -77,29 +76,32 @@ impl Expr<()> {
         ensures { IsPlain
             (tree_ops.if_of (bare_expr test_expr.value) (bare_expr then_expr.value)
             (bare_expr else_expr.value))
-            result }
+            (test_expr.value ∷ then_expr.value ∷ else_expr.value ∷ []) result }
     {
         ExprBuilder::new().ite_arc(test_expr, then_expr, else_expr)
     }
 
     /// `left && right`: of two Boolean literals their literal, else the node.
     pub fn and(alloc: Global, left: Expr<()>, right: Expr<()>) -> Result<Expr<()>, AllocError>
-        ensures { IfOk result (IsPlain (tree_ops.and_of (bare_expr left) (bare_expr right))) }
+        ensures { IfOk result
+            (IsPlain (tree_ops.and_of (bare_expr left) (bare_expr right))
+            (of_connective left right)) }
     {
         ExprBuilder::new().and(alloc, left, right)
     }
 
     /// `left || right`: of two Boolean literals their literal, else the node.
     pub fn or(alloc: Global, left: Expr<()>, right: Expr<()>) -> Result<Expr<()>, AllocError>
-        ensures { IfOk result (IsPlain (tree_ops.or_of (bare_expr left) (bare_expr right))) }
+        ensures { IfOk result
+            (IsPlain (tree_ops.or_of (bare_expr left) (bare_expr right))
+            (of_connective left right)) }
     {
         ExprBuilder::new().or(alloc, left, right)
     }
 
     /// An operator on one argument.
     pub fn unary_app(alloc: Global, op: UnaryOp, arg: Expr<()>) -> Result<Expr<()>, AllocError>
-        ensures node { IfOk result (IsPlain (tree_ops.unary_of op (bare_expr arg))) }
-        ensures over { IfOk result (λ e. children e ≡ arg ∷ []) }
+        ensures { IfOk result (IsPlain (tree_ops.unary_of op (bare_expr arg)) (arg ∷ [])) }
     {
         ExprBuilder::new().unary_app(alloc, op, arg)
     }
@@ -111,14 +113,16 @@ impl Expr<()> {
         arg1: Expr<()>,
         arg2: Expr<()>,
     ) -> Result<Expr<()>, AllocError>
-        ensures { IfOk result (IsPlain (tree_ops.binary_of op (bare_expr arg1) (bare_expr arg2))) }
+        ensures { IfOk result
+            (IsPlain (tree_ops.binary_of op (bare_expr arg1) (bare_expr arg2))
+            (arg1 ∷ arg2 ∷ [])) }
     {
         ExprBuilder::new().binary_app(alloc, op, arg1, arg2)
     }
 
     /// A set by its members, in this order; repeated ones are kept.
     pub fn set(alloc: Global, members: Vec<Expr<()>>) -> Result<Expr<()>, AllocError>
-        ensures { IfOk result (IsPlain (Set (bare_exprs members.items))) }
+        ensures { IfOk result (IsPlain (Set (bare_exprs members.items)) members.items) }
     {
         ExprBuilder::new().set(alloc, members)
     }
@@ -130,7 +134,8 @@ impl Expr<()> {
         args: Vec<Expr<()>>,
     ) -> Result<Expr<()>, AllocError>
         ensures { IfOk result
-            (IsPlain (ExtensionFunctionApp (bare_name fn_name) (bare_exprs args.items))) }
+            (IsPlain (ExtensionFunctionApp (bare_name fn_name) (bare_exprs args.items))
+            args.items) }
     {
         match ExprBuilder::new().call_extension_fn(alloc, fn_name, args) {
             Ok(call) => Ok(call),
@@ -141,14 +146,16 @@ impl Expr<()> {
 
     /// `expr.attr`: an attribute of an entity or a field of a record.
     pub fn get_attr(alloc: Global, expr: Expr<()>, attr: RcStr) -> Result<Expr<()>, AllocError>
-        ensures { IfOk result (IsPlain (tree_ops.get_of (bare_expr expr) (rc_str_bytes attr))) }
+        ensures { IfOk result
+            (IsPlain (tree_ops.get_of (bare_expr expr) (rc_str_bytes attr)) (expr ∷ [])) }
     {
         ExprBuilder::new().get_attr(alloc, expr, attr)
     }
 
     /// `expr has attr`: whether an entity has the attribute, or a record the field.
     pub fn has_attr(alloc: Global, expr: Expr<()>, attr: RcStr) -> Result<Expr<()>, AllocError>
-        ensures { IfOk result (IsPlain (tree_ops.has_of (bare_expr expr) (rc_str_bytes attr) [])) }
+        ensures { IfOk result
+            (IsPlain (tree_ops.has_of (bare_expr expr) (rc_str_bytes attr) []) (expr ∷ [])) }
     {
         ExprBuilder::new().has_attr(alloc, expr, attr)
     }
@@ -161,14 +168,15 @@ impl Expr<()> {
     ) -> Result<Expr<()>, AllocError>
         ensures { IfOk result
             (IsPlain
-            (tree_ops.has_of (bare_expr expr) (rc_str_bytes attrs.head) (further attrs))) }
+            (tree_ops.has_of (bare_expr expr) (rc_str_bytes attrs.head) (further attrs))
+            (expr ∷ [])) }
     {
         ExprBuilder::new().extended_has_attr(alloc, expr, attrs)
     }
 
     /// `expr like pattern`: whether the pattern matches the text.
     pub fn like(alloc: Global, expr: Expr<()>, pattern: Pattern) -> Result<Expr<()>, AllocError>
-        ensures { IfOk result (IsPlain (tree_ops.like_of (bare_expr expr) pattern)) }
+        ensures { IfOk result (IsPlain (tree_ops.like_of (bare_expr expr) pattern) (expr ∷ [])) }
     {
         ExprBuilder::new().like(alloc, expr, pattern)
     }
@@ -180,7 +188,8 @@ impl Expr<()> {
         entity_type: EntityType,
     ) -> Result<Expr<()>, AllocError>
         ensures { IfOk result
-            (IsPlain (tree_ops.is_of (bare_expr expr) (bare_entity_type entity_type))) }
+            (IsPlain (tree_ops.is_of (bare_expr expr) (bare_entity_type entity_type))
+            (expr ∷ [])) }
     {
         ExprBuilder::new().is_entity_type(alloc, expr, entity_type)
     }
@@ -200,7 +209,8 @@ impl Expr<()> {
         alloc: Global,
         pairs: Vec<(RcStr, Expr<()>)>,
     ) -> Result<Expr<()>, ExpressionConstructionError>
-        ensures made { IfOk result (IsPlain (Record (record_fields pairs.items))) }
+        ensures made { IfOk result
+            (IsPlain (Record (record_fields pairs.items)) (record_values pairs.items)) }
         ensures distinct { OnOk result (IsTrue (are_distinct (keys_of pairs.items))) }
         ensures refused { IfErr result (OnDuplicateKey
             (λ e. IsFirstRepeat (keys_of pairs.items) (key_of e))) }
@@ -212,29 +222,32 @@ impl Expr<()> {
 
     /// A record of a shared map.
     pub fn record_arc(values: Rc<BTreeMap<RcStr, Expr<()>>>) -> Expr<()>
-        ensures { IsPlain (Record (bare_fields values.value.entries)) result }
+        ensures { IsPlain (Record (bare_fields values.value.entries))
+            (map (λ e. e.1) values.value.entries) result }
     {
         ExprBuilder::new().record_arc(values)
     }
 
     /// `!arg`.
     pub fn not(alloc: Global, arg: Expr<()>) -> Result<Expr<()>, AllocError>
-        ensures node { IfOk result (IsPlain (tree_ops.unary_of UnaryOp.Not (bare_expr arg))) }
-        ensures over { IfOk result (λ e. children e ≡ arg ∷ []) }
+        ensures { IfOk result
+            (IsPlain (tree_ops.unary_of UnaryOp.Not (bare_expr arg)) (arg ∷ [])) }
     {
         Expr::unary_app(alloc, UnaryOp::Not, arg)
     }
 
     /// `-arg`.
     pub fn neg(alloc: Global, arg: Expr<()>) -> Result<Expr<()>, AllocError>
-        ensures { IfOk result (IsPlain (tree_ops.unary_of UnaryOp.Neg (bare_expr arg))) }
+        ensures { IfOk result
+            (IsPlain (tree_ops.unary_of UnaryOp.Neg (bare_expr arg)) (arg ∷ [])) }
     {
         Expr::unary_app(alloc, UnaryOp::Neg, arg)
     }
 
     /// `arg.isEmpty()`: whether the set has no member.
     pub fn is_empty(alloc: Global, arg: Expr<()>) -> Result<Expr<()>, AllocError>
-        ensures { IfOk result (IsPlain (tree_ops.unary_of UnaryOp.IsEmpty (bare_expr arg))) }
+        ensures { IfOk result
+            (IsPlain (tree_ops.unary_of UnaryOp.IsEmpty (bare_expr arg)) (arg ∷ [])) }
     {
         Expr::unary_app(alloc, UnaryOp::IsEmpty, arg)
     }
@@ -242,7 +255,8 @@ impl Expr<()> {
     /// `arg1 == arg2`.
     pub fn is_eq(alloc: Global, arg1: Expr<()>, arg2: Expr<()>) -> Result<Expr<()>, AllocError>
         ensures { IfOk result
-            (IsPlain (tree_ops.binary_of BinaryOp.Eq (bare_expr arg1) (bare_expr arg2))) }
+            (IsPlain (tree_ops.binary_of BinaryOp.Eq (bare_expr arg1) (bare_expr arg2))
+            (arg1 ∷ arg2 ∷ [])) }
     {
         Expr::binary_app(alloc, BinaryOp::Eq, arg1, arg2)
     }
@@ -250,7 +264,8 @@ impl Expr<()> {
     /// `arg1 < arg2`.
     pub fn less(alloc: Global, arg1: Expr<()>, arg2: Expr<()>) -> Result<Expr<()>, AllocError>
         ensures { IfOk result
-            (IsPlain (tree_ops.binary_of BinaryOp.Less (bare_expr arg1) (bare_expr arg2))) }
+            (IsPlain (tree_ops.binary_of BinaryOp.Less (bare_expr arg1) (bare_expr arg2))
+            (arg1 ∷ arg2 ∷ [])) }
     {
         Expr::binary_app(alloc, BinaryOp::Less, arg1, arg2)
     }
@@ -258,7 +273,8 @@ impl Expr<()> {
     /// `arg1 <= arg2`.
     pub fn lesseq(alloc: Global, arg1: Expr<()>, arg2: Expr<()>) -> Result<Expr<()>, AllocError>
         ensures { IfOk result
-            (IsPlain (tree_ops.binary_of BinaryOp.LessEq (bare_expr arg1) (bare_expr arg2))) }
+            (IsPlain (tree_ops.binary_of BinaryOp.LessEq (bare_expr arg1) (bare_expr arg2))
+            (arg1 ∷ arg2 ∷ [])) }
     {
         Expr::binary_app(alloc, BinaryOp::LessEq, arg1, arg2)
     }
@@ -266,7 +282,8 @@ impl Expr<()> {
     /// `arg1 + arg2`.
     pub fn add(alloc: Global, arg1: Expr<()>, arg2: Expr<()>) -> Result<Expr<()>, AllocError>
         ensures { IfOk result
-            (IsPlain (tree_ops.binary_of BinaryOp.Add (bare_expr arg1) (bare_expr arg2))) }
+            (IsPlain (tree_ops.binary_of BinaryOp.Add (bare_expr arg1) (bare_expr arg2))
+            (arg1 ∷ arg2 ∷ [])) }
     {
         Expr::binary_app(alloc, BinaryOp::Add, arg1, arg2)
     }
@@ -274,7 +291,8 @@ impl Expr<()> {
     /// `arg1 - arg2`.
     pub fn sub(alloc: Global, arg1: Expr<()>, arg2: Expr<()>) -> Result<Expr<()>, AllocError>
         ensures { IfOk result
-            (IsPlain (tree_ops.binary_of BinaryOp.Sub (bare_expr arg1) (bare_expr arg2))) }
+            (IsPlain (tree_ops.binary_of BinaryOp.Sub (bare_expr arg1) (bare_expr arg2))
+            (arg1 ∷ arg2 ∷ [])) }
     {
         Expr::binary_app(alloc, BinaryOp::Sub, arg1, arg2)
     }
@@ -282,7 +300,8 @@ impl Expr<()> {
     /// `arg1 * arg2`.
     pub fn mul(alloc: Global, arg1: Expr<()>, arg2: Expr<()>) -> Result<Expr<()>, AllocError>
         ensures { IfOk result
-            (IsPlain (tree_ops.binary_of BinaryOp.Mul (bare_expr arg1) (bare_expr arg2))) }
+            (IsPlain (tree_ops.binary_of BinaryOp.Mul (bare_expr arg1) (bare_expr arg2))
+            (arg1 ∷ arg2 ∷ [])) }
     {
         Expr::binary_app(alloc, BinaryOp::Mul, arg1, arg2)
     }
@@ -290,7 +309,8 @@ impl Expr<()> {
     /// `arg1 in arg2`: membership in the hierarchy.
     pub fn is_in(alloc: Global, arg1: Expr<()>, arg2: Expr<()>) -> Result<Expr<()>, AllocError>
         ensures { IfOk result
-            (IsPlain (tree_ops.binary_of BinaryOp.In (bare_expr arg1) (bare_expr arg2))) }
+            (IsPlain (tree_ops.binary_of BinaryOp.In (bare_expr arg1) (bare_expr arg2))
+            (arg1 ∷ arg2 ∷ [])) }
     {
         Expr::binary_app(alloc, BinaryOp::In, arg1, arg2)
     }
@@ -298,7 +318,8 @@ impl Expr<()> {
     /// `arg1.contains(arg2)`: whether the set has the member.
     pub fn contains(alloc: Global, arg1: Expr<()>, arg2: Expr<()>) -> Result<Expr<()>, AllocError>
         ensures { IfOk result
-            (IsPlain (tree_ops.binary_of BinaryOp.Contains (bare_expr arg1) (bare_expr arg2))) }
+            (IsPlain (tree_ops.binary_of BinaryOp.Contains (bare_expr arg1) (bare_expr arg2))
+            (arg1 ∷ arg2 ∷ [])) }
     {
         Expr::binary_app(alloc, BinaryOp::Contains, arg1, arg2)
     }
@@ -310,7 +331,8 @@ impl Expr<()> {
         arg2: Expr<()>,
     ) -> Result<Expr<()>, AllocError>
         ensures { IfOk result
-            (IsPlain (tree_ops.binary_of BinaryOp.ContainsAll (bare_expr arg1) (bare_expr arg2))) }
+            (IsPlain (tree_ops.binary_of BinaryOp.ContainsAll (bare_expr arg1) (bare_expr arg2))
+            (arg1 ∷ arg2 ∷ [])) }
     {
         Expr::binary_app(alloc, BinaryOp::ContainsAll, arg1, arg2)
     }
@@ -322,7 +344,8 @@ impl Expr<()> {
         arg2: Expr<()>,
     ) -> Result<Expr<()>, AllocError>
         ensures { IfOk result
-            (IsPlain (tree_ops.binary_of BinaryOp.ContainsAny (bare_expr arg1) (bare_expr arg2))) }
+            (IsPlain (tree_ops.binary_of BinaryOp.ContainsAny (bare_expr arg1) (bare_expr arg2))
+            (arg1 ∷ arg2 ∷ [])) }
     {
         Expr::binary_app(alloc, BinaryOp::ContainsAny, arg1, arg2)
     }
@@ -330,7 +353,8 @@ impl Expr<()> {
     /// `arg1.getTag(arg2)`: the tag of an entity.
     pub fn get_tag(alloc: Global, arg1: Expr<()>, arg2: Expr<()>) -> Result<Expr<()>, AllocError>
         ensures { IfOk result
-            (IsPlain (tree_ops.binary_of BinaryOp.GetTag (bare_expr arg1) (bare_expr arg2))) }
+            (IsPlain (tree_ops.binary_of BinaryOp.GetTag (bare_expr arg1) (bare_expr arg2))
+            (arg1 ∷ arg2 ∷ [])) }
     {
         Expr::binary_app(alloc, BinaryOp::GetTag, arg1, arg2)
     }
@@ -338,40 +362,35 @@ impl Expr<()> {
     /// `arg1.hasTag(arg2)`: whether an entity has the tag.
     pub fn has_tag(alloc: Global, arg1: Expr<()>, arg2: Expr<()>) -> Result<Expr<()>, AllocError>
         ensures { IfOk result
-            (IsPlain (tree_ops.binary_of BinaryOp.HasTag (bare_expr arg1) (bare_expr arg2))) }
+            (IsPlain (tree_ops.binary_of BinaryOp.HasTag (bare_expr arg1) (bare_expr arg2))
+            (arg1 ∷ arg2 ∷ [])) }
     {
         Expr::binary_app(alloc, BinaryOp::HasTag, arg1, arg2)
     }
 
     /// `!(arg1 == arg2)`: two nodes, both without a place.
     pub fn noteq(alloc: Global, arg1: Expr<()>, arg2: Expr<()>) -> Result<Expr<()>, AllocError>
-        ensures node { IfOk result
-            (IsPlain
-            (tree_ops.unary_of UnaryOp.Not
-            (tree_ops.binary_of BinaryOp.Eq (bare_expr arg1) (bare_expr arg2)))) }
-        ensures inner { IfOk result (λ e. map expr_place (children e) ≡ None ∷ []) }
+        ensures { IfOk result
+            (IsPlainNegation (tree_ops.binary_of BinaryOp.Eq (bare_expr arg1) (bare_expr arg2))
+            (arg1 ∷ arg2 ∷ [])) }
     {
         Expr::not(alloc, Expr::is_eq(alloc, arg1, arg2)?)
     }
 
     /// `!(arg1 <= arg2)`: two nodes, both without a place.
     pub fn greater(alloc: Global, arg1: Expr<()>, arg2: Expr<()>) -> Result<Expr<()>, AllocError>
-        ensures node { IfOk result
-            (IsPlain
-            (tree_ops.unary_of UnaryOp.Not
-            (tree_ops.binary_of BinaryOp.LessEq (bare_expr arg1) (bare_expr arg2)))) }
-        ensures inner { IfOk result (λ e. map expr_place (children e) ≡ None ∷ []) }
+        ensures { IfOk result
+            (IsPlainNegation (tree_ops.binary_of BinaryOp.LessEq (bare_expr arg1) (bare_expr arg2))
+            (arg1 ∷ arg2 ∷ [])) }
     {
         Expr::not(alloc, Expr::lesseq(alloc, arg1, arg2)?)
     }
 
     /// `!(arg1 < arg2)`: two nodes, both without a place.
     pub fn greatereq(alloc: Global, arg1: Expr<()>, arg2: Expr<()>) -> Result<Expr<()>, AllocError>
-        ensures node { IfOk result
-            (IsPlain
-            (tree_ops.unary_of UnaryOp.Not
-            (tree_ops.binary_of BinaryOp.Less (bare_expr arg1) (bare_expr arg2)))) }
-        ensures inner { IfOk result (λ e. map expr_place (children e) ≡ None ∷ []) }
+        ensures { IfOk result
+            (IsPlainNegation (tree_ops.binary_of BinaryOp.Less (bare_expr arg1) (bare_expr arg2))
+            (arg1 ∷ arg2 ∷ [])) }
     {
         Expr::not(alloc, Expr::less(alloc, arg1, arg2)?)
     }

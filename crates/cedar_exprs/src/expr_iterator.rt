@@ -17,7 +17,7 @@ use std::alloc::{AllocError, Global};
 /// The positions of an expression: itself, then those of its children, the last child first.
 ///
 /// A child that is shared comes once for each position.
-#[derive(Drop)]
+#[derive(Debug, Drop)]
 pub struct ExprIterator<'a, T = ()> {
     // What is still to be walked over, the next on top.
     stack: Vec<&'a Expr<T>>,
@@ -25,11 +25,12 @@ pub struct ExprIterator<'a, T = ()> {
 }
 
 impl<'a, T> ExprIterator<'a, T> {
-    ghost use Rattle.cedar_exprs.specs.Iterators.{positions_left};
+    ghost use Rattle.cedar_exprs.specs.Iterators.{positions_left, reserved};
 
     /// The walk over an expression. All the memory that it takes is taken here.
     pub fn new(alloc: Global, expr: &'a Expr<T>) -> Result<ExprIterator<'a, T>, AllocError>
         ensures gives { IfOk result (λ walk. positions_left walk ≡ positions expr.now) }
+        ensures reserves { IfOk result (λ walk. reserved walk ≡ need (bare_expr expr.now)) }
         ensures fits { OnOk result (need (bare_expr expr.now) < usize.MAX) }
     {
         let mut stack = Vec::with_capacity(alloc, entries(expr))?;
@@ -102,7 +103,7 @@ impl SlotRef<'_> {
 }
 
 /// The slots of an expression, in the order of its positions.
-#[derive(Drop)]
+#[derive(Debug, Drop)]
 pub struct Slots<'a, T = ()> {
     walk: ExprIterator<'a, T>,
 }
@@ -131,7 +132,7 @@ impl<'a, T> Iterator for Slots<'a, T> {
 }
 
 /// The unknowns of an expression, in the order of its positions.
-#[derive(Drop)]
+#[derive(Debug, Drop)]
 pub struct Unknowns<'a, T = ()> {
     walk: ExprIterator<'a, T>,
 }
@@ -157,12 +158,13 @@ impl<'a, T> Iterator for Unknowns<'a, T> {
 }
 
 impl<T> Expr<T> {
-    ghost use Rattle.cedar_exprs.specs.Iterators.{positions_left, slot_of, slots_left};
+    ghost use Rattle.cedar_exprs.specs.Iterators.{positions_left, reserved, slot_of, slots_left};
     ghost use Rattle.cedar_exprs.specs.Iterators.{unknown_of, unknowns_left};
 
     /// The expression, then the positions of its children, the last child first.
     pub fn subexpressions(&self, alloc: Global) -> Result<ExprIterator<'_, T>, AllocError>
         ensures gives { IfOk result (λ walk. positions_left walk ≡ positions self.now) }
+        ensures reserves { IfOk result (λ walk. reserved walk ≡ need (bare_expr self.now)) }
         ensures fits { OnOk result (need (bare_expr self.now) < usize.MAX) }
     {
         ExprIterator::new(alloc, self)

@@ -4,9 +4,9 @@
 ghost use Rattle.std.specs.Prelude.{◌≡◌, ◌↔◌, ◌∷◌, IsTrue, map};
 ghost use Rattle.cedar_builders.specs.RisingKeys.{KeysRise};
 ghost use Rattle.cedar_builders.specs.Walks as bare;
-ghost use Rattle.cedar_builders.specs.Walks.{forward};
-ghost use Rattle.cedar_exprs.specs.ExprData.{SameData, data_tree};
-ghost use Rattle.cedar_exprs.specs.BareExpr.{bare_expr};
+ghost use Rattle.cedar_builders.specs.Walks.{backward, forward};
+ghost use Rattle.cedar_exprs.specs.ExprData.{SameData, data_tree, data_trees, holds};
+ghost use Rattle.cedar_exprs.specs.BareExpr.{bare_expr, data_of};
 ghost use Rattle.cedar_exprs.specs.Walks.{children, positions, preorder};
 ghost use Rattle.cedar_exprs.specs.declared.expr.Expr.{Expr};
 
@@ -31,6 +31,17 @@ pub fn alike_expressions<T: Hash>()
     ensures { (a b : Expr _)
         → IsTrue (⟦<Expr<T> as PartialEq>⟧.eq a b)
         → ⟦<Expr<T> as Hash>⟧.hash_input a ≡ ⟦<Expr<T> as Hash>⟧.hash_input b }
+{}
+
+/// The data of an expression are its own, and below it those of its children, in field order.
+pub fn data_by_children<T>()
+    ensures { (e : Expr T) → data_tree e ≡ holds (data_of e) (data_trees (children e)) }
+{}
+
+/// The positions of an expression are the expression itself and then those of its children, the last
+/// child first.
+pub fn positions_by_children<T>()
+    ensures { (e : Expr T) → positions e ≡ e ∷ backward (map positions (children e)) }
 {}
 
 /// The bare trees of the positions of an expression are the positions of its bare tree.

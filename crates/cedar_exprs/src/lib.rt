@@ -6,6 +6,7 @@ mod builder;
 mod building;
 mod children;
 mod constructors;
+mod dropping;
 mod expr;
 mod expr_iterator;
 mod expr_shape_only;
@@ -26,9 +27,9 @@ mod validation;
 
 pub use builder::ExprBuilder;
 pub use cedar_builders::SubstitutionError;
+pub use cedar_validation::{CallStyle, ExprValidationError, FunctionTable};
 pub use expr::{Expr, ExprKind, KindOf};
 pub use expr_iterator::{ExprIterator, SlotRef, Slots, Unknowns};
 pub use expr_shape_only::ExprShapeOnly;
-pub use function_tables::{CallStyle, ExprValidationError, FunctionTable};
 pub use restricted_expr::{RestrictedExpr, RestrictedExprError, SubstituteValue};
 pub use typed_build::TypedBuildFault;

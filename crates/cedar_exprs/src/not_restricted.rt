@@ -1,4 +1,4 @@
-// The first node of a kind that no restricted expression has.
+//! The first node of a kind that no restricted expression has.
 ghost use Rattle.std.specs.Prelude.{◌≡◌};
 ghost use Rattle.std.specs.Option.{option_copied};
 ghost use Rattle.cedar_builders.specs.Restricted.{is_restricted_node};

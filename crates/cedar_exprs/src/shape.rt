@@ -1,4 +1,4 @@
-// The hash of what an expression is, whatever its places and data.
+//! The hash of what an expression is, whatever its places and data.
 ghost use Rattle.std.specs.Prelude.{◌≡◌, ◌++◌, fold};
 ghost use Rattle.std.specs.Hash as fed;
 ghost use Rattle.std.specs.Rc.{rc_str_bytes};

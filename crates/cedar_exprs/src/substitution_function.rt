@@ -1,4 +1,4 @@
-// Which values may be put where an unknown stands (`SubstitutionFunction` of Cedar's `expr.rs`).
+//! Which values may be put where an unknown stands (`SubstitutionFunction` of Cedar's `expr.rs`).
 ghost use Rattle.std.specs.Prelude.{None};
 ghost use Rattle.cedar_terms.specs.Types.{bare_type};
 ghost use Rattle.cedar_terms.specs.Unknowns.{bare_unknown};

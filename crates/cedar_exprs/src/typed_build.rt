@@ -12,11 +12,15 @@ use cedar_builders::{BuildFault, LawfulExprBuilder, SubstitutionError};
 use cedar_terms::Type;
 use std::alloc::Global;
 use std::collections::HashMap;
+use std::fmt;
 use std::rc::RcStr;
+use thiserror::Error;
 
 /// Why the substituted expression was not built: the types of a clash, the builder's own error, or
 /// want of memory.
-#[derive(Debug, Drop)]
+///
+/// Its text is that of the clash, of the builder's own error, or `no memory`.
+#[derive(Debug, Drop, Error)]
 pub enum TypedBuildFault<E> {
     /// The value of an unknown has another type than the unknown's annotation says.
     TypeError { expected: Type, actual: Type },
@@ -50,6 +54,25 @@ impl<E> From<BuildFault<E>> for TypedBuildFault<E> {
         match error {
             BuildFault::Build(error) => TypedBuildFault::Build(error),
             BuildFault::Memory => TypedBuildFault::Memory,
+        }
+    }
+}
+
+impl<E: fmt::Display> fmt::Display for TypedBuildFault<E> {
+    ghost use Rattle.cedar_exprs.specs.TypedFaults.{typed_fault_text};
+
+    ghost output = { typed_fault_text E.output };
+
+    fn fmt<W: fmt::Write>(&self, f: &mut fmt::Formatter<W>) -> fmt::Result {
+        match self {
+            TypedBuildFault::TypeError { expected, actual } => {
+                write!(
+                    f,
+                    "expected a value of type {expected}, got a value of type {actual}"
+                )
+            }
+            TypedBuildFault::Build(error) => fmt::Display::fmt(error, f),
+            TypedBuildFault::Memory => f.write_str("no memory"),
         }
     }
 }

@@ -3,14 +3,14 @@ ghost use Rattle.std.specs.Prelude.{◌≡◌, ◌+◌, ◌<◌, IfOk, OnOk};
 ghost use Rattle.std.specs.Option.{option_map};
 ghost use Rattle.cedar_terms.specs.Types.{bare_type};
 ghost use Rattle.cedar_builders.specs.Count.{count, total};
-ghost use Rattle.function_tables.specs.Branches.{branches_of, type_of_all};
-ghost use Rattle.function_tables.specs.TypeOfTree.{node_type, type_of_tree};
+ghost use Rattle.cedar_validation.specs.Branches.{branches_of, type_of_all};
+ghost use Rattle.cedar_validation.specs.TypeOfTree.{node_type, type_of_tree};
 ghost use Rattle.cedar_exprs.specs.BareExpr.{bare_expr};
 ghost use Rattle.cedar_exprs.specs.Waiting.{bare_waiting};
 
 use crate::expr::{Expr, ExprKind};
 use cedar_terms::{StaticallyTyped, Type};
-use function_tables::{FunctionTable, binary_type, common_type, type_of_call, unary_type};
+use cedar_validation::{FunctionTable, binary_type, common_type, type_of_call, unary_type};
 use std::alloc::{AllocError, Global};
 
 impl<T> Expr<T> {

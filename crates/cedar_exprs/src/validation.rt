@@ -1,11 +1,11 @@
 //! Validation of expressions that were not read from a text.
 ghost use Rattle.std.specs.Prelude.{◌≡◌, None, IfOk, IfErr, OnOk};
-ghost use Rattle.function_tables.specs.Faults.{fault_at, first_fault};
-ghost use Rattle.function_tables.specs.ValidationErrors.{IsErrorOf};
+ghost use Rattle.cedar_validation.specs.Faults.{fault_at, first_fault};
+ghost use Rattle.cedar_validation.specs.ValidationErrors.{IsErrorOf};
 ghost use Rattle.cedar_exprs.specs.BareExpr.{bare_expr};
 
 use crate::expr::{Expr, ExprKind};
-use function_tables::{ExprValidationError, FunctionTable, check_call, check_path};
+use cedar_validation::{ExprValidationError, FunctionTable, check_call, check_path};
 use std::alloc::Global;
 
 impl<T: Drop> Expr<T> {

@@ -1,4 +1,4 @@
-// Corpora with right and with wrong records, and with each kind of fault.
+//! Corpora with right and with wrong records, and with each kind of fault.
 use crate::comparison::compare;
 use std::io::Write;
 use std::process::Abort;

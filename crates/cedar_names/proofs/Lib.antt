@@ -2,3 +2,4 @@ pub mod Split
 pub mod LookUps
 pub mod SameReference
 pub mod Clones
+pub mod Qualified

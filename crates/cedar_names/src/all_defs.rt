@@ -1,4 +1,4 @@
-// Declared types.
+//! Declared types.
 ghost use Rattle.std.specs.Prelude.{◌≡◌};
 ghost use Rattle.cedar_names.specs.Names.{BareName};
 ghost use Rattle.cedar_names.specs.InternalNames.{bare_internal_name};

@@ -1,4 +1,4 @@
-// Errors of the readers.
+//! Errors of the readers.
 ghost use Rattle.std.specs.Prelude.{◌≡◌, IfOk};
 ghost use Rattle.cedar_names.specs.declared.err.ParseErrors.TheVariants.{Memory, Reserved};
 ghost use Rattle.cedar_names.specs.InternalNames.{bare_internal_name, internal_name_place};

@@ -1,4 +1,4 @@
-// Reading of texts in their normalized form.
+//! Reading of texts in their normalized form.
 ghost use Rattle.std.specs.Prelude.{◌≡◌, ℕ, List, IfOk, IfErr};
 ghost use Rattle.cedar_names.specs.declared.err.ReservedNameError.{ReservedNameError};
 ghost use Rattle.cedar_names.specs.Readers.{OnReadError};

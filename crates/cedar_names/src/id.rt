@@ -1,4 +1,4 @@
-// Identifiers.
+//! Identifiers.
 ghost use Rattle.std.specs.Prelude.{◌≡◌, IsTrue, IfOk, IfErr, MatchResult, Some, None, true, false, codes, List, ℕ, nat_eq, refl};
 ghost use Rattle.std.specs.List.{list_all};
 ghost use Rattle.std.specs.Rc.{rc_str_bytes};

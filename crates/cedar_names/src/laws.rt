@@ -1,5 +1,5 @@
-// Laws over the definitions alone, and what equality and order say of names.
-ghost use Rattle.std.specs.Prelude.{◌≡◌, ◌↔◌, ◌++◌, IsTrue};
+//! Laws over the definitions alone, and what equality and order say of names.
+ghost use Rattle.std.specs.Prelude.{◌≡◌, ◌≢◌, ◌↔◌, ◌++◌, [], IsTrue, Option, Some};
 ghost use Rattle.std.specs.Cmp.Lexicographic.{pointwise, slice_cmp, slice_partial_cmp};
 ghost use Rattle.std.specs.Hash as fed;
 ghost use Rattle.cedar_names.specs.declared.name.InternalName.{InternalName};
@@ -7,7 +7,7 @@ ghost use Rattle.cedar_names.specs.declared.plain_name.Name.{Name};
 ghost use Rattle.cedar_names.specs.declared.raw_name.RawName.{RawName};
 ghost use Rattle.cedar_names.specs.declared.raw_name.ConditionalName.{ConditionalName};
 ghost use Rattle.cedar_names.specs.declared.non_empty.NonEmpty.{NonEmpty};
-ghost use Rattle.cedar_names.specs.Names.{BareName, IsNameOfIds, name_text};
+ghost use Rattle.cedar_names.specs.Names.{BareName, IsNameOfIds, name_text, qualified};
 ghost use Rattle.cedar_names.specs.NameOrder.{name_cmp};
 ghost use Rattle.cedar_names.specs.InternalNames.{bare_internal_name};
 ghost use Rattle.cedar_names.specs.PlainNames.{bare_name};
@@ -23,6 +23,15 @@ use std::hash::Hash;
 /// No two names have one text.
 pub fn name_texts_differ()
     ensures { (m n : BareName) → IsNameOfIds m → IsNameOfIds n → name_text m ≡ name_text n → m ≡ n }
+{}
+
+/// A name with a namespace stays as it is, whatever namespace is given. So a name that was put
+/// within a namespace stays in it: to qualify it once more, by any namespace or none, changes
+/// nothing.
+pub fn qualified_twice()
+    ensures stays { (n : BareName) (ns : Option BareName) → n.path ≢ [] → qualified n ns ≡ n }
+    ensures twice { (n ns : BareName) (further : Option BareName) →
+        qualified (qualified n (Some ns)) further ≡ qualified n (Some ns) }
 {}
 
 /// Names are equal exactly where they are so without their places.

@@ -1,4 +1,4 @@
-// Identifiers and names, by their texts.
+//! Identifiers and names, by their texts.
 #![tactic(auto)]
 
 mod all_defs;

@@ -1,4 +1,4 @@
-// Places in a source text.
+//! Places in a source text.
 ghost use Rattle.std.specs.Prelude.{◌≡◌, refl, IfOk, IfErr, IsSome};
 ghost use Rattle.std.specs.Option.{option_copied};
 ghost use Rattle.std.specs.Rc.{rc_str_bytes};

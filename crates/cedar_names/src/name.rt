@@ -1,4 +1,4 @@
-// Names with namespaces.
+//! Names with namespaces.
 ghost use Rattle.std.specs.Prelude.{◌≡◌, ◌≢◌, ℕ, [], MatchResult, Some, None, refl, IfOk, IfErr, codes, false, IsTrue, ◌↔◌, ◌∷◌};
 ghost use Rattle.std.specs.List.{list_any};
 ghost use Rattle.std.specs.Option.{option_copied, option_map};

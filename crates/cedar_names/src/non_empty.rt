@@ -1,4 +1,4 @@
-// Lists of one item or more.
+//! Lists of one item or more.
 ghost use Rattle.std.specs.Prelude.{◌≡◌, map, IfOk};
 ghost use Rattle.std.specs.Rc.{rc_str_bytes};
 ghost use Rattle.std.specs.Iterator.{YieldsFirstRef, item_count};

@@ -1,4 +1,4 @@
-// Names without the component `__cedar`.
+//! Names without the component `__cedar`.
 ghost use Rattle.std.specs.Prelude.{◌≡◌, ◌≢◌, ◌↔◌, [], IfOk, IfErr, IsTrue, MatchResult, Some, None, true, false, codes};
 ghost use Rattle.std.specs.Option.{option_copied, option_map};
 ghost use Rattle.cedar_names.specs.Grammar.{is_id};

@@ -1,4 +1,4 @@
-// Names that are not yet qualified, and what they may stand for.
+//! Names that are not yet qualified, and what they may stand for.
 ghost use Rattle.std.specs.Prelude.{◌≡◌, ◌↔◌, [], ◌∷◌, All, IsTrue, IfOk, IfErr, MatchResult, None, Some, codes, false, map, position};
 ghost use Rattle.std.specs.Option.{option_copied, option_map};
 ghost use Rattle.cedar_names.specs.Grammar.{is_id};

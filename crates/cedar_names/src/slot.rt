@@ -1,4 +1,4 @@
-// Slots of templates.
+//! Slots of templates.
 ghost use Rattle.std.specs.Prelude.{◌≡◌, ◌↔◌, IsTrue, IfOk, Some};
 ghost use Rattle.cedar_names.specs.Slots.{slot_of, slot_text};
 

@@ -26,7 +26,7 @@ use Rattle.cedar_values.specs.Holders.{NoExtension}
 use Rattle.evaluations.specs.Outcomes.{Outcome}
 use Rattle.cedar_evaluator.specs.Texts.{outcome_text}
 use Rattle.cedar_script.specs.CommandWords.{texts_now}
-use Rattle.sketches.specs.SketchTexts.{sketch_ops}
+use Rattle.cedar_sketch.specs.SketchTexts.{sketch_ops}
 use Rattle.cedar_script.specs.Stack.{Stack, stack_of, bindings_of, environment, IsBoundToValueOf, Pushes, TopHas, ReplacesOne, ReplacesTwo, ReplacesThree, ReplacesMany}
 use Rattle.cedar_script.specs.declared.line.Command.{Command}
 use Rattle.cedar_script.specs.declared.line.Command.TheVariants.{Bool as Bool', Long, String, Var, Slot, Unknown, If, And, Or, RawAnd, RawOr, Unary, Binary, Call, Get, Has, ExtHas, Like, Is, Set, Record, Bind, Substitute, Typed, Show, Eval}

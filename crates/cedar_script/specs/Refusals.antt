@@ -10,7 +10,7 @@ use Rattle.cedar_builders.specs.declared.expr_builder.BuildFault.{BuildFault}
 use Rattle.cedar_builders.specs.declared.expr_builder.BuildFault.TheVariants as build
 use Rattle.cedar_builders.specs.declared.substitution_error.SubstitutionError.{SubstitutionError}
 use Rattle.cedar_builders.specs.declared.substitution_error.SubstitutionError.TheVariants as substitution
-use Rattle.value_trees.specs.Reading.{is_readable}
+use Rattle.cedar_value_trees.specs.Reading.{is_readable}
 use Rattle.cedar_values.specs.Holders.{NoExtension}
 use Rattle.cedar_values.specs.declared.not_value.NotValue.{NotValue as Unread}
 use Rattle.cedar_values.specs.declared.not_value.NotValue.TheVariants as unread

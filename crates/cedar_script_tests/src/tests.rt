@@ -1,4 +1,4 @@
-// Readers and writers that fail, scripts that are cut off, and bytes that are no text.
+//! Readers and writers that fail, scripts that are cut off, and bytes that are no text.
 use cedar_script::run;
 use std::fmt::Debug;
 use std::io::{self, ErrorKind, Read, Write};

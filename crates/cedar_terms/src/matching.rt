@@ -11,7 +11,7 @@ use std::marker::Model;
 /// How many turns a match took, which clauses see as that number.
 ///
 /// A turn is one passage through the matching loop.
-#[derive(Clone, Copy, Debug, PartialEq, Eq)]
+#[derive(Debug, Drop)]
 pub struct Turns {
     count: u128,
 }

@@ -8,18 +8,14 @@ use Rattle.std.proofs.Output.{writes_in_calls_append, writes_in_calls_single}
 use Rattle.std.proofs.Math.Seq.{take-nil, drop-nil, drop-cons}
 use Rattle.cedar_builders.specs.BareExpr.{Text}
 use Rattle.std.specs.Rc.{rc_str_bytes}
-use Rattle.std.specs.declared.rc.Rc.{Rc}
 use Rattle.std.specs.declared.rc.RcStr.{RcStr}
-use Rattle.value_trees.specs.BareValue.{SetValue, RecordValue, values_of}
-use Rattle.cedar_values.specs.BareValues.{bare_representable, bare_set, bare_value, bare_value_kind}
+use Rattle.cedar_value_trees.specs.BareValue.{SetValue, RecordValue, values_of}
+use Rattle.cedar_values.specs.BareValues.{bare_set, bare_value}
 use Rattle.cedar_values.specs.BoundedTexts.{bounded_text, elision, hidden, inside, key_text, member_texts, pair_texts, separated, separator, shown}
 use Rattle.cedar_values.specs.Conversions.{bare_pairs}
 use Rattle.cedar_values.specs.Sets.{members}
-use Rattle.cedar_values.specs.declared.extension_value.RepresentableExtensionValue.{RepresentableExtensionValue}
 use Rattle.cedar_values.specs.declared.set.Set as set_of
 use Rattle.cedar_values.specs.declared.value.Value.{Value}
-use Rattle.cedar_values.specs.declared.value.ValueKind.TheVariants as kinds
-use Rattle.cedar_values.proofs.Levels.{kind_tree, level}
 use Rattle.cedar_values.proofs.WellFormedSets.{set_values}
 
 -- what stands between an item and the one before it
@@ -111,9 +107,6 @@ module _ {W : Type 0} (took : W → List ℕ → W → Type 0) (w : W) (whole : 
 
 pub dropped : {A : Type 0} (xs : List A) (i : ℕ) (x : A) → i < length xs → x ≡ get_or xs i x → drop i xs ≡ x ∷ drop (i + 1) xs
 dropped xs i x lt is = drop-cons xs i x lt ∙ λ j. sym is j ∷ drop (sym (add-one i) j) xs
-
-pub extension_tree : {X : Type 0} (e : Rc (RepresentableExtensionValue X) Global) → bare_value_kind (kinds.ExtensionValue e) ≡ bare_representable e.value
-extension_tree e = kind_tree (kinds.ExtensionValue e) ∙ ap level (kinds.outs-ExtensionValue e)
 
 module _ {X : Type 0} (T : X → Text) (n : Option ℕ) where
   abbrev pub value_text : Value X → Text

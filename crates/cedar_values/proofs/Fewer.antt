@@ -11,7 +11,7 @@ use Rattle.std.specs.Ordering.{match_ordering}
 use Rattle.std.specs.Rc.{rc_with_value, rc_str_bytes}
 use Rattle.std.specs.declared.rc.Rc.{Rc}
 use Rattle.std.specs.declared.rc.RcStr.{RcStr}
-use Rattle.value_trees.specs.BareValue.{BareValue, LitValue, SetValue, RecordValue, ExtensionValue}
+use Rattle.cedar_value_trees.specs.BareValue.{BareValue, LitValue, SetValue, RecordValue, ExtensionValue}
 use Rattle.cedar_values.specs.BareValues.{bare_value, bare_value_kind, kind_of}
 use Rattle.cedar_values.specs.Counts.{nodes, kind_nodes, nodes_of, entry_nodes}
 use Rattle.cedar_values.specs.Sets.{members}

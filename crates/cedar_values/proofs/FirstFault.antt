@@ -13,7 +13,7 @@ use Rattle.cedar_exprs.specs.BareExpr.{ExprKind, bare_expr, expr_place, kind_of}
 use Rattle.cedar_exprs.specs.Walks.{kind_children, children, preorder}
 use Rattle.cedar_exprs.specs.declared.expr.Expr.{Expr}
 use Rattle.cedar_exprs.specs.declared.expr.KindOf.TheVariants.{Set, Record}
-use Rattle.value_trees.specs.Reading.{is_readable_node, is_readable}
+use Rattle.cedar_value_trees.specs.Reading.{is_readable_node, is_readable}
 use Rattle.cedar_values.specs.NotReadable.{is_not_readable, first_not_readable, first_not_readable_of, IsNotValueAt, IsAnswerWhere}
 use Rattle.cedar_values.specs.declared.not_value.NotValue.{NotValue}
 use Rattle.cedar_values.specs.declared.not_value.NotValue.TheVariants as error

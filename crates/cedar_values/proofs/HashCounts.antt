@@ -11,10 +11,10 @@ use Rattle.std.proofs.lemmas.Map.Made.{length-from_same_keys, length-le_from_is_
 use Rattle.cedar_terms.specs.LiteralOrder.{literal_eq, literal_eq_decides, literal_eq_equiv, literal_ties}
 use Rattle.cedar_terms.specs.Literals.{BareLiteral, bare_literal}
 use Rattle.cedar_terms.specs.declared.literal.Literal.{Literal}
-use Rattle.rising.specs.Images.{sorted_images}
-use Rattle.rising.specs.Rising.{and_right}
-use Rattle.value_trees.specs.BareValue.{BareValue, LitValue, SetValue, RecordValue, ExtensionValue}
-use Rattle.value_trees.specs.ValueOrder.{value_cmp}
+use Rattle.sorted_slices.specs.Images.{sorted_images}
+use Rattle.sorted_slices.specs.Rising.{and_right}
+use Rattle.cedar_value_trees.specs.BareValue.{BareValue, LitValue, SetValue, RecordValue, ExtensionValue}
+use Rattle.cedar_value_trees.specs.ValueOrder.{value_cmp}
 use Rattle.cedar_values.specs.BareValues.{bare_value}
 use Rattle.cedar_values.specs.HashForms.{are_alike, is_among, is_hash_form, is_literal_among, literals_in}
 use Rattle.cedar_values.specs.Places.{is_lit_value}

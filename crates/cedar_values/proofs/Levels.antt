@@ -9,9 +9,10 @@ use Rattle.cedar_names.specs.Place.{Place}
 use Rattle.cedar_terms.specs.Literals.{bare_literal}
 use Rattle.cedar_terms.specs.declared.literal.Literal.{Literal}
 use Rattle.cedar_builders.specs.Keys.{keyed}
-use Rattle.value_trees.specs.BareValue.{BareValue, BareValues, LitValue, SetValue, RecordValue, values_of, pairs_of}
-use Rattle.value_trees.specs.WellFormed.{is_well_formed, pairs_are_well_formed}
-use Rattle.cedar_values.specs.BareValues.{bare_value, bare_value_kind, bare_set, kind_step, set_step, value_step, kind_of, value_place}
+use Rattle.sorted_slices.specs.Rising.{and_left}
+use Rattle.cedar_value_trees.specs.BareValue.{BareValue, BareValues, LitValue, SetValue, RecordValue, values_of, pairs_of}
+use Rattle.cedar_value_trees.specs.WellFormed.{is_well_formed, pairs_are_well_formed}
+use Rattle.cedar_values.specs.BareValues.{bare_representable, bare_value, bare_value_kind, bare_set, kind_step, set_step, value_step, kind_of, value_place}
 use Rattle.cedar_values.specs.Places.{value_at, literal_value, unplaced}
 use Rattle.cedar_values.specs.Sets.{members}
 use Rattle.cedar_values.specs.WellFormed.{is_hashed, well_formed, kind_well_formed, set_well_formed}
@@ -35,6 +36,16 @@ module _ {X : Type 0} where
   pub kind_tree : (k : ValueKind X) → bare_value_kind k ≡ level (out-ValueKind X k)
   kind_tree k = fold_out-ValueKind X (BareValue X) (BareValues X) (BareValue X) kind_step set_step value_step k
 
+  -- the tree of a kind that is a literal, a set or an extension value
+  pub kind_of_literal : (l : Literal) → bare_value_kind {X = X} (Lit l) ≡ LitValue (bare_literal l)
+  kind_of_literal l = kind_tree (Lit l) ∙ ap level (outs-Lit l)
+
+  pub set_row : (s : set.Set X) → bare_value_kind (Set s) ≡ SetValue (bare_set s)
+  set_row s = kind_tree (Set s) ∙ ap level (outs-Set s)
+
+  pub extension_tree : (e : Rc (RepresentableExtensionValue X) Global) → bare_value_kind (ExtensionValue e) ≡ bare_representable e.value
+  extension_tree e = kind_tree (ExtensionValue e) ∙ ap level (outs-ExtensionValue e)
+
   -- a value is its kind at its place
   pub kind_at : (k : ValueKind X) (p : Option Place) → kind_of (value_at k p) ≡ k
   kind_at k p = ap (λ l. l.kind) (out-roll-Value X (record { kind = k; loc = p }))
@@ -46,10 +57,10 @@ module _ {X : Type 0} where
   unplaced_tree v = value_tree (unplaced v) ∙ ap bare_value_kind (kind_at (kind_of v) None) ∙ sym (value_tree v)
 
   pub literal_tree : (l : Literal) → bare_value (literal_value {X = X} l) ≡ LitValue (bare_literal l)
-  literal_tree l = value_tree (literal_value l) ∙ ap bare_value_kind (kind_at (Lit l) None) ∙ kind_tree (Lit l) ∙ ap level (outs-Lit l)
+  literal_tree l = value_tree (literal_value l) ∙ ap bare_value_kind (kind_at (Lit l) None) ∙ kind_of_literal l
 
   pub set_tree : (s : set.Set X) → bare_value_kind (Set s) ≡ SetValue (values_of (map bare_value (members s)))
-  set_tree s = kind_tree (Set s) ∙ ap level (outs-Set s) ∙ ap SetValue (set_values s)
+  set_tree s = set_row s ∙ ap SetValue (set_values s)
 
   pub record_tree : (m : Rc (BTreeMap (RcStr Global) (Value X)) Global) → bare_value_kind (Record m) ≡ RecordValue (pairs_of (keyed (map (λ (e : RcStr Global × Value X). (e.0, bare_value e.1)) m.value.entries)))
   record_tree m = kind_tree (Record m) ∙ ap level (outs-Record m)
@@ -65,6 +76,15 @@ module _ {X : Type 0} (R : X → X → Ordering) where
   pub value_kept : (v : Value X) → well_formed R v ≡ kind_well_formed R (kind_of v)
   unfolding well_formed kind_well_formed
   value_kept v = λ i. is_well_formed R (value_tree v i) && value_hash v i
+
+  -- a kind at a place is as well formed as the kind
+  pub placed_kept : (k : ValueKind X) (p : Option Place) → well_formed R (value_at k p) ≡ kind_well_formed R k
+  placed_kept k p = value_kept (value_at k p) ∙ ap (kind_well_formed R) (kind_at k p)
+
+  -- the tree of a well formed value is well formed
+  pub tree_kept : (v : Value X) → well_formed R v ≡ true → is_well_formed R (bare_value v) ≡ true
+  unfolding well_formed
+  tree_kept v = and_left (is_well_formed R (bare_value v)) (is_hashed v)
 
   -- a value is well formed where its kind is
   pub kept_by_kind : (v : Value X) (k : ValueKind X) → kind_of v ≡ k → kind_well_formed R k ≡ true → well_formed R v ≡ true
@@ -105,7 +125,7 @@ module _ {X : Type 0} (R : X → X → Ordering) where
   literals_kept (l ∷ ls) = λ i. kept_by_kind (literal_value l) (Lit l) (kind_at (Lit l) None) (literal_kept l) i && literals_kept ls i
 
   one_unplaced : (v : Value X) → well_formed R (unplaced v) ≡ well_formed R v
-  one_unplaced v = value_kept (unplaced v) ∙ ap (kind_well_formed R) (kind_at (kind_of v) None) ∙ sym (value_kept v)
+  one_unplaced v = placed_kept (kind_of v) None ∙ sym (value_kept v)
 
   pub unplaced_kept : (vs : List (Value X)) → list_all (well_formed R) (map unplaced vs) ≡ list_all (well_formed R) vs
   unplaced_kept [] = refl

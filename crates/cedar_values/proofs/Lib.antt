@@ -23,3 +23,5 @@ pub mod BoundedRests
 pub mod Displays
 pub mod Uids
 pub mod PartialEquality
+pub mod PlainParts
+pub mod RisingKeys

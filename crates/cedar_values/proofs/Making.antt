@@ -5,8 +5,8 @@ use Rattle.std.specs.List.{list_all}
 use Rattle.std.specs.Ordering.{is_eq}
 use Rattle.std.specs.declared.cmp.Ordering.{Ordering}
 use Rattle.cedar_terms.specs.Literals.{BareLiteral}
-use Rattle.rising.specs.Classes.{has_class, rises, HaveSameClasses, IsClassesOf}
-use Rattle.value_trees.specs.ValueOrder.{value_cmp}
+use Rattle.sorted_slices.specs.Classes.{has_class, rises, HaveSameClasses, IsClassesOf}
+use Rattle.cedar_value_trees.specs.ValueOrder.{value_cmp}
 use Rattle.cedar_values.specs.BareValues.{bare_value}
 use Rattle.cedar_values.specs.HashForms.{is_hash_form}
 use Rattle.cedar_values.specs.Places.{gathered, is_lit_value, unplaced}

@@ -14,7 +14,7 @@ use Rattle.std.specs.Option.{option_or}
 use Rattle.std.specs.Ordering.{eq_by_cmp, is_eq}
 use Rattle.std.specs.Rc.{rc_str_bytes}
 use Rattle.std.specs.declared.rc.RcStr.{RcStr}
-use Rattle.rising.specs.Rising.{and_left, and_right}
+use Rattle.sorted_slices.specs.Rising.{and_left, and_right}
 use Rattle.cedar_values.specs.Records.{is_key, key_cmp, last_value, IsLastOfEach}
 
 pub tied_keys : (k l : RcStr Global) → is_key k l ≡ eq_by_cmp key_cmp k l

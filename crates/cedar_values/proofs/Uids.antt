@@ -6,7 +6,7 @@ use Rattle.std.specs.declared.rc.RcStr.{RcStr}
 use Rattle.cedar_terms.specs.Entities.{BareEntityUID, bare_entity_uid}
 use Rattle.cedar_terms.specs.EntityOrder.{entity_uid_eq, entity_uid_eq_equiv}
 use Rattle.cedar_terms.specs.declared.entity.EntityUID.{EntityUID}
-use Rattle.value_trees.specs.BareValue.{SetValue, RecordValue, values_of}
+use Rattle.cedar_value_trees.specs.BareValue.{SetValue, RecordValue, values_of}
 use Rattle.cedar_values.specs.BareValues.{bare_set, bare_value}
 use Rattle.cedar_values.specs.Conversions.{bare_pairs}
 use Rattle.cedar_values.specs.LiteralUids.{Gains, UidSet, has_uid, is_uid_of, literal_uids, members_uids}

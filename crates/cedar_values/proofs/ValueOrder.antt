@@ -13,9 +13,9 @@ use Rattle.std.specs.contracts.cmp.Eq.TheBound as eq_bound
 use Rattle.std.specs.contracts.cmp.PartialEq.TheBound as partial_eq_bound
 use Rattle.std.specs.contracts.cmp.PartialOrd.TheBound as partial_ord_bound
 use Rattle.std.proofs.Common.{sym, None}
-use Rattle.value_trees.specs.BareValue.{SetValue}
-use Rattle.value_trees.specs.ValueOrder as trees
-use Rattle.cedar_values.proofs.Levels.{kind_at, kind_tree, level, value_tree}
+use Rattle.cedar_value_trees.specs.BareValue.{SetValue}
+use Rattle.cedar_value_trees.specs.ValueOrder as trees
+use Rattle.cedar_values.proofs.Levels.{kind_at, set_row, value_tree}
 use Rattle.cedar_values.proofs.Order.{layer_cmp, cmp_is_by_tree}
 use Rattle.cedar_values.specs.BareValues.{bare_value_kind, bare_set}
 use Rattle.cedar_values.specs.Places.{value_at}
@@ -97,15 +97,12 @@ module _ (T : RattleType) (O : ord.Ghosts T.Denot) (O' : Dict) (E : eq.Ghosts T.
       ∙ (λ i. value_order i (value_at a None) (value_at b None))
       ∙ λ i. trees.value_cmp O.cmp ((value_tree (value_at a None) ∙ ap bare_value_kind (kind_at a None)) i) ((value_tree (value_at b None) ∙ ap bare_value_kind (kind_at b None)) i)
 
-  set_tree : (s : set.Set T.Denot) → bare_value_kind (Set s) ≡ SetValue (bare_set s)
-  set_tree s = kind_tree (Set s) ∙ ap level (outs-Set s)
-
   -- and so do sets
   pub set_order : (a b : set.Set T.Denot) → set_cmp a b ≡ trees.values_cmp O.cmp (bare_set a) (bare_set b)
   set_order a b =
       sym (kind_laws.is T O O' E E' P P' Q Q' o e p q (Set a) (Set b) ∙ kinds (Set a) (Set b) ∙ λ i. layer_cmp O.cmp set_cmp value_cmp (outs-Set a i) (outs-Set b i))
       ∙ kind_order (Set a) (Set b)
-      ∙ λ i. trees.value_cmp O.cmp (set_tree a i) (set_tree b i)
+      ∙ λ i. trees.value_cmp O.cmp (set_row a i) (set_row b i)
 
   -- kinds are equal where their trees are the same, and so are sets
   pub kind_eq_is : (a b : ValueKind T.Denot) → (kind_eq.ghosts T P P').eq a b ≡ trees.value_eq P.eq (bare_value_kind a) (bare_value_kind b)

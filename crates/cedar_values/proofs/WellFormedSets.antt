@@ -5,12 +5,12 @@ use Rattle.std.specs.List.{list_all}
 use Rattle.std.specs.List.Sorted.{IsStrictlySortedBy}
 use Rattle.std.specs.declared.cmp.Ordering.{Ordering}
 use Rattle.cedar_terms.specs.Literals.{BareLiteral}
-use Rattle.rising.specs.Classes.{IsClassesOf, rises}
-use Rattle.rising.specs.Images.{rising_images}
-use Rattle.rising.specs.Rising.{and_left, and_right, sorted_of_rises, rises_of_sorted}
-use Rattle.value_trees.specs.BareValue.{BareValue, BareValues, SetValue, values_of, list_of_values}
-use Rattle.value_trees.specs.ValueOrder.{value_cmp}
-use Rattle.value_trees.specs.WellFormed.{is_well_formed, are_well_formed}
+use Rattle.sorted_slices.specs.Classes.{IsClassesOf, rises}
+use Rattle.sorted_slices.specs.Images.{rising_images}
+use Rattle.sorted_slices.specs.Rising.{and_left, and_right, sorted_of_rises, rises_of_sorted}
+use Rattle.cedar_value_trees.specs.BareValue.{BareValue, BareValues, SetValue, values_of, list_of_values}
+use Rattle.cedar_value_trees.specs.ValueOrder.{value_cmp}
+use Rattle.cedar_value_trees.specs.WellFormed.{is_well_formed, are_well_formed}
 use Rattle.cedar_values.specs.BareValues.{bare_value, bare_set, kind_step, set_step, value_step}
 use Rattle.cedar_values.specs.HashForms.{is_hash_form}
 use Rattle.cedar_values.specs.Sets.{by_tree, has_hash_form, hashed_literals, members}

@@ -15,8 +15,8 @@ use Rattle.cedar_builders.specs.Keys.{IsRising, keys_of, meant_pairs}
 use Rattle.cedar_builders.specs.Restricted.{IsRestricted, is_restricted}
 use Rattle.cedar_exprs.specs.BareExpr.{bare_expr, bare_fields}
 use Rattle.cedar_exprs.specs.declared.expr.Expr.{Expr}
-use Rattle.value_trees.specs.BareValue.{BareCall, values_of}
-use Rattle.value_trees.specs.ValueExpr.{value_expr, member_exprs, pair_exprs}
+use Rattle.cedar_value_trees.specs.BareValue.{BareCall, values_of}
+use Rattle.cedar_value_trees.specs.ValueExpr.{value_expr, member_exprs, pair_exprs}
 use Rattle.cedar_values.specs.BareValues.{bare_value, bare_value_kind}
 use Rattle.cedar_values.specs.Conversions.{bare_pairs}
 use Rattle.cedar_values.specs.Counts.{nodes, nodes_of, pair_nodes}

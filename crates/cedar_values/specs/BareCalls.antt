@@ -7,7 +7,7 @@ use Rattle.cedar_names.specs.declared.plain_name.Name.{Name}
 use Rattle.cedar_builders.specs.BareExpr.{trees_of}
 use Rattle.cedar_exprs.specs.RestrictedExprs.{bare_restricted_expr}
 use Rattle.cedar_exprs.specs.declared.restricted_expr.RestrictedExpr.{RestrictedExpr}
-use Rattle.value_trees.specs.BareValue.{BareCall}
+use Rattle.cedar_value_trees.specs.BareValue.{BareCall}
 
 -- a function and its arguments
 abbrev pub bare_call : Name × Vec RestrictedExpr Global → BareCall

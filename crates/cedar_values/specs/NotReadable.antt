@@ -5,7 +5,7 @@ use Rattle.cedar_builders.specs.Walks.{forward}
 use Rattle.cedar_exprs.specs.BareExpr.{bare_expr, expr_place}
 use Rattle.cedar_exprs.specs.Walks.{preorder}
 use Rattle.cedar_exprs.specs.declared.expr.Expr.{Expr}
-use Rattle.value_trees.specs.Reading.{is_readable_node}
+use Rattle.cedar_value_trees.specs.Reading.{is_readable_node}
 use Rattle.cedar_values.specs.declared.not_value.NotValue.{NotValue}
 use Rattle.cedar_values.specs.declared.not_value.NotValue.TheVariants as error
 

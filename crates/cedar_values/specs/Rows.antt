@@ -12,8 +12,8 @@ use Rattle.cedar_builders.specs.Keys.{IsRising, keys_of, meant_pairs}
 use Rattle.cedar_builders.specs.Restricted.{is_restricted}
 use Rattle.cedar_exprs.specs.BareExpr.{bare_expr, expr_place}
 use Rattle.cedar_exprs.specs.declared.expr.Expr.{Expr}
-use Rattle.value_trees.specs.BareValue.{BareCall}
-use Rattle.value_trees.specs.ValueExpr.{value_expr}
+use Rattle.cedar_value_trees.specs.BareValue.{BareCall}
+use Rattle.cedar_value_trees.specs.ValueExpr.{value_expr}
 use Rattle.cedar_values.specs.BareValues.{bare_value}
 use Rattle.cedar_values.specs.Conversions.{bare_pairs}
 use Rattle.cedar_values.specs.Counts.{nodes, nodes_of, pair_nodes}

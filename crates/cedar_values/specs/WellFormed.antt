@@ -3,8 +3,8 @@
 use Rattle.std.specs.Prelude.{Bool, true, ◌&&◌, map, option_map}
 use Rattle.std.specs.List.{list_all}
 use Rattle.std.specs.declared.cmp.Ordering.{Ordering}
-use Rattle.value_trees.specs.BareValue.{SetValue}
-use Rattle.value_trees.specs.WellFormed.{is_well_formed}
+use Rattle.cedar_value_trees.specs.BareValue.{SetValue}
+use Rattle.cedar_value_trees.specs.WellFormed.{is_well_formed}
 use Rattle.cedar_values.specs.BareValues.{bare_value, bare_value_kind, bare_set}
 use Rattle.cedar_values.specs.HashForms.{is_hash_form, literals_of}
 use Rattle.cedar_values.specs.declared.value.Value.{Value, para-Value}

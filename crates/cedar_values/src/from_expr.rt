@@ -2,7 +2,7 @@
 ghost use Rattle.std.specs.Prelude.{◌≡◌, IsTrue, IfOk, MatchResult, map};
 ghost use Rattle.std.specs.List.{list_all};
 ghost use Rattle.cedar_exprs.specs.BareExpr.{bare_expr, bare_exprs, bare_fields, expr_place, kind_of};
-ghost use Rattle.value_trees.specs.Reading.{IsValueOf, AreValuesOf, ArePairsOf, is_readable};
+ghost use Rattle.cedar_value_trees.specs.Reading.{IsValueOf, AreValuesOf, ArePairsOf, is_readable};
 ghost use Rattle.cedar_values.specs.BareValues.{bare_value, bare_value_kind, value_place};
 ghost use Rattle.cedar_values.specs.Conversions.{bare_pairs};
 ghost use Rattle.cedar_values.specs.NotReadable.{first_not_readable, first_not_readable_of, IsAnswerWhere, IsNotValueAt};
@@ -16,10 +16,10 @@ use crate::value::{Value, ValueKind};
 use cedar_exprs::laws::nodes_in_preorder;
 use cedar_exprs::{Expr, ExprKind};
 use cedar_names::Loc;
+use cedar_value_trees::laws::{reading_gives_one_value, values_are_ordered};
 use std::alloc::Global;
 use std::collections::BTreeMap;
 use std::rc::{Rc, RcStr};
-use value_trees::laws::{reading_gives_one_value, values_are_ordered};
 
 impl<X: ExtensionValue + Ord> Value<X> {
     /// The value of an expression of literals, sets and records.

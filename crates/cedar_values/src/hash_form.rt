@@ -1,7 +1,7 @@
-// The literals of a set by hash, which it keeps beside its members (`fast` of Cedar's `Set`).
+//! The literals of a set by hash, which it keeps beside its members (`fast` of Cedar's `Set`).
 ghost use Rattle.std.specs.Prelude.{◌≡◌, ◌∷◌, IsTrue, IfOk, OnOk, map, not, option_map};
 ghost use Rattle.std.specs.List.{IsDistinct, list_all};
-ghost use Rattle.rising.specs.Classes.{IsClassesOf};
+ghost use Rattle.sorted_slices.specs.Classes.{IsClassesOf};
 ghost use Rattle.cedar_terms.specs.LiteralOrder.{literal_eq};
 ghost use Rattle.cedar_terms.specs.Literals.{bare_literal};
 ghost use Rattle.cedar_values.specs.BareValues.{bare_value};
@@ -18,10 +18,10 @@ ghost use Rattle.cedar_values.specs.Sets.{HaveEachOf, by_tree};
 use crate::laws::order_of_values;
 use crate::value::{Value, are_literals};
 use cedar_terms::Literal;
+use cedar_value_trees::laws::values_are_ordered;
 use std::alloc::{AllocError, Global};
 use std::collections::HashSet;
 use std::rc::Rc;
-use value_trees::laws::values_are_ordered;
 
 // Room is made at first for so many literals at most: of many values few may be different.
 const FIRST_ROOM: usize = 128;
@@ -40,11 +40,11 @@ pub(crate) fn with_hash_form<X: Ord + Drop>(
     order_of_values::<X>();
     values_are_ordered::<X>();
     if !are_literals(&values) {
-        return Ok((rising::into_rising(values), None));
+        return Ok((sorted_slices::into_rising(values), None));
     }
     let (firsts, literals) = firsts_by_hash(alloc, values)?;
     let literals = Rc::new(alloc, literals)?;
-    Ok((rising::into_sorted(firsts), Some(literals)))
+    Ok((sorted_slices::into_sorted(firsts), Some(literals)))
 }
 
 // The first value of each literal, every value that is none, and the literals by hash.

@@ -1,21 +1,34 @@
 //! The laws of values.
 //!
-//! Each function here does nothing: its contract is the law, for each ordered type of extension
-//! values.
-ghost use Rattle.std.specs.Prelude.{◌≡◌, ◌↔◌, IsTrue, map};
+//! A function here does nothing but carry its contract, which is the law, for each ordered type of
+//! extension values.
+ghost use Rattle.std.specs.Prelude.{◌≡◌, ◌↔◌, IsTrue, false, map, true};
 ghost use Rattle.std.specs.Cmp.{IsTotalOrder};
 ghost use Rattle.std.specs.BTreeMap.{BTreeMap};
 ghost use Rattle.std.specs.Global.{Global};
 ghost use Rattle.std.specs.declared.rc.Rc.{Rc};
 ghost use Rattle.std.specs.declared.rc.RcStr.{RcStr};
-ghost use Rattle.std.specs.List.{list_all};
-ghost use Rattle.rising.specs.Classes.{HaveSameClasses};
+ghost use Rattle.std.specs.List.{list_all, list_any};
+ghost use Rattle.std.specs.List.Sorted.{IsStrictlySortedBy};
+ghost use Rattle.sorted_slices.specs.Classes.{HaveSameClasses};
+ghost use Rattle.cedar_terms.specs.Literals.{bare_literal};
 ghost use Rattle.cedar_terms.specs.declared.literal.Literal.{Literal};
 ghost use Rattle.cedar_builders.specs.Keys.{meant_pairs};
-ghost use Rattle.value_trees.specs.ValueOrder.{value_cmp, value_eq, values_cmp, values_eq};
-ghost use Rattle.value_trees.specs.BareValue as bare;
-ghost use Rattle.value_trees.specs.Laws.{BindsPlainValues};
-ghost use Rattle.cedar_values.specs.BareValues.{bare_set, bare_value, bare_value_kind, kind_of};
+ghost use Rattle.cedar_value_trees.specs.ValueOrder.{value_cmp, value_eq, values_cmp, values_eq};
+ghost use Rattle.cedar_value_trees.specs.BareValue as bare;
+ghost use Rattle.cedar_value_trees.specs.Laws.{BindsPlainValues};
+ghost use Rattle.cedar_value_trees.specs.RisingKeys.{KeysRise};
+ghost use Rattle.cedar_value_trees.specs.ValueExpr.{has_extension};
+ghost use Rattle.cedar_value_trees.specs.WellFormed.{is_well_formed};
+ghost use Rattle.cedar_values.specs.BareValues.{
+  bare_representable,
+  bare_set,
+  bare_value,
+  bare_value_kind,
+  extension_of,
+  kind_of,
+};
+ghost use Rattle.cedar_values.specs.Holders as held;
 ghost use Rattle.cedar_values.specs.PartialValues.{partial_eq};
 ghost use Rattle.cedar_values.specs.Sets.{by_tree, members};
 ghost use Rattle.cedar_values.specs.ValueMaps.{ThenIsBothOfMaps};
@@ -23,17 +36,20 @@ ghost use Rattle.cedar_values.specs.WellFormed.{kind_well_formed, set_well_forme
 ghost use Rattle.cedar_values.specs.declared.value.ValueKind.TheVariants as kinds;
 ghost use Rattle.cedar_values.specs.ValueMaps.{HasPlainValues, ValueMap, values_env};
 ghost use Rattle.cedar_values.specs.declared.partial_value.PartialValue.{PartialValue};
+ghost use Rattle.cedar_values.specs.declared.extension_value.RepresentableExtensionValue.{RepresentableExtensionValue};
 ghost use Rattle.cedar_values.specs.declared.set.Set.{Set};
 ghost use Rattle.cedar_values.specs.declared.value.Value.{Value};
 ghost use Rattle.cedar_values.specs.declared.value.ValueKind.{ValueKind};
 
-use crate::extension_value::ExtensionValue;
+use crate::extension_value::{ExtensionValue, NoExtension, RepresentableExtensionValue};
+use crate::keys_rise;
 use crate::partial_value::PartialValue;
 use crate::set::Set;
 use crate::value::{Value, ValueKind};
 use cedar_exprs::Expr;
-pub use value_trees::laws::{
-    expressions_read_back, reading_gives_one_value, then_is_both_of_values, values_are_ordered,
+pub use cedar_value_trees::laws::{
+    expressions_read_back, plain_where_none, reading_gives_one_value, then_is_both_of_values,
+    values_are_ordered,
 };
 
 /// Values are ordered as their trees are, which is a total order, and equal where their trees are
@@ -59,6 +75,17 @@ pub fn order_of_sets<X: Ord>()
         ⟦<Set<X> as Ord>⟧.cmp a b ≡ values_cmp X.cmp (bare_set a) (bare_set b) }
     ensures same { (a b : Set _) →
         ⟦<Set<X> as PartialEq>⟧.eq a b ≡ values_eq X.eq (bare_set a) (bare_set b) }
+{}
+
+/// Extension values are ordered as the values of their type are, and equal where these are: the
+/// representation that was given for one does not count.
+pub fn order_of_extension_values<X: Ord>()
+    ensures order { (a b : RepresentableExtensionValue _) →
+        ⟦<RepresentableExtensionValue<X> as Ord>⟧.cmp a b
+        ≡ X.cmp (extension_of a) (extension_of b) }
+    ensures same { (a b : RepresentableExtensionValue _) →
+        ⟦<RepresentableExtensionValue<X> as PartialEq>⟧.eq a b
+        ≡ X.eq (extension_of a) (extension_of b) }
 {}
 
 /// Two well formed sets are equal just where each value that is in the one is in the other.
@@ -108,3 +135,66 @@ pub fn maps_bind_plain_values<X: ExtensionValue>()
     ensures { (m : ValueMap _) → HasPlainValues m
         → BindsPlainValues X.canonical (values_env X.type_name X.canonical m) }
 {}
+
+/// The tree of a set is the row of its members' trees; a literal and an extension value are a tree
+/// alone. `values_by_kind` says the same of values and records.
+pub fn trees_of_values<X>()
+    ensures members { (s : Set X) → bare.list_of (bare_set s) ≡ map bare_value (members s) }
+    ensures set { (s : Set X) → bare_value_kind (kinds.Set s) ≡ bare.SetValue (bare_set s) }
+    ensures literal { (l : Literal) →
+        bare_value_kind {X = X} (kinds.Lit l) ≡ bare.LitValue (bare_literal l) }
+    ensures extension { (e : Rc (RepresentableExtensionValue X) Global) →
+        bare_value_kind (kinds.ExtensionValue e) ≡ bare_representable e.value }
+{}
+
+/// What is inside of a well formed value is well formed, and so is its tree: the members of a well
+/// formed set rise strictly and are well formed, as the values of a well formed record are.
+pub fn well_formed_parts<X: Ord>()
+    ensures tree { (v : Value X) → IsTrue (well_formed X.cmp v)
+        → IsTrue (is_well_formed X.cmp (bare_value v)) }
+    ensures rising { (s : Set X) → IsTrue (set_well_formed X.cmp s)
+        → IsStrictlySortedBy (by_tree X.cmp) (members s) }
+    ensures members { (s : Set X) → IsTrue (set_well_formed X.cmp s)
+        → IsTrue (list_all (well_formed X.cmp) (members s)) }
+    ensures set { (s : Set X) → IsTrue (kind_well_formed X.cmp (kinds.Set s))
+        → IsTrue (set_well_formed X.cmp s) }
+    ensures values { (m : Rc (BTreeMap (RcStr Global) (Value X)) Global) →
+        IsTrue (kind_well_formed X.cmp (kinds.Record m))
+        → IsTrue (list_all (λ e. well_formed X.cmp e.1) m.value.entries) }
+    ensures extension { (e : Rc (RepresentableExtensionValue X) Global) →
+        IsTrue (kind_well_formed X.cmp (kinds.ExtensionValue e)) }
+{
+    order_of_values::<X>();
+}
+
+/// The keys of each record inside a value strictly rise, by bytes.
+///
+/// This one walks the value, since it is the maps inside that know the order of their keys.
+pub fn value_keys_rise<X>(value: &Value<X>)
+    ensures { KeysRise (bare_value value.now) }
+{
+    keys_rise::walk(value);
+}
+
+/// Whether an extension value is inside of a value: none is in a literal, and in a set or a record
+/// where one is in a member or in a value.
+pub fn plain_values<X>()
+    ensures literals { (l : Literal) → has_extension (bare_value_kind {X = X} (kinds.Lit l)) ≡ false }
+    ensures sets { (s : Set X) → has_extension (bare_value_kind (kinds.Set s))
+        ≡ list_any (λ v. has_extension (bare_value v)) (members s) }
+    ensures records { (m : Rc (BTreeMap (RcStr Global) (Value X)) Global) →
+        has_extension (bare_value_kind (kinds.Record m))
+        ≡ list_any (λ e. has_extension (bare_value e.1)) m.value.entries }
+    ensures extensions { (e : Rc (RepresentableExtensionValue X) Global) →
+        has_extension (bare_value_kind (kinds.ExtensionValue e)) ≡ true }
+{}
+
+/// There is no extension value where these are `NoExtension`, so none is inside of a value, nor of the
+/// values of a map.
+pub fn no_extension_values()
+    ensures none { held.NoExtension → ⊥ }
+    ensures plain { (t : bare.BareValue held.NoExtension) → has_extension t ≡ false }
+    ensures maps { (m : ValueMap held.NoExtension) → HasPlainValues m }
+{
+    plain_where_none::<NoExtension>();
+}

@@ -2,7 +2,7 @@
 ghost use Rattle.std.specs.Prelude.{[], ◌∷◌, IfOk, OnOk};
 ghost use Rattle.cedar_terms.specs.Entities.{bare_entity_uid};
 ghost use Rattle.cedar_terms.specs.Literals.{bare_literal};
-ghost use Rattle.value_trees.specs.BareValue as bare;
+ghost use Rattle.cedar_value_trees.specs.BareValue as bare;
 ghost use Rattle.cedar_values.specs.BareValues.{bare_set, bare_value, bare_value_kind};
 ghost use Rattle.cedar_values.specs.Conversions.{bare_pairs};
 ghost use Rattle.cedar_values.specs.LiteralUids.{Gains, HasJust, literal_uid, literal_uids};

@@ -1,7 +1,10 @@
-// Literals, and what becomes a literal, as values at no place.
-ghost use Rattle.std.specs.Prelude.{◌≡◌};
+//! Literals, and what becomes a literal, as values at no place.
+#![tactic(auto, using(crate::proofs::Levels::literal_kept))]
+
+ghost use Rattle.std.specs.Prelude.{◌≡◌, IsTrue};
 ghost use Rattle.cedar_terms.specs.declared.literal.Literal.TheVariants as literals;
 ghost use Rattle.cedar_values.specs.Places.{literal_value};
+ghost use Rattle.cedar_values.specs.WellFormed.{kind_well_formed, well_formed};
 ghost use Rattle.cedar_values.specs.declared.value.ValueKind.TheVariants as kinds;
 
 use crate::value::{Value, ValueKind};
@@ -11,7 +14,10 @@ use std::rc::{Rc, RcStr};
 impl<X> From<Literal> for ValueKind<X> {
     ghost from_gives = { λ literal k. k ≡ kinds.Lit literal };
 
-    fn from(literal: Literal) -> ValueKind<X> {
+    fn from(literal: Literal) -> ValueKind<X>
+        ensures kind { result ≡ kinds.Lit literal }
+        ensures well_formed { (R : _) → IsTrue (kind_well_formed R result) }
+    {
         ValueKind::Lit(literal)
     }
 }
@@ -19,7 +25,10 @@ impl<X> From<Literal> for ValueKind<X> {
 impl<X> From<bool> for ValueKind<X> {
     ghost from_gives = { λ b k. k ≡ kinds.Lit (literals.Bool b) };
 
-    fn from(b: bool) -> ValueKind<X> {
+    fn from(b: bool) -> ValueKind<X>
+        ensures kind { result ≡ kinds.Lit (literals.Bool b) }
+        ensures well_formed { (R : _) → IsTrue (kind_well_formed R result) }
+    {
         ValueKind::Lit(Literal::Bool(b))
     }
 }
@@ -27,7 +36,10 @@ impl<X> From<bool> for ValueKind<X> {
 impl<X> From<Integer> for ValueKind<X> {
     ghost from_gives = { λ n k. k ≡ kinds.Lit (literals.Long n) };
 
-    fn from(n: Integer) -> ValueKind<X> {
+    fn from(n: Integer) -> ValueKind<X>
+        ensures kind { result ≡ kinds.Lit (literals.Long n) }
+        ensures well_formed { (R : _) → IsTrue (kind_well_formed R result) }
+    {
         ValueKind::Lit(Literal::Long(n))
     }
 }
@@ -35,7 +47,10 @@ impl<X> From<Integer> for ValueKind<X> {
 impl<X> From<RcStr> for ValueKind<X> {
     ghost from_gives = { λ text k. k ≡ kinds.Lit (literals.String text) };
 
-    fn from(text: RcStr) -> ValueKind<X> {
+    fn from(text: RcStr) -> ValueKind<X>
+        ensures kind { result ≡ kinds.Lit (literals.String text) }
+        ensures well_formed { (R : _) → IsTrue (kind_well_formed R result) }
+    {
         ValueKind::Lit(Literal::String(text))
     }
 }
@@ -43,7 +58,10 @@ impl<X> From<RcStr> for ValueKind<X> {
 impl<X> From<Rc<EntityUID>> for ValueKind<X> {
     ghost from_gives = { λ uid k. k ≡ kinds.Lit (literals.EntityUID uid) };
 
-    fn from(uid: Rc<EntityUID>) -> ValueKind<X> {
+    fn from(uid: Rc<EntityUID>) -> ValueKind<X>
+        ensures kind { result ≡ kinds.Lit (literals.EntityUID uid) }
+        ensures well_formed { (R : _) → IsTrue (kind_well_formed R result) }
+    {
         ValueKind::Lit(Literal::EntityUID(uid))
     }
 }
@@ -51,7 +69,10 @@ impl<X> From<Rc<EntityUID>> for ValueKind<X> {
 impl<X> From<Literal> for Value<X> {
     ghost from_gives = { λ literal v. v ≡ literal_value literal };
 
-    fn from(literal: Literal) -> Value<X> {
+    fn from(literal: Literal) -> Value<X>
+        ensures value { result ≡ literal_value literal }
+        ensures well_formed { (R : _) → IsTrue (well_formed R result) }
+    {
         Value::new(ValueKind::from(literal), None)
     }
 }
@@ -59,7 +80,10 @@ impl<X> From<Literal> for Value<X> {
 impl<X> From<bool> for Value<X> {
     ghost from_gives = { λ b v. v ≡ literal_value (literals.Bool b) };
 
-    fn from(b: bool) -> Value<X> {
+    fn from(b: bool) -> Value<X>
+        ensures value { result ≡ literal_value (literals.Bool b) }
+        ensures well_formed { (R : _) → IsTrue (well_formed R result) }
+    {
         Value::new(ValueKind::from(b), None)
     }
 }
@@ -67,7 +91,10 @@ impl<X> From<bool> for Value<X> {
 impl<X> From<Integer> for Value<X> {
     ghost from_gives = { λ n v. v ≡ literal_value (literals.Long n) };
 
-    fn from(n: Integer) -> Value<X> {
+    fn from(n: Integer) -> Value<X>
+        ensures value { result ≡ literal_value (literals.Long n) }
+        ensures well_formed { (R : _) → IsTrue (well_formed R result) }
+    {
         Value::new(ValueKind::from(n), None)
     }
 }
@@ -75,7 +102,10 @@ impl<X> From<Integer> for Value<X> {
 impl<X> From<RcStr> for Value<X> {
     ghost from_gives = { λ text v. v ≡ literal_value (literals.String text) };
 
-    fn from(text: RcStr) -> Value<X> {
+    fn from(text: RcStr) -> Value<X>
+        ensures value { result ≡ literal_value (literals.String text) }
+        ensures well_formed { (R : _) → IsTrue (well_formed R result) }
+    {
         Value::new(ValueKind::from(text), None)
     }
 }
@@ -83,7 +113,10 @@ impl<X> From<RcStr> for Value<X> {
 impl<X> From<Rc<EntityUID>> for Value<X> {
     ghost from_gives = { λ uid v. v ≡ literal_value (literals.EntityUID uid) };
 
-    fn from(uid: Rc<EntityUID>) -> Value<X> {
+    fn from(uid: Rc<EntityUID>) -> Value<X>
+        ensures value { result ≡ literal_value (literals.EntityUID uid) }
+        ensures well_formed { (R : _) → IsTrue (well_formed R result) }
+    {
         Value::new(ValueKind::from(uid), None)
     }
 }

@@ -1,5 +1,5 @@
 //! What partial evaluation hands on (`partial_value.rs`).
-ghost use Rattle.std.specs.Prelude.{◌≡◌, IfOk, IsTrue};
+ghost use Rattle.std.specs.Prelude.{◌≡◌, [], IfOk, IsTrue};
 ghost use Rattle.std.specs.List.{AllZip, filter_map, list_any};
 ghost use Rattle.cedar_builders.specs.Queries.{contains_unknown};
 ghost use Rattle.cedar_exprs.specs.BareExpr.{bare_expr, expr_place, unknown_tree};
@@ -45,7 +45,7 @@ pub enum PartialValue<X = NoExtension> {
 impl<X> PartialValue<X> {
     /// The residual that is an unknown alone, at no place.
     pub fn unknown(unknown: Unknown) -> PartialValue<X>
-        ensures { IsResidualWith (IsPlain (unknown_tree (bare_unknown unknown))) result }
+        ensures { IsResidualWith (IsPlain (unknown_tree (bare_unknown unknown)) []) result }
     {
         PartialValue::Residual(Expr::unknown(unknown))
     }

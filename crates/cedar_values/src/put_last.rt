@@ -1,4 +1,4 @@
-// Maps that are made in the order of their keys.
+//! Maps that are made in the order of their keys.
 ghost use Rattle.std.specs.Prelude.{◌≡◌, OnOk, ◌++◌, ◌∷◌, []};
 ghost use Rattle.cedar_values.specs.Keyed.{IsAbove};
 

@@ -1,4 +1,4 @@
-// Pairs as the entries of a record.
+//! Pairs as the entries of a record.
 ghost use Rattle.std.specs.Prelude.{IfOk};
 ghost use Rattle.cedar_values.specs.Records.{IsLastOfEach};
 

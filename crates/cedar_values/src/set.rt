@@ -14,7 +14,7 @@ ghost use Rattle.std.specs.Prelude.{
 };
 ghost use Rattle.std.specs.List.{list_all};
 ghost use Rattle.std.specs.Slice.Iter.{iter_rest};
-ghost use Rattle.rising.specs.Classes.{
+ghost use Rattle.sorted_slices.specs.Classes.{
   HaveNoneInCommon,
   HaveSameClasses,
   IsClassesOf,
@@ -196,7 +196,7 @@ impl<X: Ord + Drop> Set<X> {
         order_of_values::<X>();
         match self.hash_form() {
             Some(literals) => is_among(value, literals),
-            None => rising::contains(self.authoritative(), value),
+            None => sorted_slices::contains(self.authoritative(), value),
         }
     }
 
@@ -211,7 +211,7 @@ impl<X: Ord + Drop> Set<X> {
                 literals.is_subset(others)
             }
             (None, Some(_)) => false,
-            _ => rising::is_subset(self.authoritative(), other.authoritative()),
+            _ => sorted_slices::is_subset(self.authoritative(), other.authoritative()),
         }
     }
 
@@ -229,7 +229,7 @@ impl<X: Ord + Drop> Set<X> {
             (Some(literals), Some(others)) if is_short_beside(others, literals) => {
                 others.is_disjoint(literals)
             }
-            _ => rising::is_disjoint(self.authoritative(), other.authoritative()),
+            _ => sorted_slices::is_disjoint(self.authoritative(), other.authoritative()),
         }
     }
 
@@ -263,7 +263,7 @@ impl<X: Ord + Drop> Set<X> {
             }
         }
         let members = self.members.as_slice();
-        rising::is_rising(members) && is_hash_form(members, self.hash_form())
+        sorted_slices::is_rising(members) && is_hash_form(members, self.hash_form())
     }
 }
 

@@ -8,8 +8,8 @@ ghost use Rattle.cedar_builders.specs.Keys.{IsRising, keys_of};
 ghost use Rattle.cedar_builders.specs.Restricted.{IsRestricted};
 ghost use Rattle.cedar_exprs.specs.BareExpr.{bare_expr, expr_place};
 ghost use Rattle.cedar_exprs.specs.RestrictedExprs.{bare_restricted_expr};
-ghost use Rattle.value_trees.specs.Reading.{ReadsBack};
-ghost use Rattle.value_trees.specs.ValueExpr.{call_expr, value_expr};
+ghost use Rattle.cedar_value_trees.specs.Reading.{ReadsBack};
+ghost use Rattle.cedar_value_trees.specs.ValueExpr.{call_expr, value_expr};
 ghost use Rattle.cedar_values.specs.BareCalls.{bare_call};
 ghost use Rattle.cedar_values.specs.BareValues.{bare_representable, bare_value, bare_value_kind, value_place};
 ghost use Rattle.cedar_values.specs.Conversions.{bare_pairs};
@@ -36,11 +36,11 @@ use crate::value::{Value, ValueKind};
 use cedar_exprs::{Expr, RestrictedExpr};
 use cedar_names::{Loc, Name};
 use cedar_terms::Literal;
+use cedar_value_trees::laws::expressions_read_back;
 use std::alloc::{AllocError, Global};
 use std::collections::{BTreeMap, btree_map};
 use std::rc::{Rc, RcStr};
 use std::slice;
-use value_trees::laws::expressions_read_back;
 
 impl<X: ExtensionValue + Ord> Value<X> {
     /// The expression of the value, with each value's place. An extension value becomes the call

@@ -3,10 +3,10 @@ ghost use Rattle.std.specs.Prelude.{◌≡◌, ◌↔◌, None, IsTrue, IfOk, ma
 ghost use Rattle.std.specs.List.{list_all};
 ghost use Rattle.std.specs.Option.{option_copied};
 ghost use Rattle.cedar_terms.specs.Literals.{bare_literal};
-ghost use Rattle.rising.specs.Classes.{IsClassesOf};
-ghost use Rattle.value_trees.specs.BareValue as bare;
-ghost use Rattle.value_trees.specs.ValueOrder.{value_eq};
-ghost use Rattle.value_trees.specs.ValueTypes.{value_type};
+ghost use Rattle.sorted_slices.specs.Classes.{IsClassesOf};
+ghost use Rattle.cedar_value_trees.specs.BareValue as bare;
+ghost use Rattle.cedar_value_trees.specs.ValueOrder.{value_eq};
+ghost use Rattle.cedar_value_trees.specs.ValueTypes.{value_type};
 ghost use Rattle.cedar_values.specs.BareValues.{
   bare_value,
   bare_value_kind,
@@ -68,6 +68,7 @@ impl<X> Value<X> {
     pub fn new(kind: ValueKind<X>, loc: Option<Loc>) -> Value<X>
         ensures kind { kind_of result ≡ kind }
         ensures place { value_place result ≡ loc }
+        ensures well_formed { (R : _) → well_formed R result ≡ kind_well_formed R kind }
     {
         Value { kind, loc }
     }
@@ -97,6 +98,8 @@ impl<X> Value<X> {
     pub fn record_arc(pairs: Rc<BTreeMap<RcStr, Value<X>>>, loc: Option<Loc>) -> Value<X>
         ensures kind { kind_of result ≡ ValueKind.Record pairs }
         ensures place { value_place result ≡ loc }
+        ensures well_formed { (R : _) → well_formed R result
+            ≡ list_all (λ e. well_formed R e.1) pairs.value.entries }
     {
         Value::new(ValueKind::record_arc(pairs), loc)
     }
@@ -123,6 +126,7 @@ impl<X: Drop> Value<X> {
     pub fn with_maybe_source_loc(self, loc: Option<Loc>) -> Value<X>
         ensures kind { kind_of result ≡ kind_of self }
         ensures place { value_place result ≡ loc }
+        ensures well_formed { (R : _) → well_formed R result ≡ well_formed R self }
     {
         let Value { kind, loc: _ } = self;
         Value { kind, loc }
@@ -296,7 +300,9 @@ impl<X: Ord + Drop> Value<X> {
 impl<X> ValueKind<X> {
     /// The record of these keys and values.
     pub fn record_arc(pairs: Rc<BTreeMap<RcStr, Value<X>>>) -> ValueKind<X>
-        ensures { result ≡ ValueKind.Record pairs }
+        ensures kind { result ≡ ValueKind.Record pairs }
+        ensures well_formed { (R : _) → kind_well_formed R result
+            ≡ list_all (λ e. well_formed R e.1) pairs.value.entries }
     {
         ValueKind::Record(pairs)
     }

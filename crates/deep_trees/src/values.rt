@@ -1,8 +1,8 @@
 //! Chains of values, each one inside the next.
 
+use cedar_sketch::Sketch;
 use cedar_terms::Literal;
 use cedar_values::{NoExtension, Value};
-use sketches::Sketch;
 use std::alloc::{AllocError, Global};
 use std::rc::RcStr;
 

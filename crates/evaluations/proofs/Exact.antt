@@ -9,9 +9,9 @@ use Rattle.std.specs.declared.cmp.Ordering.TheVariants.{Less, Equal, Greater}
 use Rattle.cedar_terms.specs.Literals.{BareLiteral}
 use Rattle.cedar_terms.specs.LiteralOrder.{literal_cmp, literal_ties, literal_eq_decides}
 use Rattle.cedar_builders.specs.BareExpr.{Text}
-use Rattle.value_trees.specs.BareValue.{BareValue, LitValue, SetValue, RecordValue, ExtensionValue, BareValues, no_values, value, BarePairs, no_pairs, pair}
-use Rattle.value_trees.specs.ValueOrder.{value_cmp, values_cmp, pairs_cmp}
-use Rattle.value_trees.specs.ValueExpr.{has_extension, any_has_extension, any_pair_has_extension}
+use Rattle.cedar_value_trees.specs.BareValue.{BareValue, LitValue, SetValue, RecordValue, ExtensionValue, BareValues, no_values, value, BarePairs, no_pairs, pair}
+use Rattle.cedar_value_trees.specs.ValueOrder.{value_cmp, values_cmp, pairs_cmp}
+use Rattle.cedar_value_trees.specs.ValueExpr.{has_extension, any_has_extension, any_pair_has_extension}
 use Rattle.evaluations.proofs.Kept.{or_left, or_right}
 
 first_tie : (a b : Ordering) → ordering_then a b ≡ Equal → a ≡ Equal

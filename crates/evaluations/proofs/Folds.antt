@@ -3,7 +3,7 @@ use Rattle.std.proofs.Common.{◌≡◌, refl, subst, Bool, true, List, [], ◌�
 use Rattle.std.proofs.lemmas.List.Folds.{list_all-append}
 use Rattle.std.specs.List.{AllByRecursion, list_all}
 use Rattle.std.specs.declared.cmp.Ordering.{Ordering}
-use Rattle.rising.specs.Rising.{and_left, and_right}
+use Rattle.sorted_slices.specs.Rising.{and_left, and_right}
 use Rattle.cedar_names.specs.Names.{BareName}
 use Rattle.cedar_names.specs.declared.slot.SlotId.{SlotId}
 use Rattle.cedar_terms.specs.Types.{BareType}
@@ -11,7 +11,7 @@ use Rattle.cedar_terms.specs.declared.var.Var.{Var as Variable}
 use Rattle.cedar_builders.specs.BareExpr.{Text, BareExpr, Lit, Var, Slot, Unknown, If, And, Or, UnaryApp, BinaryApp, ExtensionFunctionApp, GetAttr, HasAttr, Like, Set, Record, Is, BareExprs, no_trees, tree, BareFields, no_fields, field}
 use Rattle.cedar_builders.specs.Fold.{on_one, on_two, on_three, and_then, fold_with, fold_all, fold_fields}
 use Rattle.cedar_builders.specs.Walks.{preorder, walk_all, walk_fields, forward}
-use Rattle.value_trees.specs.BareValue.{BareValue, LitValue}
+use Rattle.cedar_value_trees.specs.BareValue.{BareValue, LitValue}
 use Rattle.evaluations.specs.Outcomes.{Fault, Open, Outcome, strict, strict_two, if_outcome, and_outcome, or_outcome}
 use Rattle.evaluations.specs.Attributes.{get_in, has_path, like_in, is_in}
 use Rattle.evaluations.specs.Rows.{set_outcome, record_outcome}

@@ -4,11 +4,11 @@ use Rattle.std.proofs.lemmas.List.Elements.{All-nil, All-cons, All-head, All-tai
 use Rattle.std.specs.Cmp.{IsTotalOrder}
 use Rattle.std.specs.List.{All, Contains}
 use Rattle.std.specs.declared.cmp.Ordering.{Ordering}
-use Rattle.rising.specs.Classes.{IsClassesOf}
-use Rattle.rising.specs.Unique.{same_classes_tie}
-use Rattle.value_trees.specs.BareValue.{BareValue, values_of, list_of, list_of_values}
-use Rattle.value_trees.specs.ValueOrder.{value_cmp, value_cmp_total, values_cmp_is}
-use Rattle.value_trees.specs.ValueExpr.{has_extension, any_has_extension}
+use Rattle.sorted_slices.specs.Classes.{IsClassesOf}
+use Rattle.sorted_slices.specs.Unique.{same_classes_tie}
+use Rattle.cedar_value_trees.specs.BareValue.{BareValue, values_of, list_of, list_of_values}
+use Rattle.cedar_value_trees.specs.ValueOrder.{value_cmp, value_cmp_total, values_cmp_is}
+use Rattle.cedar_value_trees.specs.ValueExpr.{has_extension, any_has_extension}
 use Rattle.evaluations.specs.Rows.{rising_list}
 use Rattle.evaluations.proofs.Kept.{or_left, or_right}
 use Rattle.evaluations.proofs.Exact.{all_exact}

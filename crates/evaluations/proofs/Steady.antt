@@ -4,7 +4,7 @@ use Rattle.std.proofs.Common.{◌≡◌, refl, subst, Bool, true, false, List, [
 use Rattle.std.specs.declared.cmp.Ordering.{Ordering}
 use Rattle.cedar_builders.specs.BareExpr.{Text}
 use Rattle.cedar_builders.specs.Fold.{on_one, on_two, and_then}
-use Rattle.value_trees.specs.BareValue.{BareValue, RecordValue, pairs_of}
+use Rattle.cedar_value_trees.specs.BareValue.{BareValue, RecordValue, pairs_of}
 use Rattle.evaluations.specs.Outcomes.{Mistake, WrongType, Fault, By, Outcome, settled, truth, truth_of, strict, strict_two, chosen, if_outcome, as_truth, and_outcome, or_outcome}
 use Rattle.evaluations.specs.Attributes.{get_in, has_in, has_path}
 use Rattle.evaluations.specs.Rows.{all_values, all_pairs, set_value, set_outcome, record_outcome}

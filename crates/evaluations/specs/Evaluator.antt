@@ -4,7 +4,7 @@ use Rattle.std.specs.declared.cmp.Ordering.{Ordering}
 use Rattle.cedar_names.specs.Names.{BareName}
 use Rattle.cedar_builders.specs.Ops.{Ops}
 use Rattle.cedar_builders.specs.Lawful.{Lawful}
-use Rattle.value_trees.specs.BareValue.{LitValue}
+use Rattle.cedar_value_trees.specs.BareValue.{LitValue}
 use Rattle.evaluations.specs.Outcomes.{Outcome, Open, truth, strict, strict_two, if_outcome, and_outcome, or_outcome}
 use Rattle.evaluations.specs.Operators.{apply_one, apply_two}
 use Rattle.evaluations.specs.Attributes.{get_in, has_path, like_in, is_in}

@@ -9,7 +9,7 @@ use Rattle.cedar_terms.specs.declared.ops.BinaryOp.TheVariants as Binary
 use Rattle.cedar_terms.specs.declared.var.Var.TheVariants as Variable
 use Rattle.cedar_builders.specs.BareExpr.{BareExpr, Lit, Var, Unknown, If, And, Or, UnaryApp, BinaryApp, ExtensionFunctionApp, GetAttr, HasAttr, Set, Record, no_trees, trees_of, no_fields, field}
 use Rattle.cedar_builders.specs.Environment.{Env, empty, fold}
-use Rattle.value_trees.specs.BareValue.{BareValue, LitValue, SetValue, values_of}
+use Rattle.cedar_value_trees.specs.BareValue.{BareValue, LitValue, SetValue, values_of}
 use Rattle.evaluations.specs.Outcomes.{Mistake, WrongType, Overflow, Missing, Store, Open, By, Outcome, truth}
 use Rattle.evaluations.specs.Evaluator.{evaluator_ops}
 

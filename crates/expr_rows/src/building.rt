@@ -4,9 +4,9 @@ use crate::substitution::{clash_text, refusal_of, substituted, substituted_typed
 use cedar_builders::BuildFault;
 use cedar_exprs::{Expr, ExprBuilder, TypedBuildFault};
 use cedar_names::Name;
+use cedar_sketch::SExpression;
 use row_parts::{NoAnswer, Part};
 use row_trees::{KeyedValue, bindings, placed, sketch};
-use sketches::SExpression;
 use std::alloc::{AllocError, Global};
 use std::collections::HashMap;
 use std::rc::RcStr;

@@ -11,8 +11,8 @@ ghost use Rattle.expr_rows.specs.Refused.{nothing, refused};
 
 use cedar_builders::{BuildFault, ExprBuilder, ExpressionConstructionError, LawfulExprBuilder};
 use cedar_names::{Loc, Name, NonEmpty, SlotId};
+use cedar_sketch::{SExpression, Sketch};
 use cedar_terms::{BinaryOp, EntityType, Literal, Pattern, UnaryOp, Unknown, Var};
-use sketches::{SExpression, Sketch};
 use std::alloc::{AllocError, Global};
 use std::rc::RcStr;
 

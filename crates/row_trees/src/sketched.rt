@@ -1,7 +1,7 @@
 //! How rows write expressions.
 use cedar_exprs::Expr;
+use cedar_sketch::Sketch;
 use row_parts::{NoAnswer, join, place};
-use sketches::Sketch;
 use std::alloc::Global;
 
 /// The text that the sketch makes.

@@ -8,13 +8,14 @@ use cedar_builders::laws::{
 use cedar_builders::{BuildFault, DuplicateKeyError, ExprBuilder, ExpressionConstructionError};
 use cedar_names::laws::compared_lists;
 use cedar_names::{FromNormalizedStr, Name};
+use cedar_sketch::{SExpression, Sketch};
 use cedar_terms::{BinaryOp, Literal, UnaryOp};
 use generic::{
     binary_call, call_in_memory, call_of, call_of_one, negated_call, pair_of, unary_call,
 };
 use refusing::Refusing;
-use sketches::{SExpression, Sketch};
 use std::alloc::AllocError;
+use std::error::Error;
 use std::fmt::{Debug, Display};
 use std::process::Abort;
 use std::rc::RcStr;
@@ -158,6 +159,19 @@ fn a_refusal_through_the_bound(rt: HostRuntime) {
 fn want_of_memory_is_a_fault_of_building(rt: HostRuntime) {
     let fault: BuildFault<()> = BuildFault::from(AllocError);
     assert!(rt; matches!(fault, BuildFault::Memory));
+}
+
+// Whether an error has this text.
+fn is_shown_error<E: Error>(rt: &(impl Abort + AllocGlobal), error: E, wanted: &str) -> bool {
+    shows(rt, error, wanted)
+}
+
+#[test]
+fn texts_of_faults_of_building(rt: HostRuntime) {
+    let own = BuildFault::Build(name(&rt, "N::f"));
+    assert!(rt; is_shown_error(&rt, own, "N::f"));
+    let memory: BuildFault<Name> = BuildFault::from(AllocError);
+    assert!(rt; is_shown_error(&rt, memory, "no memory"));
 }
 
 fn repeated(rt: &(impl Abort + AllocGlobal), key: &str) -> DuplicateKeyError {

@@ -1,4 +1,4 @@
-// A builder that makes every node as it stands.
+//! A builder that makes every node as it stands.
 ghost use Rattle.std.specs.Prelude.{◌≡◌, IfOk, IfErr, Ok, ⊤, map};
 ghost use Rattle.cedar_names.specs.PlainNames.{bare_name};
 ghost use Rattle.cedar_builders.specs.BareExpr.{BareExpr, And, Or, Set};

@@ -3,8 +3,8 @@ use Rattle.std.proofs.Common.{◌≡◌, Bool, true, false, ◌&&◌, get_or, ma
 use Rattle.std.specs.List.{list_all}
 use Rattle.std.specs.BTreeMap.{values}
 use Rattle.std.proofs.lemmas.List.Folds.{list_all_at, list_all-map}
-use Rattle.rising.specs.Classes.{rises}
-use Rattle.rising.specs.Rising.{sorted_of_rises}
+use Rattle.sorted_slices.specs.Classes.{rises}
+use Rattle.sorted_slices.specs.Rising.{sorted_of_rises}
 use Rattle.cedar_values.specs.BareValues.{bare_value}
 use Rattle.cedar_values.specs.HashForms.{is_hash_form}
 use Rattle.cedar_values.specs.WellFormed.{kind_well_formed, well_formed}

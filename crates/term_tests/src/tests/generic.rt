@@ -1,4 +1,4 @@
-// Callers of any builder.
+//! Callers of any builder.
 use cedar_builders::{
     BuildFault, ExprBuilder, ExprBuilderInfallibleBuild, ExpressionConstructionError,
 };

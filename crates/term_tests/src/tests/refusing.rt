@@ -1,4 +1,4 @@
-// A lawful builder that makes nothing, and refuses calls of extension functions without arguments.
+//! A lawful builder that makes nothing, and refuses calls of extension functions without arguments.
 ghost use Rattle.std.specs.Prelude.{◌≡◌, ◌==◌, IfOk, IfErr, Ok, Err, length, refl, if◌then◌else◌, ⊤};
 ghost use Rattle.cedar_names.specs.Names.{BareName};
 ghost use Rattle.cedar_names.specs.PlainNames.{bare_name};

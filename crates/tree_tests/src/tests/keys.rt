@@ -1,4 +1,4 @@
-// Expressions as keys, whole and by their shapes alone.
+//! Expressions as keys, whole and by their shapes alone.
 use crate::tests::{made, text};
 use cedar_builders::ExprBuilder as _;
 use cedar_exprs::{Expr, ExprBuilder, ExprShapeOnly};

@@ -1,4 +1,4 @@
-// The laws, each called once.
+//! The laws, each called once.
 use crate::tests::{made, text};
 use cedar_exprs::laws::*;
 use cedar_exprs::{Expr, ExprBuilder};

@@ -1,4 +1,4 @@
-// Literals as values that are put where unknowns stand.
+//! Literals as values that are put where unknowns stand.
 use crate::tests::{is_equal, long, made, text, unknown};
 use cedar_exprs::{Expr, SubstitutionError};
 use cedar_terms::{Literal, Type, Unknown};

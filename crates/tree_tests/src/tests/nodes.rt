@@ -1,4 +1,4 @@
-// Nodes as they stand, what they share, and errors side by side.
+//! Nodes as they stand, what they share, and errors side by side.
 use crate::raw::Raw;
 use crate::tests::{is_equal, long, made, shared};
 use cedar_builders::ExprBuilder as _;

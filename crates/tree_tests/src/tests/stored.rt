@@ -1,4 +1,4 @@
-// A user's own value: the expression that it was made of.
+//! A user's own value: the expression that it was made of.
 ghost use Rattle.std.specs.Prelude.{◌≡◌};
 ghost use Rattle.cedar_terms.specs.Types.{LongType};
 ghost use Rattle.cedar_exprs.specs.RestrictedExprs.{bare_restricted_expr};

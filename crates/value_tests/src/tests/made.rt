@@ -1,4 +1,4 @@
-// What the tests are made of. Where something can't be made, the test ends.
+//! What the tests are made of. Where something can't be made, the test ends.
 use cedar_exprs::Expr;
 use cedar_names::Name;
 use cedar_terms::{Literal, Unknown};

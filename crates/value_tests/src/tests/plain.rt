@@ -1,7 +1,7 @@
-// Where there are no extension values.
+//! Where there are no extension values.
 ghost use Rattle.std.specs.Prelude.{IsTrue, IfOk, not};
-ghost use Rattle.value_trees.specs.ValueExpr.{has_extension};
-ghost use Rattle.value_trees.specs.ValueOrder.{value_eq};
+ghost use Rattle.cedar_value_trees.specs.ValueExpr.{has_extension};
+ghost use Rattle.cedar_value_trees.specs.ValueOrder.{value_eq};
 ghost use Rattle.cedar_values.specs.BareValues.{bare_value};
 ghost use Rattle.cedar_values.specs.NotReadable.{IsAnswerWhere};
 ghost use Rattle.cedar_values.specs.WellFormed.{well_formed};

@@ -1,10 +1,10 @@
-// A builder that refuses one call refuses the same before substitution and after.
+//! A builder that refuses one call refuses the same before substitution and after.
 use crate::tests::made::{is_equal, long, made, name, text, x, x_is_one};
 use cedar_builders::BuildFault;
 use cedar_exprs::Expr;
 use cedar_terms::Literal;
-use refusing_builders::{RefuseAt, Refused};
 use std::process::Abort;
+use test_support::{RefuseAt, Refused};
 
 // A call of `f` and this number, on this argument.
 fn call(rt: &(impl Abort + AllocGlobal), number: usize, arg: &Expr<()>) -> Expr<()> {

@@ -1,12 +1,12 @@
-// Expressions whose levels share their children.
+//! Expressions whose levels share their children.
 use crate::tests::made::{is_equal, long, made, text, x, x_is_one};
 use cedar_builders::ExprBuilder as _;
 use cedar_exprs::{Expr, ExprBuilder, ExprIterator, ExprKind};
 use cedar_names::Loc;
 use cedar_terms::{BinaryOp, Literal};
-use refusing_builders::RefuseAt;
 use std::process::Abort;
 use std::rc::Rc;
+use test_support::RefuseAt;
 
 fn shared(rt: &(impl Abort + AllocGlobal), e: Expr<()>) -> Rc<Expr<()>> {
     made(rt, Rc::new(rt.alloc(), e))

@@ -1,4 +1,4 @@
-// Texts of values, for a writer that refuses.
+//! Texts of values, for a writer that refuses.
 use crate::tests::made::{made, text};
 use cedar_terms::Literal;
 use cedar_values::{BoundedDisplay, Value};

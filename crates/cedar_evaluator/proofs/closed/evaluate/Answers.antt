@@ -1,8 +1,6 @@
 use Rattle.cedar_exprs.specs.BareExpr.{bare_expr}
-use Rattle.cedar_values.specs.BareValues.{bare_value}
 use Rattle.cedar_values.specs.Holders.{held_call, plain_env}
 use Rattle.cedar_evaluator.proofs.ClosedOutcomes.{decided}
-use Rattle.cedar_evaluator.proofs.SetsMade.{none}
 use Rattle.cedar_evaluator.proofs.closed.evaluate.Goals as goal
 
 pub returns-clause-decided : goal.returns-clause-decided
@@ -11,6 +9,5 @@ returns-clause-decided c closed =
     let m = c.args.values.now in
     decided made.result _ made.ensures
     (c.never_open.ensures held_call (plain_env m)
-    (c.maps_bind_plain_values.ensures m
-    (λ name v is. c.plain_where_none.ensures none (bare_value v)))
+    (c.maps_bind_plain_values.ensures m (c.no_extension_values.ensures.maps m))
     (bare_expr c.args.expr.now) closed)

@@ -1,13 +1,10 @@
-use Rattle.cedar_values.specs.BareValues.{bare_value}
 use Rattle.cedar_values.specs.Holders.{held_call, plain_env}
 use Rattle.cedar_evaluator.proofs.Meanings.{decided}
-use Rattle.cedar_evaluator.proofs.SetsMade.{none}
 use Rattle.cedar_evaluator.proofs.laws.never_open.Goals as goal
 
 pub returns : goal.returns
 returns c m e closed =
     decided _
     (c.never_open.ensures held_call (plain_env m)
-    (c.maps_bind_plain_values.ensures m
-    (λ name v is. c.plain_where_none.ensures none (bare_value v)))
+    (c.maps_bind_plain_values.ensures m (c.no_extension_values.ensures.maps m))
     e closed)

@@ -1,3 +1,5 @@
+use Rattle.std.proofs.Common.{subst}
+use Rattle.sorted_slices.specs.Classes.{NoneIsAny}
 use Rattle.cedar_values.specs.BareValues.{bare_value}
 use Rattle.cedar_evaluator.proofs.MemberTests.{meeting}
 use Rattle.cedar_evaluator.proofs.operators.contains_any.Goals as goal
@@ -5,7 +7,9 @@ use Rattle.cedar_evaluator.proofs.operators.contains_any.Goals as goal
 pub returns-in-Some-Some : goal.returns-in-Some-Some
 returns-in-Some-Some g c first second =
     let here = c.in-Some-Some in
-    meeting g.X.Ord.cmp c.order_of_values.ensures.total c.is_disjoint.result here.set.now
+    let items =
+    subst NoneIsAny (λ i a b. c.order_of_values.ensures.order a b i) c.none_is_any.ensures in
+    meeting g.X.Ord.cmp items c.is_disjoint.result here.set.now
     here.others.now
     (bare_value c.args.left.now)
     (bare_value c.args.right.now) here.ensures.members here.ensures'.members

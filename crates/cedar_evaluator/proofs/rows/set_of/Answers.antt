@@ -1,14 +1,15 @@
 use Rattle.std.proofs.Common.{ap, ◌∙◌}
 use Rattle.cedar_values.specs.BareValues.{bare_value_kind}
 use Rattle.cedar_values.specs.WellFormed.{kind_well_formed}
-use Rattle.cedar_evaluator.proofs.SetsMade.{none, set_made}
+use Rattle.cedar_evaluator.proofs.SetsMade.{set_made}
 use Rattle.cedar_evaluator.proofs.rows.set_of.Goals as goal
 
 pub returns-clause-tree : goal.returns-clause-tree
 returns-clause-tree c =
     let by_kind = c.values_by_kind.ensures in
     let s = c.in_ok-set.set in
-    set_made _ c.values_are_ordered.ensures.total c.one_list.ensures c.plain_where_none.ensures none
+    set_made _ c.values_are_ordered.ensures.total c.one_list.ensures
+    c.no_extension_values.ensures.plain
     c.new-2.result s c.args.values.items
     (by_kind.kind c.new-2.result ∙ ap bare_value_kind c.new-2.ensures.kind ∙ by_kind.set s)
     c.in_ok-set.ensures.classes

@@ -1,7 +1,7 @@
 use Rattle.std.proofs.Common.{◌≡◌, ◌+◌, ◌≤◌}
 use Rattle.cedar_builders.specs.Count.{count, total}
-use Rattle.function_tables.specs.Branches.{type_of_all}
-use Rattle.function_tables.specs.TypeOfTree.{type_of_tree}
+use Rattle.cedar_validation.specs.Branches.{type_of_all}
+use Rattle.cedar_validation.specs.TypeOfTree.{type_of_tree}
 use Rattle.cedar_exprs.specs.BareExpr.{bare_expr}
 use Rattle.cedar_exprs.specs.Waiting.{bare_waiting}
 use Rattle.cedar_exprs.proofs.types.type_of_first.Given as goal

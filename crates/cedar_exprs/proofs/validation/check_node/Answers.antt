@@ -1,8 +1,8 @@
 use Rattle.std.proofs.Common.{◌≡◌, None, IfErr, OnOk, Option, arith, ap, length, subst, sym, ◌∙◌}
 use Rattle.cedar_names.specs.PlainNames.{bare_name}
 use Rattle.cedar_builders.specs.Walks.{members_of}
-use Rattle.function_tables.specs.Faults.{Fault, call_fault, fault_at}
-use Rattle.function_tables.specs.ValidationErrors.{IsErrorOf}
+use Rattle.cedar_validation.specs.Faults.{Fault, call_fault, fault_at}
+use Rattle.cedar_validation.specs.ValidationErrors.{IsErrorOf}
 use Rattle.cedar_exprs.specs.BareExpr.{bare_exprs}
 use Rattle.cedar_exprs.proofs.ChildrenOf.{bare_at_call, members-length}
 use Rattle.cedar_exprs.proofs.validation.check_node.Goals as goal

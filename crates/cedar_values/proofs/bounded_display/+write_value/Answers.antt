@@ -5,13 +5,13 @@ use Rattle.std.specs.declared.rc.RcStr.{RcStr}
 use Rattle.std.proofs.Output.{writes_in_calls_append, writes_in_calls_single}
 use Rattle.std.proofs.lemmas.Bool.{false≢true}
 use Rattle.std.proofs.lemmas.List.{drop_all}
-use Rattle.value_trees.specs.BareValue.{SetValue, RecordValue}
+use Rattle.cedar_value_trees.specs.BareValue.{SetValue, RecordValue}
 use Rattle.cedar_values.specs.BareValues.{bare_set, bare_value_kind}
 use Rattle.cedar_values.specs.BoundedTexts.{bounded_text, key_text}
 use Rattle.cedar_values.specs.Conversions.{bare_pairs}
 use Rattle.cedar_values.specs.declared.value.Value.{Value}
-use Rattle.cedar_values.proofs.BoundedRests.{begun, Completes, dropped, extension_tree, item_written, last_call, one_call, pair_text, record_text, rest, rest_cut, set_text, value_text}
-use Rattle.cedar_values.proofs.Levels.{record_tree}
+use Rattle.cedar_values.proofs.BoundedRests.{begun, Completes, dropped, item_written, last_call, one_call, pair_text, record_text, rest, rest_cut, set_text, value_text}
+use Rattle.cedar_values.proofs.Levels.{extension_tree, record_tree}
 use Rattle.cedar_values.proofs.bounded_display.+write_value.Goals as goal
 
 pub write_kind-returns-in-Record : goal.write_kind-returns-in-Record

@@ -5,7 +5,7 @@ use Rattle.std.specs.List.Sorted.{IsStrictlySortedBy}
 use Rattle.std.specs.Map.{keys_of}
 use Rattle.cedar_exprs.specs.BareExpr.{bare_expr, bare_fields}
 use Rattle.cedar_exprs.specs.declared.expr.Expr.{Expr}
-use Rattle.value_trees.specs.Reading.{ArePairsOf}
+use Rattle.cedar_value_trees.specs.Reading.{ArePairsOf}
 use Rattle.cedar_values.specs.BareValues.{bare_value}
 use Rattle.cedar_values.specs.Conversions.{bare_pairs}
 use Rattle.cedar_values.specs.Records.{key_cmp}

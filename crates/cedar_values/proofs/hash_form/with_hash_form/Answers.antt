@@ -2,7 +2,7 @@ use Rattle.std.proofs.Common.{◌≡◌, true, not, None, Some, map, sym, ap, �
 use Rattle.std.specs.List.{IsDistinct, list_all}
 use Rattle.std.specs.Ordering.{eq_by_cmp}
 use Rattle.std.proofs.lemmas.List.Folds.{list_all-map}
-use Rattle.rising.specs.Classes.{IsClassesOf}
+use Rattle.sorted_slices.specs.Classes.{IsClassesOf}
 use Rattle.cedar_values.specs.BareValues.{bare_value}
 use Rattle.cedar_values.specs.HashForms.{is_hash_form, literals_of}
 use Rattle.cedar_values.specs.Places.{is_lit_value}

@@ -2,7 +2,7 @@ use Rattle.std.proofs.Common.{rules, ◌≡◌, ◌+◌, ◌||◌, [], drop, sym
 use Rattle.std.specs.List.{flat_map}
 use Rattle.std.specs.declared.rc.RcStr.{RcStr}
 use Rattle.std.proofs.lemmas.List.{drop_all}
-use Rattle.value_trees.specs.BareValue.{SetValue, RecordValue}
+use Rattle.cedar_value_trees.specs.BareValue.{SetValue, RecordValue}
 use Rattle.cedar_values.specs.BareValues.{bare_set, bare_value_kind}
 use Rattle.cedar_values.specs.Conversions.{bare_pairs}
 use Rattle.cedar_values.specs.LiteralUids.{Gains, has_uid, is_uid_of, literal_uids}

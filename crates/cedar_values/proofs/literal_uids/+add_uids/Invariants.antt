@@ -1,6 +1,6 @@
 use Rattle.std.proofs.Common.{drop}
 use Rattle.std.specs.List.{flat_map}
-use Rattle.value_trees.specs.BareValue as bare
+use Rattle.cedar_value_trees.specs.BareValue as bare
 use Rattle.cedar_values.specs.BareValues.{bare_set}
 use Rattle.cedar_values.specs.Conversions.{bare_pairs}
 use Rattle.cedar_values.specs.LiteralUids.{literal_uids}

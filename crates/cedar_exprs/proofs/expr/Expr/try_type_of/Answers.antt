@@ -1,7 +1,7 @@
 use Rattle.std.proofs.Common.{ap, sym, ◌∙◌}
 use Rattle.std.specs.Option.{option_map}
 use Rattle.cedar_terms.specs.Types.{bare_type}
-use Rattle.function_tables.specs.Branches.{joined, type_of_all}
+use Rattle.cedar_validation.specs.Branches.{joined, type_of_all}
 use Rattle.cedar_exprs.specs.BareExpr.{bare_expr}
 use Rattle.cedar_exprs.specs.Waiting.{bare_waiting}
 use Rattle.cedar_exprs.proofs.Branches.{top_first}

@@ -2,8 +2,8 @@ use Rattle.std.proofs.Common.{◌≡◌}
 use Rattle.std.specs.Option.{option_map}
 use Rattle.cedar_terms.specs.Types.{bare_type}
 use Rattle.cedar_builders.specs.Count.{total}
-use Rattle.function_tables.specs.Branches.{type_of_all}
-use Rattle.function_tables.specs.TypeOfTree.{type_of_tree}
+use Rattle.cedar_validation.specs.Branches.{type_of_all}
+use Rattle.cedar_validation.specs.TypeOfTree.{type_of_tree}
 use Rattle.cedar_exprs.specs.BareExpr.{bare_expr}
 use Rattle.cedar_exprs.specs.Waiting.{bare_waiting}
 use Rattle.cedar_exprs.proofs.expr.Expr.try_type_of.Given as goal

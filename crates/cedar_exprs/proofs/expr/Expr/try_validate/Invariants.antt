@@ -1,6 +1,6 @@
 use Rattle.std.proofs.Common.{◌≡◌, map}
 use Rattle.cedar_builders.specs.Walks.{first_of}
-use Rattle.function_tables.specs.Faults.{fault_at, first_fault}
+use Rattle.cedar_validation.specs.Faults.{fault_at, first_fault}
 use Rattle.cedar_exprs.specs.BareExpr.{bare_expr}
 use Rattle.cedar_exprs.specs.Iterators.{positions_left}
 use Rattle.cedar_exprs.proofs.expr.Expr.try_validate.Given as goal

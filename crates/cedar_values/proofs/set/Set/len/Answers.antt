@@ -1,5 +1,5 @@
 use Rattle.std.proofs.Common.{sym, ap, length, ◌∙◌}
-use Rattle.rising.specs.Unique.{same_classes_tie, tied_length}
+use Rattle.sorted_slices.specs.Unique.{same_classes_tie, tied_length}
 use Rattle.cedar_values.specs.Sets.{members}
 use Rattle.cedar_values.proofs.WellFormedSets.{sorted_members}
 use Rattle.cedar_values.proofs.set.Set.len.Goals as goal

@@ -1,5 +1,5 @@
 use Rattle.cedar_exprs.specs.BareExpr.{bare_expr}
-use Rattle.value_trees.specs.Reading.{IsValueOf}
+use Rattle.cedar_value_trees.specs.Reading.{IsValueOf}
 use Rattle.cedar_values.specs.BareValues.{bare_value_kind}
 use Rattle.cedar_values.proofs.FirstFault.{InPreorder, answered}
 use Rattle.cedar_values.proofs.value.ValueKind.try_from_expr.Goals as goal

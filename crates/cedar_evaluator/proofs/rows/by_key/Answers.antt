@@ -1,0 +1,31 @@
+use Rattle.std.proofs.Common.{ap, sym, ◌∙◌}
+use Rattle.std.specs.List.{list_all}
+use Rattle.std.specs.Vec.Iter.{into_iter_items}
+use Rattle.sorted_slices.specs.Rising.{and_left, and_right}
+use Rattle.cedar_values.specs.WellFormed.{well_formed}
+use Rattle.cedar_evaluator.proofs.Inserted.{kept_inserted}
+use Rattle.cedar_evaluator.proofs.Pairs.{put_next}
+use Rattle.cedar_evaluator.proofs.rows.by_key.Goals as goal
+
+pub loop-key-preserved : goal.loop-key-preserved
+loop-key-preserved c =
+    let es = c.loop-key.values.entries in
+    let old = into_iter_items c.loop-key.key-iterator in
+    let left = into_iter_items c.next.new.self in
+    let k = c.in-Some.key in
+    let v = c.in-Some.value in
+    let steps = c.in-Some.ensures.steps.0 in
+    let put = c.in_ok-put.ensures in (
+      λ rising. put_next c.args.pairs.items es c.put.new.map.entries old left k v rising
+          (c.loop-key.invariant.0 rising) steps put,
+      λ R all.
+          let kept = c.loop-key.invariant.1 R all in
+          let rest = ap (list_all (λ p. well_formed R p.1)) (sym steps) ∙ kept.1 in (
+            ap (list_all (λ e. well_formed R e.1)) put
+                ∙ kept_inserted (well_formed R) es k v kept.0 (and_left (well_formed R v) _ rest),
+            and_right (well_formed R v) _ rest,
+          ),
+    )
+
+pub returns-clause-well_formed : goal.returns-clause-well_formed
+returns-clause-well_formed c all = (c.loop-key.invariant.1 _ all).0

@@ -1,0 +1,5 @@
+pub mod Positions
+pub mod ReadBack
+pub mod Read
+pub mod Plain
+pub mod NoneInside

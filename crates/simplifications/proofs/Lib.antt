@@ -1,0 +1,13 @@
+pub mod Substituted
+pub mod Plain
+pub mod Values
+pub mod Calls
+pub mod Truths
+pub mod Sure
+pub mod Means
+pub mod Sound
+pub mod Asks
+pub mod Decides
+pub mod Known
+pub mod BooleanParts
+pub mod Stages

@@ -1,4 +1,0 @@
-pub mod Positions
-pub mod ReadBack
-pub mod Read
-pub mod Plain

@@ -1,7 +1,0 @@
-pub mod BareValue
-pub mod ValueOrder
-pub mod WellFormed
-pub mod ValueTypes
-pub mod ValueExpr
-pub mod Reading
-pub mod Laws
