@@ -1,18 +1,22 @@
-//! A caller of the evaluator: asks what a rule comes to before all of its unknowns are known, and
-//! again when they are.
+//! Values and the evaluator: makes and reads values, asks what a rule comes to before all of its
+//! unknowns are known, and again when they are.
 #![tactic(auto)]
 
 mod decision;
+mod values;
 
 use crate::decision::decide;
+use crate::values::{count_answers, has_number, numbers, worker};
 use cedar_ast::evaluator::{CallRefused, Outcome, evaluate};
-use cedar_ast::{BuildFault, Expr, Literal, Unknown, Value};
+use cedar_ast::{BuildFault, Expr, Literal, PartialValue, Unknown, Value};
 use std::alloc::{AllocError, Global};
 use std::collections::HashMap;
 use std::io;
 use std::rc::RcStr;
 
 fn main(rt: HostRuntime) -> io::Result<()> {
+    show_values(&rt)?;
+
     let alloc = rt.alloc();
     let rule = door_opens(alloc)?;
     let morning = binding(alloc, "hour", Value::from(9))?;
@@ -28,6 +32,22 @@ fn main(rt: HostRuntime) -> io::Result<()> {
     show(&rt, "night", evaluate(alloc, &rule, &night))?;
     let at_night = decide(alloc, &rule, &night, &staff);
     show(&rt, "night, staff", at_night)
+}
+
+// Prints a record with a set inside, what is in the set, and answers that are known in part.
+fn show_values(rt: &HostRuntime) -> io::Result<()> {
+    let alloc = rt.alloc();
+    let hours = numbers(alloc, &[22, 9, 22])?;
+    println!(rt;
+        "9: {}, 10: {}",
+        has_number(&hours, 9),
+        has_number(&hours, 10)
+    )?;
+    println!(rt; "{}", worker(alloc, "ann", hours.clone(alloc)?)?)?;
+    let badge = Unknown::new_untyped(RcStr::from_str(alloc, "badge")?);
+    let answers = vec![in alloc; PartialValue::from(hours), PartialValue::unknown(badge)]?;
+    let (count, are_values) = count_answers(alloc, answers)?;
+    println!(rt; "{count} answers, all of them values: {are_values}")
 }
 
 // The rule `hour < 18 && badge == "staff"`, where hour and badge are unknowns.

@@ -1,0 +1,6 @@
+pub mod Nodes
+pub mod RecordNodes
+pub mod KnownParts
+pub mod KnownRows
+pub mod Branches
+pub mod OnePass

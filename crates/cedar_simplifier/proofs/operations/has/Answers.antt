@@ -1,0 +1,5 @@
+use Rattle.cedar_simplifier.proofs.KnownParts.{open_path}
+use Rattle.cedar_simplifier.proofs.operations.has.Goals as goal
+
+pub returns-in-None : goal.returns-in-None
+returns-in-None c = open_path _ _ _ c.in-None.ensures.value

@@ -1,0 +1,26 @@
+use Rattle.std.proofs.Common.{ap, sym, ◌∙◌}
+use Rattle.std.specs.List.{list_all}
+use Rattle.cedar_builders.specs.BareExpr.{Set}
+use Rattle.cedar_values.specs.WellFormed.{well_formed}
+use Rattle.simplifications.specs.Parts.{Left}
+use Rattle.cedar_simplifier.proofs.KnownRows.{are_known, known_set, set_left, values_kept}
+use Rattle.cedar_simplifier.proofs.simplifier.SimplifierExprBuilder.set.Goals as goal
+
+pub known-requires : goal.known-requires
+known-requires c =
+    c.in_ok-set_of.ensures.well_formed
+    (ap (list_all (well_formed _)) c.in_ok-values.ensures
+    ∙ values_kept _ (λ p. p.kept) c.args.members.items)
+
+pub returns-then-are_known : goal.returns-then-are_known
+returns-then-are_known c =
+    c.known.ensures
+    ∙ known_set _ _ c.args.members.items _ _
+    (ap are_known (sym c.deref.ensures.value) ∙ sym c.are_known.ensures ∙ c.if-are_known.true)
+    c.in_ok-set_of.ensures.tree c.in_ok-values.ensures
+
+pub returns : goal.returns
+returns c =
+    c.left.ensures ∙ ap Left (c.in_ok-set.ensures ∙ ap Set c.in_ok-row.ensures)
+    ∙ set_left _ _ c.args.members.items
+    (ap are_known (sym c.deref.ensures.value) ∙ sym c.are_known.ensures ∙ c.if-are_known.false)

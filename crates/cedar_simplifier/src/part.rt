@@ -1,0 +1,148 @@
+//! What the simplifier makes of an expression.
+ghost use Rattle.std.specs.Prelude.{◌≡◌, IsTrue, is_some};
+ghost use Rattle.cedar_terms.specs.Literals.{bare_literal};
+ghost use Rattle.cedar_exprs.specs.BareExpr.{bare_expr};
+ghost use Rattle.cedar_simplifier.specs.Kept.{is_kept};
+
+use crate::boolean::is_boolean_kind;
+use crate::kind::Kind;
+use crate::tree::Tree;
+use cedar_evaluator::operations::{as_bool, literal_value};
+use cedar_exprs::Expr;
+use cedar_terms::Literal;
+use cedar_values::{NoExtension, Value};
+use std::alloc::{AllocError, Global};
+
+/// What an expression is made: a well formed value that is known, whatever unknowns are bound to,
+/// or an expression that is left.
+///
+/// ```rust
+/// fn is_decided(part: &Part) -> bool {
+///     part.as_value().is_some()
+/// }
+/// ```
+#[derive(Debug, Drop)]
+pub struct Part {
+    kind: Kind,
+    ghost kept: { IsTrue (is_kept ⟦<NoExtension as Ord>⟧.cmp kind) },
+}
+
+impl Part {
+    ghost use Rattle.std.specs.Prelude.{IfOk, IfSome, option_map};
+    ghost use Rattle.cedar_values.specs.BareValues.{bare_value};
+    ghost use Rattle.cedar_values.specs.Holders.{held_call};
+    ghost use Rattle.cedar_values.specs.WellFormed.{well_formed};
+    ghost use Rattle.cedar_value_trees.specs.BareValue.{LitValue};
+    ghost use Rattle.simplifications.specs.Parts as meant;
+    ghost use Rattle.cedar_simplifier.specs.Parts.{bare_tree, held_value, known_value, meaning_of};
+
+    /// The value, if it is known.
+    pub fn as_value(&self) -> Option<&Value<NoExtension>>
+        ensures value { option_map (λ v. bare_value v.now) result
+            ≡ known_value (meaning_of self.now) }
+        ensures well_formed { IfSome result
+            (λ v. IsTrue (well_formed ⟦<NoExtension as Ord>⟧.cmp v.now)) }
+    {
+        match &self.kind {
+            Kind::Known(value) => Some(value),
+            Kind::Left(_) => None,
+        }
+    }
+
+    /// The expression that is left, or that of the value.
+    pub fn into_expr(self, alloc: Global) -> Result<Expr<()>, AllocError>
+        ensures { IfOk result (λ e. bare_expr e ≡ meant.tree_of held_call (meaning_of self)) }
+    {
+        Ok(self.into_tree(alloc)?.into_expr())
+    }
+
+    // The same, with whether it holds a call.
+    pub(crate) fn into_tree(self, alloc: Global) -> Result<Tree, AllocError>
+        ensures { IfOk result (λ t. bare_tree t ≡ meant.tree_of held_call (meaning_of self)) }
+    {
+        let kind = self.kind;
+        match kind {
+            Kind::Known(value) => Tree::of_value(alloc, &value),
+            Kind::Left(tree) => Ok(tree),
+        }
+    }
+
+    // The value, if it is known, by itself.
+    pub(crate) fn into_value(self) -> Option<Value<NoExtension>>
+        ensures { result ≡ held_value self }
+    {
+        let kind = self.kind;
+        match kind {
+            Kind::Known(value) => Some(value),
+            Kind::Left(_) => None,
+        }
+    }
+
+    // A well formed value.
+    pub(crate) fn known(value: Value<NoExtension>) -> Part
+        requires { IsTrue (well_formed ⟦<NoExtension as Ord>⟧.cmp value) }
+        ensures { meaning_of result ≡ meant.Known (bare_value value) }
+    {
+        Part {
+            kind: Kind::Known(value),
+        }
+    }
+
+    // A literal.
+    pub(crate) fn lit(literal: Literal) -> Part
+        ensures { meaning_of result ≡ meant.Known (LitValue (bare_literal literal)) }
+    {
+        Part {
+            kind: Kind::Known(literal_value(literal)),
+        }
+    }
+
+    // A tree that is left.
+    pub(crate) fn left(tree: Tree) -> Part
+        ensures { meaning_of result ≡ meant.Left (bare_tree tree) }
+    {
+        Part {
+            kind: Kind::Left(tree),
+        }
+    }
+
+    // The Boolean that is known, if any.
+    pub(crate) fn truth(&self) -> Option<bool>
+        ensures { result ≡ meant.known_truth (meaning_of self.now) }
+    {
+        match &self.kind {
+            Kind::Known(value) => as_bool(value),
+            Kind::Left(_) => None,
+        }
+    }
+
+    // Whether it is known.
+    pub(crate) fn is_known(&self) -> bool
+        ensures { result ≡ is_some (known_value (meaning_of self.now)) }
+    {
+        match &self.kind {
+            Kind::Known(_) => true,
+            Kind::Left(_) => false,
+        }
+    }
+
+    // Whether it is known, or holds no call.
+    pub(crate) fn calls_nothing(&self) -> bool
+        ensures { result ≡ meant.calls_nothing (meaning_of self.now) }
+    {
+        match &self.kind {
+            Kind::Known(_) => true,
+            Kind::Left(tree) => tree.calls_nothing(),
+        }
+    }
+
+    // Whether it can only be a Boolean or a fault.
+    pub(crate) fn is_boolean(&self) -> bool
+        ensures { result ≡ meant.is_boolean (meaning_of self.now) }
+    {
+        match &self.kind {
+            Kind::Known(value) => as_bool(value).is_some(),
+            Kind::Left(tree) => is_boolean_kind(tree.expr()),
+        }
+    }
+}

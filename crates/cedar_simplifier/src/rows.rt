@@ -1,0 +1,119 @@
+//! Rows of parts: of the members of a set, of the arguments of a call, of the values of a record.
+ghost use Rattle.std.specs.Prelude.{◌≡◌, IfOk, map};
+ghost use Rattle.std.specs.List.{filter_map, list_all};
+ghost use Rattle.cedar_builders.specs.BareExpr as bare;
+ghost use Rattle.cedar_builders.specs.Keys.{keys_of, meant_pairs};
+ghost use Rattle.cedar_exprs.specs.BareExpr.{bare_expr, bare_exprs};
+ghost use Rattle.cedar_values.specs.Holders.{held_call};
+ghost use Rattle.simplifications.specs.Asks.{holds_no_call};
+ghost use Rattle.simplifications.specs.Parts as parts;
+ghost use Rattle.cedar_simplifier.specs.Parts.{held_pair, held_value, is_known, meaning_of};
+
+use crate::part::Part;
+use cedar_exprs::Expr;
+use cedar_values::{NoExtension, Value};
+use std::alloc::{AllocError, Global};
+use std::rc::RcStr;
+
+// The expressions of a row, and whether none of them holds a call.
+#[derive(Debug, Drop)]
+pub(crate) struct Row {
+    pub(crate) exprs: Vec<Expr<()>>,
+    pub(crate) calls_nothing: bool,
+    ghost kept: { calls_nothing ≡ list_all (λ e. holds_no_call (bare_expr e)) exprs.items },
+}
+
+// The same of the values of a record, by their keys.
+#[derive(Debug, Drop)]
+pub(crate) struct Fields {
+    pub(crate) pairs: Vec<(RcStr, Expr<()>)>,
+    pub(crate) calls_nothing: bool,
+    ghost kept: { calls_nothing ≡ list_all (λ p. holds_no_call (bare_expr p.1)) pairs.items },
+}
+
+// Whether each part of a row is known.
+pub(crate) fn are_known(row: &[Part]) -> bool
+    ensures { result ≡ list_all (λ p. is_known (meaning_of p)) row.now }
+{
+    row.iter().all(|part| part.is_known())
+}
+
+// The values of the parts that are known.
+pub(crate) fn values_of(
+    alloc: Global,
+    row: Vec<Part>,
+) -> Result<Vec<Value<NoExtension>>, AllocError>
+    ensures { IfOk result (λ vs. vs.items ≡ filter_map held_value row.items) }
+{
+    row.into_iter()
+        .filter_map(|part| part.into_value())
+        .collect(alloc)
+}
+
+// The expressions of a row.
+pub(crate) fn row_of(alloc: Global, row: Vec<Part>) -> Result<Row, AllocError>
+    ensures { IfOk result (λ r.
+        bare_exprs r.exprs.items ≡ parts.row_of held_call (map meaning_of row.items)) }
+{
+    let mut exprs = Vec::with_capacity(alloc, row.len())?;
+    let mut calls_nothing = true;
+    for part in row {
+        let tree = part.into_tree(alloc)?;
+        calls_nothing &= tree.calls_nothing();
+        exprs.push(tree.into_expr())?;
+    }
+    Ok(Row {
+        exprs,
+        calls_nothing,
+    })
+}
+
+// Whether each value of a record is known.
+pub(crate) fn have_known(pairs: &[(RcStr, Part)]) -> bool
+    ensures { result ≡ list_all (λ p. is_known (meaning_of p.1)) pairs.now }
+{
+    pairs.iter().all(|pair| pair.1.is_known())
+}
+
+// The values of a record that are known, by their keys.
+pub(crate) fn values_by_key(
+    alloc: Global,
+    pairs: Vec<(RcStr, Part)>,
+) -> Result<Vec<(RcStr, Value<NoExtension>)>, AllocError>
+    ensures { IfOk result (λ vs. vs.items ≡ filter_map held_pair pairs.items) }
+{
+    pairs
+        .into_iter()
+        .filter_map(|pair| value_by_key(pair))
+        .collect(alloc)
+}
+
+// A value that is known, with its key.
+fn value_by_key(pair: (RcStr, Part)) -> Option<(RcStr, Value<NoExtension>)>
+    ensures { result ≡ held_pair pair }
+{
+    let (key, part) = pair;
+    match part.into_value() {
+        Some(value) => Some((key, value)),
+        None => None,
+    }
+}
+
+// The expressions of a record's values, by their keys.
+pub(crate) fn fields_of(alloc: Global, pairs: Vec<(RcStr, Part)>) -> Result<Fields, AllocError>
+    ensures keys { IfOk result (λ f. keys_of f.pairs.items ≡ keys_of pairs.items) }
+    ensures trees { IfOk result (λ f. bare.fields_of (meant_pairs bare_expr f.pairs.items)
+        ≡ parts.fields_of_parts held_call (meant_pairs meaning_of pairs.items)) }
+{
+    let mut fields = Vec::with_capacity(alloc, pairs.len())?;
+    let mut calls_nothing = true;
+    for (key, part) in pairs {
+        let tree = part.into_tree(alloc)?;
+        calls_nothing &= tree.calls_nothing();
+        fields.push((key, tree.into_expr()))?;
+    }
+    Ok(Fields {
+        pairs: fields,
+        calls_nothing,
+    })
+}

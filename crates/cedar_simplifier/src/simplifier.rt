@@ -1,0 +1,290 @@
+//! The simplifier.
+ghost use Rattle.std.specs.Prelude.{◌≡◌, ⊤, IfErr, map};
+ghost use Rattle.cedar_names.specs.PlainNames.{bare_name};
+ghost use Rattle.cedar_builders.specs.Answers.{Gives, Means, never};
+ghost use Rattle.cedar_builders.specs.Errors.{OnDuplicateKey};
+ghost use Rattle.cedar_builders.specs.Keys.{HasRepeat, IsRising, keys_of, meant_pairs};
+ghost use Rattle.cedar_builders.specs.declared.expression_construction_errors.ExpressionConstructionError.TheVariants as error;
+ghost use Rattle.cedar_values.specs.Holders as held;
+ghost use Rattle.simplifications.specs.Parts as meant;
+ghost use Rattle.simplifications.specs.Simplifier.{simplifier_lawful, simplifier_ops};
+ghost use Rattle.cedar_simplifier.specs.Parts.{meaning_of};
+
+use crate::operations::{apply_one, apply_two, get, has, is_of_type, like};
+use crate::part::Part;
+use crate::rows::{are_known, fields_of, have_known, row_of, values_by_key, values_of};
+use crate::tree::Tree;
+use cedar_builders::{
+    BuildFault, ExprBuilder, ExprBuilderInfallibleBuild, ExpressionConstructionError,
+    LawfulExprBuilder,
+};
+use cedar_evaluator::operations::{record_of, set_of};
+use cedar_names::{Loc, Name, NonEmpty, SlotId};
+use cedar_terms::{BinaryOp, EntityType, Literal, Pattern, UnaryOp, Unknown, Var};
+use cedar_values::NoExtension;
+use std::alloc::{AllocError, Global};
+use std::convert::Infallible;
+use std::rc::RcStr;
+
+/// The builder that simplifies: of `1 + 1 == x` it makes `2 == x`, and of `1 + 1 == 2` the value
+/// `true`.
+///
+/// An operation on values that are known is the evaluator's, if that gives a value. Everything else
+/// is left, over what its operands were made: what is not known, what the evaluator has a fault
+/// for, and calls. An operand goes only where that changes no outcome: it has to be one that the
+/// evaluator does not choose, and hold no call, since a call in it would be refused. Of
+/// `true && right` the right side is made only where that can be nothing but a Boolean or a fault.
+///
+/// Nothing is refused. What it makes has no places.
+///
+/// ```rust
+/// fn simplified(alloc: Global, expr: &Expr) -> Result<Part, BuildFault<Infallible>> {
+///     expr.try_into_expr::<Simplifier>(alloc)
+/// }
+/// ```
+#[derive(Debug, Drop)]
+pub struct Simplifier;
+
+impl ExprBuilder for Simplifier {
+    type Expr = Part;
+
+    type Data = ();
+
+    type BuildError = Infallible;
+
+    // An expression means the tree of its value, or the tree that is left.
+    ghost Meaning = { meant.Part held.NoExtension };
+
+    // There is no error.
+    ghost Fault = { ⊥ };
+
+    ghost ops = { simplifier_ops ⟦<NoExtension as Ord>⟧.cmp ⟦<NoExtension as PartialEq>⟧.eq
+        held.held_call };
+
+    ghost meaning_of = { meaning_of };
+
+    ghost fault_of = { never };
+
+    fn new() -> Simplifier {
+        Simplifier
+    }
+
+    fn with_data(_data: ()) -> Simplifier {
+        Simplifier
+    }
+
+    fn loc(&self) -> Option<&Loc> {
+        None
+    }
+
+    fn data(&self) -> &() {
+        &()
+    }
+
+    fn with_maybe_source_loc(self, _source_loc: Option<Loc>) -> Simplifier {
+        self
+    }
+
+    fn val(self, _alloc: Global, literal: Literal) -> Result<Part, AllocError> {
+        Ok(Part::lit(literal))
+    }
+
+    fn var(self, _alloc: Global, var: Var) -> Result<Part, AllocError> {
+        Ok(Part::left(Tree::var(var)))
+    }
+
+    fn slot(self, _alloc: Global, slot: SlotId) -> Result<Part, AllocError> {
+        Ok(Part::left(Tree::slot(slot)))
+    }
+
+    fn unknown(self, _alloc: Global, unknown: Unknown) -> Result<Part, AllocError> {
+        Ok(Part::left(Tree::unknown(unknown)))
+    }
+
+    #[tactic(auto, using(crate::proofs::Branches::first_of, crate::proofs::Branches::second_of))]
+    fn ite(
+        self,
+        alloc: Global,
+        test_expr: Part,
+        then_expr: Part,
+        else_expr: Part,
+    ) -> Result<Part, AllocError> {
+        match test_expr.truth() {
+            Some(true) => {
+                if else_expr.calls_nothing() {
+                    Ok(then_expr)
+                } else {
+                    Part::left_if(alloc, test_expr, then_expr, else_expr)
+                }
+            }
+            Some(false) => {
+                if then_expr.calls_nothing() {
+                    Ok(else_expr)
+                } else {
+                    Part::left_if(alloc, test_expr, then_expr, else_expr)
+                }
+            }
+            None => Part::left_if(alloc, test_expr, then_expr, else_expr),
+        }
+    }
+
+    #[tactic(auto, using(crate::proofs::Branches::first_of, crate::proofs::Branches::second_of))]
+    fn and(self, alloc: Global, left: Part, right: Part) -> Result<Part, AllocError> {
+        match left.truth() {
+            Some(true) => {
+                if right.is_boolean() {
+                    Ok(right)
+                } else {
+                    Part::left_and(alloc, left, right)
+                }
+            }
+            Some(false) => {
+                if right.calls_nothing() {
+                    Ok(Part::lit(Literal::Bool(false)))
+                } else {
+                    Part::left_and(alloc, left, right)
+                }
+            }
+            None => Part::left_and(alloc, left, right),
+        }
+    }
+
+    #[tactic(auto, using(crate::proofs::Branches::first_of, crate::proofs::Branches::second_of))]
+    fn or(self, alloc: Global, left: Part, right: Part) -> Result<Part, AllocError> {
+        match left.truth() {
+            Some(true) => {
+                if right.calls_nothing() {
+                    Ok(Part::lit(Literal::Bool(true)))
+                } else {
+                    Part::left_or(alloc, left, right)
+                }
+            }
+            Some(false) => {
+                if right.is_boolean() {
+                    Ok(right)
+                } else {
+                    Part::left_or(alloc, left, right)
+                }
+            }
+            None => Part::left_or(alloc, left, right),
+        }
+    }
+
+    #[tactic(auto, using(crate::proofs::KnownParts::made_known, crate::proofs::KnownParts::made_left))]
+    fn unary_app(self, alloc: Global, op: UnaryOp, arg: Part) -> Result<Part, AllocError> {
+        match apply_one(op, &arg) {
+            Some(literal) => Ok(Part::lit(literal)),
+            None => Part::left_unary(alloc, op, arg),
+        }
+    }
+
+    #[tactic(auto, using(crate::proofs::KnownParts::made_known, crate::proofs::KnownParts::made_left))]
+    fn binary_app(
+        self,
+        alloc: Global,
+        op: BinaryOp,
+        arg1: Part,
+        arg2: Part,
+    ) -> Result<Part, AllocError> {
+        match apply_two(op, &arg1, &arg2) {
+            Some(literal) => Ok(Part::lit(literal)),
+            None => Part::left_binary(alloc, op, arg1, arg2),
+        }
+    }
+
+    fn call_extension_fn(
+        self,
+        alloc: Global,
+        fn_name: Name,
+        args: Vec<Part>,
+    ) -> Result<Part, BuildFault<Infallible>>
+        ensures { Gives meaning_of never
+            (⟦<Simplifier as ExprBuilder>⟧.ops.call_of (bare_name fn_name)
+            (map meaning_of args.items)) result }
+    {
+        let row = row_of(alloc, args)?;
+        Ok(Part::left(Tree::call(alloc, fn_name, row)?))
+    }
+
+    #[tactic(auto, using(crate::proofs::KnownParts::made_known, crate::proofs::KnownParts::made_left))]
+    fn get_attr(self, alloc: Global, expr: Part, attr: RcStr) -> Result<Part, AllocError> {
+        match get(alloc, &expr, &attr)? {
+            Some(value) => Ok(Part::known(value)),
+            None => Part::left_get(alloc, expr, attr),
+        }
+    }
+
+    #[tactic(auto, using(crate::proofs::KnownParts::made_known, crate::proofs::KnownParts::made_left))]
+    fn extended_has_attr(
+        self,
+        alloc: Global,
+        expr: Part,
+        attrs: NonEmpty<RcStr>,
+    ) -> Result<Part, AllocError> {
+        match has(&expr, &attrs) {
+            Some(literal) => Ok(Part::lit(literal)),
+            None => Part::left_has(alloc, expr, attrs),
+        }
+    }
+
+    #[tactic(auto, using(crate::proofs::KnownParts::made_known, crate::proofs::KnownParts::made_left))]
+    fn like(self, alloc: Global, expr: Part, pattern: Pattern) -> Result<Part, AllocError> {
+        match like(&expr, &pattern) {
+            Some(literal) => Ok(Part::lit(literal)),
+            None => Part::left_like(alloc, expr, pattern),
+        }
+    }
+
+    #[tactic(auto, using(crate::proofs::KnownParts::made_known, crate::proofs::KnownParts::made_left))]
+    fn is_entity_type(
+        self,
+        alloc: Global,
+        expr: Part,
+        entity_type: EntityType,
+    ) -> Result<Part, AllocError> {
+        match is_of_type(&expr, &entity_type) {
+            Some(literal) => Ok(Part::lit(literal)),
+            None => Part::left_is(alloc, expr, entity_type),
+        }
+    }
+
+    fn set(self, alloc: Global, members: Vec<Part>) -> Result<Part, AllocError>
+        ensures { Means meaning_of
+            (⟦<Simplifier as ExprBuilder>⟧.ops.set_of (map meaning_of members.items)) result }
+    {
+        if are_known(&members) {
+            let values = values_of(alloc, members)?;
+            return Ok(Part::known(set_of(alloc, values)?));
+        }
+        let row = row_of(alloc, members)?;
+        Ok(Part::left(Tree::set(alloc, row)?))
+    }
+
+    fn record(
+        self,
+        alloc: Global,
+        pairs: Vec<(RcStr, Part)>,
+    ) -> Result<Part, ExpressionConstructionError>
+        ensures means { IsRising (keys_of pairs.items)
+            → Means meaning_of
+            (⟦<Simplifier as ExprBuilder>⟧.ops.record_of (meant_pairs meaning_of pairs.items))
+            result }
+        ensures accepts { IsRising (keys_of pairs.items) → IfErr result (λ e. e ≡ error.Memory) }
+        ensures refuses { IfErr result (OnDuplicateKey (λ _. HasRepeat (keys_of pairs.items))) }
+    {
+        if have_known(&pairs) {
+            let values = values_by_key(alloc, pairs)?;
+            return Ok(Part::known(record_of(alloc, values)?));
+        }
+        let fields = fields_of(alloc, pairs)?;
+        Ok(Part::left(Tree::record(alloc, fields)?))
+    }
+}
+
+impl ExprBuilderInfallibleBuild for Simplifier {}
+
+// Substitution can be moved past it.
+impl LawfulExprBuilder for Simplifier {
+    ghost lawful = { simplifier_lawful ⟦<NoExtension as Ord>⟧.cmp ⟦<NoExtension as PartialEq>⟧.eq
+        held.held_call };
+}
