@@ -31,10 +31,11 @@ fn any_reserved(ids: &[Id]) -> bool
     ids.iter().any(|id| id.is_reserved())
 }
 
-fn clone_path(alloc: Global, path: &[Id]) -> Result<Vec<Id>, AllocError>
+// A copy of the path, with room for so many identifiers more.
+fn clone_path(alloc: Global, path: &[Id], further: usize) -> Result<Vec<Id>, AllocError>
     ensures { IfOk result (λ v. v.items ≡ path.now) }
 {
-    let mut copy = Vec::new(alloc);
+    let mut copy = Vec::with_capacity(alloc, path.len().saturating_add(further))?;
     for id in path {
         copy.push(id.clone(alloc)?)?;
     }
@@ -192,7 +193,7 @@ impl InternalName {
     {
         match namespace {
             Some(namespace) if self.is_unqualified() => {
-                let mut path = clone_path(alloc, namespace.path())?;
+                let mut path = clone_path(alloc, namespace.path(), 1)?;
                 path.push(namespace.basename.clone(alloc)?)?;
                 let basename = self.basename.clone(alloc)?;
                 let loc = Loc::clone_option(alloc, self.loc())?;
@@ -240,7 +241,7 @@ impl InternalName {
         ensures place { IfOk result (λ n. internal_name_place n ≡ internal_name_place self.now) }
     {
         let basename = self.basename.clone(alloc)?;
-        let path = clone_path(alloc, self.path())?;
+        let path = clone_path(alloc, self.path(), 0)?;
         let loc = Loc::clone_option(alloc, self.loc())?;
         Ok(InternalName::new(basename, path, loc))
     }
