@@ -22,9 +22,6 @@ pub record IsAttempt (p : List PatternElem) (t : List ℕ) (seen : Bool) (rp : L
   pub text_passed : rt ≡ passed ++ u
   pub answer : cond seen (some_end (matches rp) rt) (matches rp rt) ≡ matches p t
 
-pub IsAttempt-start : (p : List PatternElem) (t : List ℕ) → IsAttempt p t false p t p t
-IsAttempt-start p t = record { passed = []; pattern_passed = refl; text_passed = refl; answer = refl }
-
 literal-push : (s : List ℕ) (c : ℕ) (q : List PatternElem) → literal s ++ (Char c ∷ q) ≡ literal (s ++ (c ∷ [])) ++ q
 literal-push [] c q = refl
 literal-push (d ∷ s) c q = ap (λ x. Char d ∷ x) (literal-push s c q)
