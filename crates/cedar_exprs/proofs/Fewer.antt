@@ -1,5 +1,5 @@
 -- Steps of a drop.
-use Rattle.std.proofs.Common.{◌≡◌, ℕ, ◌+◌, ◌*◌, ◌≤◌, ◌<◌, suc, refl, sym, ap, ◌∙◌, arith, Global, List, [], ◌∷◌, ◌++◌, length, slice_index_or, slice_set, true, false, Equal, Some, subst, BTreeMap, Vec}
+use Rattle.std.proofs.Common.{◌≡◌, ℕ, ◌+◌, ◌*◌, ◌≤◌, ◌<◌, suc, refl, sym, ap, ◌∙◌, arith, Global, List, [], ◌∷◌, ◌++◌, length, slice_index_or, slice_set, true, false, Equal, Option, Some, None, IfSome, subst, BTreeMap, Vec}
 use Rattle.std.proofs.Math.Nat.{mul-le-mul_right, suc-mul}
 use Rattle.std.proofs.lemmas.Bool.{false≢true}
 use Rattle.std.proofs.lemmas.Cmp.{nat_list_cmp_total, tied_itself}
@@ -8,7 +8,7 @@ use Rattle.std.specs.List.{slice_get}
 use Rattle.std.specs.Map.{keys_of, values_of}
 use Rattle.std.specs.Option.{is_some, unwrap_or}
 use Rattle.std.specs.Ordering.{match_ordering}
-use Rattle.std.specs.Rc.{rc_with_value, rc_str_bytes}
+use Rattle.std.specs.Rc.{rc_str_bytes}
 use Rattle.std.specs.declared.rc.Rc.{Rc}
 use Rattle.std.specs.declared.rc.RcStr.{RcStr}
 use Rattle.cedar_names.specs.declared.plain_name.Name.{Name}
@@ -16,7 +16,8 @@ use Rattle.cedar_builders.specs.Count.{count, count_is, sum, one_more}
 use Rattle.cedar_builders.specs.Walks.{walk_all, walk_fields}
 use Rattle.cedar_builders.specs.BareExpr.{BareExpr}
 use Rattle.cedar_exprs.specs.BareExpr.{ExprKind, node_step, bare_expr, bare_expr_kind, bare_exprs, bare_fields, kind_of}
-use Rattle.cedar_exprs.specs.Steps.{nodes, kind_nodes, row_nodes, field_nodes}
+use Rattle.cedar_exprs.specs.Steps.{nodes, kind_nodes, row_nodes, field_nodes, below_nodes, if_row}
+use Rattle.cedar_exprs.specs.declared.below.Below.{Below}
 use Rattle.cedar_exprs.specs.declared.expr.Expr.{Expr, Expr-F, roll-Expr, out-roll-Expr, fold-roll-Expr}
 use Rattle.cedar_exprs.specs.declared.expr.KindOf.TheVariants as kind
 use Rattle.cedar_exprs.proofs.Records.{text_cmp, bare_kind_of}
@@ -60,13 +61,6 @@ module _ {T : Type 0} where
   pub has_nodes : (e : Expr T) → 0 < nodes e
   has_nodes e = let is = count_is (bare_expr e) in omega (arith, is)
 
-  -- a set and a record whose items were written
-  pub written_set : (es : Rc (Vec (Expr T) Global) Global) (v : Vec (Expr T) Global) → kind_nodes (kind.Set (rc_with_value es v)) ≡ suc (row_nodes v.items)
-  written_set es v = set_nodes _ (rc_with_value es v) refl
-
-  pub written_record : (es : Rc (BTreeMap (RcStr Global) (Expr T)) Global) (m : BTreeMap (RcStr Global) (Expr T)) → kind_nodes (kind.Record (rc_with_value es m)) ≡ suc (field_nodes m.entries)
-  written_record es m = record_nodes _ (rc_with_value es m) refl
-
   row-snoc : (es : List (Expr T)) (e : Expr T) → row_nodes (es ++ e ∷ []) ≡ row_nodes es + nodes e
   row-snoc [] e = omega arith
   row-snoc (x ∷ es) e = omega (arith, row-snoc es e)
@@ -97,17 +91,15 @@ module _ {T : Type 0} where
   first_fits [] e old some at is = omega (arith, some)
   first_fits (x ∷ es) e old some at is = let here = nodes_of e old is in let same : nodes e ≡ nodes x = ap nodes at in omega (arith, here, same)
 
-  -- what is left of such a row, where the first member was a leaf
-  pub first_dropped : (es : List (Expr T)) (e : Expr T) (old : ExprKind T) (n : Expr-F T (Expr T)) (m w : ℕ) → 0 < length es → e ≡ slice_index_or es 0 e → old ≡ kind_of e → kind_nodes n.expr_kind ≡ w → m ≤ row_nodes (slice_set es 0 (roll-Expr T n)) → m < row_nodes es + w
-  first_dropped es e old n m w some at is put within = let all = first_written es e old n some at is in let one = some_nodes old in omega (arith, all, one, put, within)
+  -- the kind of the first member, and the row where its place was taken
+  pub first_put : (es : List (Expr T)) (e : Expr T) (old : ExprKind T) (n : Expr-F T (Expr T)) (w : ℕ) → 0 < length es → e ≡ slice_index_or es 0 e → old ≡ kind_of e → kind_nodes n.expr_kind ≡ w
+      → (kind_nodes old ≤ row_nodes es) × (kind_nodes old + row_nodes (slice_set es 0 (roll-Expr T n)) ≡ row_nodes es + w)
+  first_put es e old n w some at is put = (first_fits es e old some at is, first_written es e old n some at is ∙ ap (λ k. row_nodes es + k) put)
 
-  -- the first member and such a row
-  pub first_taken : (es : List (Expr T)) (e : Expr T) (old : ExprKind T) (n : Expr-F T (Expr T)) (b w : ℕ) → 0 < length es → e ≡ slice_index_or es 0 e → old ≡ kind_of e → b ≡ kind_nodes old → kind_nodes n.expr_kind ≡ w
-      → (b ≤ row_nodes es) × (b + row_nodes (slice_set es 0 (roll-Expr T n)) ≤ row_nodes es + w)
-  first_taken es e old n b w some at is part put =
-      let all = first_written es e old n some at is in
-      let fits = first_fits es e old some at is in
-      (omega (arith, fits, part), omega (arith, all, part, put))
+  -- what was taken off, if anything, and what is left
+  pub with_last : (last : Option (Below T)) (n m : ℕ) → IfSome last (λ b. below_nodes b + n ≤ m) → n ≤ m → if_row last + n ≤ m
+  with_last None n m taken rest = omega (arith, rest)
+  with_last (Some b) n m taken rest = taken
 
   pub one_pair_off : (all es : List (RcStr Global × Expr T)) (k : RcStr Global) (e : Expr T) → all ≡ (k, e) ∷ es → field_nodes all ≡ field_nodes es + nodes e
   one_pair_off all es k e is = let here = ap field_nodes is in omega (arith, here)

@@ -14,6 +14,7 @@ pub mod NotRestrictedLemmas
 pub mod RecordKeys
 pub mod Running
 pub mod Stacks
+pub mod Counts
 pub mod ShapeWalks
 pub mod RestrictedCalls
 pub mod Branches

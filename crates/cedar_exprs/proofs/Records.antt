@@ -1,10 +1,6 @@
 -- The bare fields of a map, and of a record.
-use Rattle.std.proofs.Common.{◌≡◌, List, [], ◌∷◌, ◌++◌, map, Ordering, Less, Greater, nat_cmp, Global, refl, ap, sym, subst, ◌∙◌, BTreeMap, Result, Ok, Err, IfErr}
-use Rattle.std.proofs.lemmas.Cmp.{nat_list_cmp_total}
+use Rattle.std.proofs.Common.{◌≡◌, List, [], ◌∷◌, map, Ordering, nat_cmp, Global, refl, ap, sym, subst, ◌∙◌, BTreeMap, Result, Ok, Err, IfErr}
 use Rattle.std.specs.Cmp.Lexicographic.{slice_cmp}
-use Rattle.std.specs.List.{AllByRecursion}
-use Rattle.std.specs.Map.{keys_of}
-use Rattle.std.specs.Ordering.{ordering_reverse}
 use Rattle.std.specs.Rc.{rc_str_bytes}
 use Rattle.std.specs.Result.{IsErrAnd}
 use Rattle.std.specs.declared.rc.Rc.{Rc}
@@ -38,14 +34,6 @@ bare_at e k is = bare_kind_of e ∙ ap bare_expr_kind is
 -- the bare tree of an expression that is known to be a record
 pub bare_at_record : {T : Type 0} (e : Expr T) (m : Rc (BTreeMap (RcStr Global) (Expr T)) Global) → kind_of e ≡ RecordOf m → bare_expr e ≡ Record (bare_fields m.value.entries)
 bare_at_record e m = bare_at e (RecordOf m)
-
-below_later : {T : Type 0} (first : Entry T) (es : List (Entry T)) (e : Entry T) (more : List (Entry T)) → AllByRecursion (λ y. text_cmp first.0 y ≡ Less) (keys_of (es ++ e ∷ more)) → text_cmp first.0 e.0 ≡ Less
-below_later first [] e more h = h.0
-below_later first (x ∷ es) e more h = below_later first es e more h.1
-
--- a key is above each key that stands before it
-pub above_first : {T : Type 0} (first : Entry T) (es : List (Entry T)) (e : Entry T) (more : List (Entry T)) → AllByRecursion (λ y. text_cmp first.0 y ≡ Less) (keys_of (es ++ e ∷ more)) → text_cmp e.0 first.0 ≡ Greater
-above_first first es e more h = nat_list_cmp_total.antisymm (rc_str_bytes e.0) (rc_str_bytes first.0) ∙ ap ordering_reverse (below_later first es e more h)
 
 -- the fields and the values of a map, by its pairs with their keys as texts
 pub fields-keyed : {T : Type 0} (es : List (Entry T)) → bare_fields es ≡ fields_of (map (λ p. (p.0, bare_expr p.1)) (keyed es))

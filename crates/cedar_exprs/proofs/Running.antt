@@ -7,10 +7,13 @@ use Rattle.cedar_builders.specs.Count.{count, total, count_is}
 use Rattle.cedar_builders.specs.Fold.{on_one, on_two, and_then}
 use Rattle.cedar_builders.specs.NodeByNode.{gathered, strict_at, IsMadeByNodes}
 use Rattle.cedar_builders.specs.Walks.{children}
-use Rattle.cedar_exprs.specs.Machine.{BareTask, to_visit, to_make, visits, bare_tasks, bare_task, Takes, IsMade, IsAnswer}
+use Rattle.cedar_exprs.specs.Machine.{BareTask, to_visit, to_make, visits, bare_tasks, bare_task, children_of, last_first, Takes, IsMade, IsAnswer}
+use Rattle.cedar_exprs.specs.BareExpr.{bare_expr}
+use Rattle.cedar_exprs.specs.declared.expr.Expr.{Expr}
 use Rattle.cedar_exprs.specs.declared.machine.Task.{Task}
 use Rattle.cedar_exprs.specs.declared.machine.WalkFault.{WalkFault}
 use Rattle.cedar_exprs.specs.declared.machine.WalkFault.TheVariants.{Refused, Memory}
+use Rattle.cedar_exprs.proofs.BareWalks.{children_bare}
 
 -- the steps that tasks still take
 abbrev pub steps : List BareTask → ℕ
@@ -42,13 +45,6 @@ module _ {M F : Type 0} (f : BareExpr → Result M F) (root : BareExpr) where
   Fits [] rs = (m : M) × (rs ≡ m ∷ []) × (f root ≡ Ok m)
   Fits (to_visit e ∷ ts) rs = After (f e) (λ m. Fits ts (rs ++ m ∷ []))
   Fits (to_make e ∷ ts) rs = (base : List M) × (ms : List M) × (rs ≡ base ++ ms) × (gathered f (children e) ≡ Ok ms) × After (f e) (λ m. Fits ts (base ++ m ∷ []))
-
-  begun : (r : Result M F) → f root ≡ r → After r (λ m. Fits [] ([] ++ m ∷ []))
-  begun (Ok m) is = (m, refl, is)
-  begun (Err x) is = is
-
-  pub fits_first : Fits (to_visit root ∷ []) []
-  fits_first = begun (f root) refl
 
   shifted : (g : Result (List M) F) (ts : List BareTask) (rs : List M) (m : M) → After (on_one (λ ms. m ∷ ms) g) (λ ms. Fits ts (rs ++ ms)) → After g (λ ms. Fits ts ((rs ++ m ∷ []) ++ ms))
   shifted (Ok ms) ts rs m h = subst (Fits ts) (sym (append_assoc rs (m ∷ []) ms)) h
@@ -191,18 +187,16 @@ module _ {M F : Type 0} (f : BareExpr → Result M F) (root : BareExpr) (all ts 
   pub leaf_ends : (new : List X) (x : F) → Takes (length (children e)) (λ last. IsMadeOf e (map g last) (Err x)) done new → f root ≡ Err x
   leaf_ends = make_ends f root (ts ++ to_make e ∷ []) ts e g done refl made_at_once law
 
--- at the end there is one result
-pub one_left : {X M F : Type 0} (f : BareExpr → Result M F) (root : BareExpr) (g : X → M) (done : List X) → Fits f root [] (map g done) → (x : X) × (done ≡ x ∷ []) × (f root ≡ Ok (g x))
-one_left f root g [] h = cc
-one_left f root g (x ∷ []) h = let same : h.0 ≡ g x = cc in (x, refl, h.2 ∙ ap Ok same)
-one_left f root g (x ∷ y ∷ done) h = cc
-
 -- the tasks with one on top
 pub snoc_tasks : {T : Type 0} (all ts : List (Task T)) (t u : Task T) → all ≡ ts ++ t ∷ [] → t ≡ u → bare_tasks all ≡ bare_tasks ts ++ bare_task u ∷ []
 snoc_tasks all ts t u was is = ap bare_tasks was ∙ map-append bare_task ts (t ∷ []) ∙ ap (λ v. bare_tasks ts ++ bare_task v ∷ []) is
 
 pub snoc_then : {T : Type 0} (all ts : List (Task T)) (t : Task T) (more next : List BareTask) → all ≡ ts ++ t ∷ [] → next ≡ bare_tasks all ++ more → next ≡ (bare_tasks ts ++ bare_task t ∷ []) ++ more
 snoc_then all ts t more next was is = is ∙ ap (λ us. us ++ more) (snoc_tasks all ts t t was refl)
+
+-- tasks for the children of an expression are tasks for those of its tree
+pub below : {T : Type 0} (all ts : List BareTask) (e : Expr T) → all ≡ ts ++ last_first (children_of e) → all ≡ ts ++ reverse (visits (children (bare_expr e)))
+below all ts e is = is ∙ ap (λ es. ts ++ reverse (visits es)) (children_bare e)
 
 -- a refusal ends the walk
 pub refusal_ends : {X R M F : Type 0} (f : BareExpr → Result M F) (root : BareExpr) (g : X → M) (h : R → F) (IsMadeOf : List M → Result M F → Type 0) (n : ℕ) (all rest : List X) (fault : WalkFault R) (answer : Result X (WalkFault R))

@@ -1,10 +1,10 @@
 -- Stacks of expressions: what they still give, and the entries that they need.
-use Rattle.std.proofs.Common.{◌≡◌, ℕ, ◌+◌, ◌≤◌, ◌-◌, ◌^◌, ◌∷◌, min, max, List, [], ◌++◌, map, length, refl, sym, ap, ◌∙◌, subst, arith, append_assoc, append-nil}
+use Rattle.std.proofs.Common.{◌≡◌, ℕ, ◌+◌, ◌≤◌, ◌∷◌, max, List, [], ◌++◌, map, length, refl, sym, ap, ◌∙◌, subst, arith, append_assoc, append-nil}
 use Rattle.std.proofs.lemmas.List.{length-append, length-map}
 use Rattle.cedar_builders.specs.Walks as bare
 use Rattle.cedar_builders.specs.Walks.{backward, need, need_from}
 use Rattle.cedar_exprs.specs.BareExpr.{bare_expr}
-use Rattle.cedar_exprs.specs.Walks.{children, positions, referents, given_by, needs, need_of, capped}
+use Rattle.cedar_exprs.specs.Walks.{children, positions, referents, given_by, needs, need_of}
 use Rattle.cedar_exprs.specs.declared.expr.Expr.{Expr}
 use Rattle.cedar_exprs.proofs.BareWalks.{children_bare}
 use Rattle.cedar_exprs.proofs.Walks.{walk_is}
@@ -50,7 +50,7 @@ module _ {T : Type 0} where
   needs_one e = subst (λ n. 1 ≤ n) (sym (need_is e)) (some_needed 0 (needs (children e)))
 
   -- each needs a place of its own
-  placed : (i : ℕ) (es : List (Expr T)) → i + length es ≤ max i (need_from i (needs es))
+  pub placed : (i : ℕ) (es : List (Expr T)) → i + length es ≤ max i (need_from i (needs es))
   placed i [] = omega arith
   placed i (e ∷ es) =
       let one = needs_one e in
@@ -130,28 +130,3 @@ module _ {T : Type 0} (all left : List (Bor (Expr T))) (e : Bor (Expr T)) (poppe
 
   pub gives_top : (next : List (Expr T)) → next ≡ referents left ++ children e.now → given_by (referents all) ≡ e.now ∷ given_by next
   gives_top next is = ap given_by all_shown ∙ gives_node (referents left) e.now ∙ ap (λ es. e.now ∷ given_by es) (sym is)
-
--- ---- the count of entries, a child at a time: the greatest so far, those before, and what a child needs
-
-pub begun : (ns : List ℕ) → capped (max 1 (need_from 0 ns)) ≡ capped (need_from 0 ns)
-begun ns = omega (arith, some_needed 0 ns)
-
-pub ended : (g w : ℕ) → 1 ≤ g → g ≤ 2 ^ 64 - 1 → capped (max g 1) ≡ capped w → g ≡ capped w
-ended g w one fits h = omega (arith, one, fits, h)
-
-grows : (i j : ℕ) (ns : List ℕ) → need_from j ns ≤ need_from (i + j) ns
-grows i j [] = omega arith
-grows i j (n ∷ ns) =
-    let rest : need_from (j + 1) ns ≤ need_from (i + (j + 1)) ns = grows i (j + 1) ns in
-    let same : i + (j + 1) ≡ i + j + 1 = omega arith in
-    let rest' : need_from (j + 1) ns ≤ need_from (i + j + 1) ns = subst (λ k. need_from (j + 1) ns ≤ need_from k ns) same rest in
-    omega (arith, rest')
-
--- where so many wait that the next number would be too great, all that is left is capped
-pub turn : (g b n : ℕ) (ns : List ℕ) (g' b' : ℕ) → b ≤ 2 ^ 64 - 1 → g' ≡ max g (min (b + capped n) (2 ^ 64 - 1)) → b' ≡ min (b + 1) (2 ^ 64 - 1) → capped (max g' (need_from b' ns)) ≡ capped (max g (need_from b (n ∷ ns)))
-turn g b n ns g' b' fits greatest before =
-    let over : ℕ = b + 1 - b' in
-    let same : over + b' ≡ b + 1 = omega (arith, before) in
-    let less : need_from b' ns ≤ need_from (b + 1) ns = subst (λ k. need_from b' ns ≤ need_from k ns) same (grows over b' ns) in
-    let more : need_from (b + 1) ns ≤ over + need_from b' ns = subst (λ k. need_from k ns ≤ over + need_from b' ns) same (shifted over b' ns) in
-    omega (arith, fits, greatest, before, less, more)

@@ -15,3 +15,4 @@ pub mod TypedFaults
 pub mod Iterators
 pub mod ShapeOnly
 pub mod Waiting
+pub mod Entries

@@ -1,7 +1,9 @@
 -- Walks by tasks: what a task asks for, what one step does, and what a walk answers.
-use Rattle.std.specs.Prelude.{◌≡◌, ⊤, ℕ, List, ◌++◌, length, map, Result, Ok, Err}
+use Rattle.std.specs.Prelude.{◌≡◌, ⊤, ℕ, List, ◌++◌, length, map, reverse, Result, Ok, Err}
 use Rattle.cedar_builders.specs.BareExpr.{BareExpr}
 use Rattle.cedar_exprs.specs.BareExpr.{bare_expr}
+use Rattle.cedar_exprs.specs.Walks.{children}
+use Rattle.cedar_exprs.specs.declared.expr.Expr.{Expr}
 use Rattle.cedar_exprs.specs.declared.machine.Task.{Task}
 use Rattle.cedar_exprs.specs.declared.machine.Task.TheVariants.{Visit, Make}
 use Rattle.cedar_exprs.specs.declared.machine.WalkFault.{WalkFault}
@@ -21,6 +23,13 @@ bare_tasks = map bare_task
 
 abbrev pub visits : List BareExpr → List BareTask
 visits = map to_visit
+
+-- to walk over expressions, the last first
+abbrev pub last_first : {T : Type 0} → List (Expr T) → List BareTask
+last_first es = reverse (visits (map bare_expr es))
+
+abbrev pub children_of : {T : Type 0} → Expr T → List (Expr T)
+children_of = children
 
 -- the answer is what is wanted, its meaning or its refusal's, want of memory aside
 abbrev pub IsAnswer : {X R M F : Type 0} → (X → M) → (R → F) → Result M F → Result X (WalkFault R) → Type 0

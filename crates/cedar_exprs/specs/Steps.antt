@@ -1,13 +1,13 @@
 -- Steps of a drop, by the nodes that they leave.
-use Rattle.std.specs.Prelude.{ℕ, ◌+◌, ◌<◌, ◌≤◌, suc, ⊤, Bool, true, false, List, [], ◌∷◌, Option, Some, None, IfSome}
+use Rattle.std.specs.Prelude.{◌≡◌, ℕ, ◌+◌, ◌<◌, ◌≤◌, suc, ⊤, Bool, true, false, List, [], ◌∷◌, Option, Some, None, IfSome, Result, Ok, Err}
 use Rattle.std.specs.Global.{Global}
 use Rattle.std.specs.declared.rc.Rc.{Rc}
 use Rattle.std.specs.declared.rc.RcStr.{RcStr}
 use Rattle.cedar_builders.specs.Count.{count}
 use Rattle.cedar_exprs.specs.BareExpr.{ExprKind, bare_expr, bare_expr_kind}
 use Rattle.cedar_exprs.specs.declared.expr.Expr.{Expr}
-use Rattle.cedar_exprs.specs.declared.dropping.Below.{Below}
-use Rattle.cedar_exprs.specs.declared.dropping.Item.{Item}
+use Rattle.cedar_exprs.specs.declared.below.Below.{Below}
+use Rattle.cedar_exprs.specs.declared.row_items.Item.{Item}
 use Rattle.cedar_exprs.specs.declared.expr.KindOf.{KindOf}
 use Rattle.cedar_exprs.specs.declared.dropping.Left.{Left}
 use Rattle.cedar_exprs.specs.declared.dropping.Step.{Step}
@@ -58,6 +58,11 @@ abbrev pub IsItem : {T : Type 0} → ℕ → ℕ → ℕ → Item T → Type 0
 IsItem m w n (Item.Of b) = (below_nodes b ≤ m) × (below_nodes b + n ≤ m + w)
 IsItem m w n (Item.After b) = below_nodes b + n < m + w
 IsItem m w n (Item.None rows) = if_row rows + n ≤ m + w
+
+-- from a row of m nodes to one of n, into which w were put: the kind whose place they took, or they themselves
+abbrev pub IsPut : {T : Type 0} → ℕ → ℕ → ℕ → Result (ExprKind T) (Below T) → Type 0
+IsPut m w n (Ok old) = (kind_nodes old ≤ m) × (kind_nodes old + n ≡ m + w)
+IsPut m w n (Err next) = (below_nodes next ≡ w) × (n ≡ m)
 
 -- the nodes of all that is left
 abbrev pub all_nodes : {T : Type 0} → Left T → ℕ

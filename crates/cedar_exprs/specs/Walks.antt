@@ -1,5 +1,5 @@
 -- Walks over whole expressions, with their places and data.
-use Rattle.std.specs.Prelude.{ℕ, ◌-◌, ◌^◌, min, List, [], ◌∷◌, map}
+use Rattle.std.specs.Prelude.{ℕ, List, [], ◌∷◌, map}
 use Rattle.cedar_builders.specs.Walks.{forward, backward, need, need_from}
 use Rattle.cedar_exprs.specs.BareExpr.{ExprKind, bare_expr, kind_of}
 use Rattle.cedar_exprs.specs.declared.expr.Expr.{Expr, Expr-F, para-Expr, roll-Expr}
@@ -65,7 +65,3 @@ needs es = map need (map bare_expr es)
 
 abbrev pub need_of : {T : Type 0} → List (Expr T) → ℕ
 need_of es = need_from 0 (needs es)
-
--- a number, or the greatest `usize` where that is less
-abbrev pub capped : ℕ → ℕ
-capped n = min (2 ^ 64 - 1) n

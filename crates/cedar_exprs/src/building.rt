@@ -108,6 +108,7 @@ impl<T, B: ExprBuilder> Walk<T> for Building<B> {
 
     ghost is_made_of = { λ _ e. IsBuiltOf B.ops (own B.ops) e };
 
+    #[inline(always)]
     fn make(
         &self,
         alloc: Global,

@@ -1,6 +1,6 @@
 //! The children of an expression.
 ghost use Rattle.std.specs.Prelude.{◌≡◌, ◌++◌};
-ghost use Rattle.std.specs.Iterator.{YieldsFirstRef, YieldsLastRef, item_count};
+ghost use Rattle.std.specs.Iterator.{YieldsFirstRef, item_count};
 ghost use Rattle.cedar_builders.specs.RisingKeys.{NodeKeysRise};
 ghost use Rattle.cedar_exprs.specs.BareExpr.{bare_expr};
 ghost use Rattle.cedar_exprs.specs.Walks.{children};
@@ -11,8 +11,7 @@ use std::collections::btree_map;
 use std::rc::RcStr;
 use std::slice;
 
-// The children of an expression in field order, the values of a record by key. They are read from
-// both ends.
+// The children of an expression in field order, the values of a record by key.
 #[derive(Drop)]
 pub(crate) enum Children<'a, T> {
     // Those of a node with a fixed number of them.
@@ -91,18 +90,6 @@ impl<'a, T> Few<'a, T> {
         }
         self.third.take()
     }
-
-    fn take_last(&mut self) -> Option<&'a Expr<T>>
-        ensures { YieldsLastRef few_left self.old result self.new }
-    {
-        if self.third.is_some() {
-            return self.third.take();
-        }
-        if self.second.is_some() {
-            return self.second.take();
-        }
-        self.first.take()
-    }
 }
 
 impl<'a, T> Iterator for Children<'a, T> {
@@ -117,18 +104,6 @@ impl<'a, T> Iterator for Children<'a, T> {
             Children::Few(few) => few.take_first(),
             Children::Row(rest) => rest.next(),
             Children::Values(rest) => rest.next(),
-        }
-    }
-}
-
-impl<'a, T> DoubleEndedIterator for Children<'a, T> {
-    ghost next_back_gives = { YieldsLastRef children_left };
-
-    fn next_back(&mut self) -> Option<&'a Expr<T>> {
-        match self {
-            Children::Few(few) => few.take_last(),
-            Children::Row(rest) => rest.next_back(),
-            Children::Values(rest) => rest.next_back(),
         }
     }
 }

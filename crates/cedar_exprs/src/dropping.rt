@@ -1,5 +1,5 @@
 //! How an expression is dropped.
-ghost use Rattle.std.specs.Prelude.{◌≡◌, ℕ, ◌+◌, ◌<◌, ◌≤◌, suc, IsTrue, IfSome};
+ghost use Rattle.std.specs.Prelude.{◌≡◌, ℕ, ◌+◌, ◌<◌, ◌≤◌, suc, IfSome};
 ghost use Rattle.cedar_exprs.specs.Steps.{
   nodes,
   kind_nodes,
@@ -9,13 +9,13 @@ ghost use Rattle.cedar_exprs.specs.Steps.{
   row_nodes,
   field_nodes,
   all_nodes,
-  is_leaf,
-  IsItem,
   IsStep,
 };
 
+use crate::below::{Below, drop_leaf, strip};
 use crate::expr::{Expr, ExprKind};
-use cedar_terms::{UnaryOp, Var};
+use crate::row_items::{Item, last_branch, last_branch_value, take_item, take_value};
+use cedar_terms::UnaryOp;
 use std::collections::BTreeMap;
 use std::mem;
 use std::rc::{Rc, RcStr};
@@ -23,87 +23,6 @@ use std::rc::{Rc, RcStr};
 // Drops a kind with all that it alone owns.
 pub(crate) fn drop_kind<T: Drop>(kind: ExprKind<T>) {
     drop_below(strip(kind));
-}
-
-// What stands below a node that is done with.
-enum Below<T> {
-    Nothing,
-    One(Rc<Expr<T>>),
-    Two(Rc<Expr<T>>, Rc<Expr<T>>),
-    Three(Rc<Expr<T>>, Rc<Expr<T>>, Rc<Expr<T>>),
-    Row(Rc<Vec<Expr<T>>>),
-    Fields(Rc<BTreeMap<RcStr, Expr<T>>>),
-}
-
-// Drops all of a kind but what stands below it.
-#[inline(never)]
-fn strip<T: Drop>(kind: ExprKind<T>) -> Below<T>
-    ensures { below_nodes result ≡ kind_nodes kind }
-{
-    match kind {
-        ExprKind::Lit(literal) => {
-            drop(literal);
-            Below::Nothing
-        }
-        ExprKind::Var(_) => Below::Nothing,
-        ExprKind::Slot(_) => Below::Nothing,
-        ExprKind::Unknown(unknown) => {
-            drop(unknown);
-            Below::Nothing
-        }
-        ExprKind::If {
-            test_expr,
-            then_expr,
-            else_expr,
-        } => Below::Three(test_expr, then_expr, else_expr),
-        ExprKind::And { left, right } => Below::Two(left, right),
-        ExprKind::Or { left, right } => Below::Two(left, right),
-        ExprKind::UnaryApp { op: _, arg } => Below::One(arg),
-        ExprKind::BinaryApp { op: _, arg1, arg2 } => Below::Two(arg1, arg2),
-        ExprKind::ExtensionFunctionApp { fn_name, args } => {
-            drop(fn_name);
-            Below::Row(args)
-        }
-        ExprKind::GetAttr { expr, attr } => {
-            drop(attr);
-            Below::One(expr)
-        }
-        ExprKind::HasAttr { expr, attrs } => {
-            drop(attrs);
-            Below::One(expr)
-        }
-        ExprKind::Like { expr, pattern } => {
-            drop(pattern);
-            Below::One(expr)
-        }
-        ExprKind::Set(members) => Below::Row(members),
-        ExprKind::Record(fields) => Below::Fields(fields),
-        ExprKind::Is { expr, entity_type } => {
-            drop(entity_type);
-            Below::One(expr)
-        }
-    }
-}
-
-// A kind with this below it.
-fn kind_over<T>(below: Below<T>) -> ExprKind<T>
-    ensures { kind_nodes result ≡ below_nodes below }
-{
-    match below {
-        Below::Nothing => ExprKind::Var(Var::Principal),
-        Below::One(arg) => ExprKind::UnaryApp {
-            op: UnaryOp::Not,
-            arg,
-        },
-        Below::Two(left, right) => ExprKind::And { left, right },
-        Below::Three(test_expr, then_expr, else_expr) => ExprKind::If {
-            test_expr,
-            then_expr,
-            else_expr,
-        },
-        Below::Row(row) => ExprKind::Set(row),
-        Below::Fields(fields) => ExprKind::Record(fields),
-    }
 }
 
 // Drops what stands below a node, as far as it alone owns it, without memory, and without the stack
@@ -251,20 +170,6 @@ fn unless_leaf<T: Drop>(child: Rc<Expr<T>>) -> Option<Rc<Expr<T>>>
     None
 }
 
-// Drops a kind that nothing stands below.
-#[inline(always)]
-fn drop_leaf<T: Drop>(kind: ExprKind<T>)
-    requires { IsTrue (is_leaf kind) }
-{
-    match kind {
-        ExprKind::Lit(literal) => drop(literal),
-        ExprKind::Var(_) => {}
-        ExprKind::Slot(_) => {}
-        ExprKind::Unknown(unknown) => drop(unknown),
-        _kind => unreachable!(),
-    }
-}
-
 // Into an only child. Nothing waits for it, so its block is freed at once.
 fn go_through<T: Drop>(
     child: Rc<Expr<T>>,
@@ -371,16 +276,6 @@ fn only<T>(below: Below<T>, rows: Option<Below<T>>) -> Left<T>
     }
 }
 
-// What stands below an item that is taken out of a row.
-enum Item<T> {
-    // Below an item of the row.
-    Of(Below<T>),
-    // Below an item of the row, of which a leaf was dropped.
-    After(Below<T>),
-    // The row has leaves only, which were dropped. This waits.
-    None(Option<Below<T>>),
-}
-
 // Into an item of a row, which then waits.
 #[inline(never)]
 fn open_row<T: Drop>(
@@ -408,55 +303,6 @@ fn open_row<T: Drop>(
         },
         None => Step::Row(row, go_on(waiting, rows)),
     }
-}
-
-// An item of a row. If a row waits it stands in the first item's place from then on. If none is
-// taken, what is left of the row is leaves.
-fn take_item<T: Drop>(items: &mut Vec<Expr<T>>, rows: Option<Below<T>>) -> Item<T>
-    ensures { IsItem (row_nodes items.old.items) (if_row rows) (row_nodes items.new.items) result }
-{
-    match rows {
-        Some(next) => match items.first_mut() {
-            Some(first) => {
-                let kind = mem::replace(&mut first.expr_kind, kind_over(next));
-                match strip(kind) {
-                    Below::Nothing => match last_branch(items) {
-                        Some(last) => {
-                            if items.is_empty() {
-                                Item::None(Some(last))
-                            } else {
-                                Item::After(last)
-                            }
-                        }
-                        None => Item::None(None),
-                    },
-                    below => Item::Of(below),
-                }
-            }
-            None => Item::None(Some(next)),
-        },
-        None => match last_branch(items) {
-            Some(last) => Item::Of(last),
-            None => Item::None(None),
-        },
-    }
-}
-
-// Takes off the last items, down to one that is no leaf, and drops the leaves.
-#[inline(never)]
-fn last_branch<T: Drop>(items: &mut Vec<Expr<T>>) -> Option<Below<T>>
-    ensures taken { IfSome result (λ last.
-        below_nodes last + row_nodes items.new.items ≤ row_nodes items.old.items) }
-    ensures fewer { row_nodes items.new.items ≤ row_nodes items.old.items }
-{
-    'leaves: while let Some(item) = items.pop() {
-        if item.is_leaf() {
-            drop_leaf(item.into_parts().0);
-        } else {
-            return Some(strip(item.into_parts().0));
-        }
-    }
-    None
 }
 
 // The last item of a row that waits, but for leaves. If it is the only one, it is taken to be the
@@ -507,56 +353,6 @@ fn open_fields<T: Drop>(
         },
         None => Step::Fields(fields, go_on(waiting, rows)),
     }
-}
-
-// As `take_item`, of a record.
-fn take_value<T: Drop>(pairs: &mut BTreeMap<RcStr, Expr<T>>, rows: Option<Below<T>>) -> Item<T>
-    ensures { IsItem (field_nodes pairs.old.entries) (if_row rows)
-        (field_nodes pairs.new.entries) result }
-{
-    match rows {
-        Some(next) => match pairs.first_entry() {
-            Some(first) => {
-                let kind = mem::replace(&mut first.into_mut().expr_kind, kind_over(next));
-                match strip(kind) {
-                    Below::Nothing => match last_branch_value(pairs) {
-                        Some(last) => {
-                            if pairs.is_empty() {
-                                Item::None(Some(last))
-                            } else {
-                                Item::After(last)
-                            }
-                        }
-                        None => Item::None(None),
-                    },
-                    below => Item::Of(below),
-                }
-            }
-            None => Item::None(Some(next)),
-        },
-        None => match last_branch_value(pairs) {
-            Some(last) => Item::Of(last),
-            None => Item::None(None),
-        },
-    }
-}
-
-// As `last_branch`, of a record.
-#[inline(never)]
-fn last_branch_value<T: Drop>(pairs: &mut BTreeMap<RcStr, Expr<T>>) -> Option<Below<T>>
-    ensures taken { IfSome result (λ last.
-        below_nodes last + field_nodes pairs.new.entries ≤ field_nodes pairs.old.entries) }
-    ensures fewer { field_nodes pairs.new.entries ≤ field_nodes pairs.old.entries }
-{
-    'leaves: while let Some((key, value)) = pairs.pop_last() {
-        drop(key);
-        if value.is_leaf() {
-            drop_leaf(value.into_parts().0);
-        } else {
-            return Some(strip(value.into_parts().0));
-        }
-    }
-    None
 }
 
 // As `resume_row`, of a record.

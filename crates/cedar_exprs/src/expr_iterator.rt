@@ -1,18 +1,20 @@
 //! Walks over the positions of an expression (`expr_iterator.rs`).
 //!
 //! A walk reserves at its start what its stack will ever need, so that its `next` takes no memory.
-ghost use Rattle.std.specs.Prelude.{◌≡◌, ◌+◌, ◌≤◌, ◌<◌, ◌++◌, length, IfOk, OnOk, vec_len, vec_capacity};
+ghost use Rattle.std.specs.Prelude.{◌≡◌, ◌+◌, ◌≤◌, ◌<◌, ◌++◌, [], ◌∷◌, length, map, IfOk, OnOk, vec_len, vec_capacity};
 ghost use Rattle.std.specs.List.{filter_map};
 ghost use Rattle.std.specs.Option.{option_copied};
 ghost use Rattle.cedar_builders.specs.Walks.{need};
 ghost use Rattle.cedar_exprs.specs.BareExpr.{bare_expr};
-ghost use Rattle.cedar_exprs.specs.Walks.{children, positions, referents, need_of, capped};
+ghost use Rattle.cedar_exprs.specs.Walks.{children, positions, referents, need_of};
 
-use crate::children::Children;
+use crate::entries::entries;
 use crate::expr::{Expr, ExprKind};
 use cedar_names::{Loc, Slot, SlotId};
 use cedar_terms::Unknown;
 use std::alloc::{AllocError, Global};
+use std::collections::BTreeMap;
+use std::rc::RcStr;
 
 /// The positions of an expression: itself, then those of its children, the last child first.
 ///
@@ -33,7 +35,7 @@ impl<'a, T> ExprIterator<'a, T> {
         ensures reserves { IfOk result (λ walk. reserved walk ≡ need (bare_expr expr.now)) }
         ensures fits { OnOk result (need (bare_expr expr.now) < usize.MAX) }
     {
-        let mut stack = Vec::with_capacity(alloc, entries(expr))?;
+        let mut stack = Vec::with_capacity(alloc, entries(alloc, expr)?)?;
         stack.push_reserved(expr);
         Ok(ExprIterator { stack })
     }
@@ -62,24 +64,62 @@ fn push_children<'a, T>(stack: &mut Vec<&'a Expr<T>>, expr: &'a Expr<T>)
     ensures items { referents stack.new.items ≡ referents stack.old.items ++ children expr.now }
     ensures room { vec_capacity stack.new ≡ vec_capacity stack.old }
 {
-    for child in Children::of(expr) {
-        stack.push_reserved(child);
+    match expr.expr_kind() {
+        ExprKind::Lit(_) | ExprKind::Var(_) | ExprKind::Slot(_) | ExprKind::Unknown(_) => {}
+        ExprKind::If {
+            test_expr,
+            then_expr,
+            else_expr,
+        } => {
+            stack.push_reserved(test_expr);
+            push_two(stack, then_expr, else_expr)
+        }
+        ExprKind::And { left, right } | ExprKind::Or { left, right } => {
+            push_two(stack, left, right)
+        }
+        ExprKind::BinaryApp { arg1, arg2, .. } => push_two(stack, arg1, arg2),
+        ExprKind::UnaryApp { arg: child, .. }
+        | ExprKind::GetAttr { expr: child, .. }
+        | ExprKind::HasAttr { expr: child, .. }
+        | ExprKind::Like { expr: child, .. }
+        | ExprKind::Is { expr: child, .. } => stack.push_reserved(child),
+        ExprKind::ExtensionFunctionApp { args: row, .. } | ExprKind::Set(row) => {
+            push_row(stack, row)
+        }
+        ExprKind::Record(pairs) => push_values(stack, pairs),
     }
 }
 
-// The entries that the stack of a walk needs, or the greatest number where it needs more.
-//
-// A child needs its own, and one for each child before it, which waits.
-fn entries<T>(expr: &Expr<T>) -> usize
-    ensures { result ≡ capped (need (bare_expr expr.now)) }
+fn push_two<'a, T>(stack: &mut Vec<&'a Expr<T>>, first: &'a Expr<T>, second: &'a Expr<T>)
+    requires { vec_len stack.old + 2 ≤ vec_capacity stack.old }
+    ensures items { referents stack.new.items
+        ≡ referents stack.old.items ++ first.now ∷ second.now ∷ [] }
+    ensures room { vec_capacity stack.new ≡ vec_capacity stack.old }
 {
-    let mut greatest: usize = 1;
-    let mut before: usize = 0;
-    for child in Children::of(expr) {
-        greatest = greatest.max(before.saturating_add(entries(child)));
-        before = before.saturating_add(1);
+    stack.push_reserved(first);
+    stack.push_reserved(second);
+}
+
+fn push_row<'a, T>(stack: &mut Vec<&'a Expr<T>>, row: &'a [Expr<T>])
+    requires { vec_len stack.old + length row.now ≤ vec_capacity stack.old }
+    ensures items { referents stack.new.items ≡ referents stack.old.items ++ row.now }
+    ensures room { vec_capacity stack.new ≡ vec_capacity stack.old }
+{
+    for member in row {
+        stack.push_reserved(member);
     }
-    greatest
+}
+
+#[inline(never)]
+fn push_values<'a, T>(stack: &mut Vec<&'a Expr<T>>, pairs: &'a BTreeMap<RcStr, Expr<T>>)
+    requires { vec_len stack.old + length pairs.now.entries ≤ vec_capacity stack.old }
+    ensures items { referents stack.new.items
+        ≡ referents stack.old.items ++ map (λ e. e.1) pairs.now.entries }
+    ensures room { vec_capacity stack.new ≡ vec_capacity stack.old }
+{
+    for value in pairs.values() {
+        stack.push_reserved(value);
+    }
 }
 
 /// A slot of an expression, and the place where it was written, if known.

@@ -2,11 +2,13 @@
 //! a fold over bare trees.
 #![tactic(auto)]
 
+mod below;
 mod builder;
 mod building;
 mod children;
 mod constructors;
 mod dropping;
+mod entries;
 mod expr;
 mod expr_iterator;
 mod expr_shape_only;
@@ -16,6 +18,7 @@ mod not_restricted;
 mod queries;
 mod restricted_expr;
 mod results;
+mod row_items;
 mod shape;
 mod shape_order;
 mod substitution;

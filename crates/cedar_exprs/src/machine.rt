@@ -1,15 +1,17 @@
 //! Walks over trees that take no stack: their tasks and their results lie on the heap.
-ghost use Rattle.std.specs.Prelude.{◌≡◌, ◌≤◌, ◌++◌, IsTrue, List, [], reverse, length, Result, IfOk, vec_len};
+ghost use Rattle.std.specs.Prelude.{◌≡◌, ◌≤◌, ◌++◌, IsTrue, List, [], ◌∷◌, map, length, Result, IfOk, vec_len};
 ghost use Rattle.cedar_builders.specs.BareExpr.{BareExpr};
 ghost use Rattle.cedar_builders.specs.NodeByNode.{IsMadeByNodes};
 ghost use Rattle.cedar_builders.specs.Walks.{children};
 ghost use Rattle.cedar_exprs.specs.BareExpr.{bare_expr};
-ghost use Rattle.cedar_exprs.specs.Machine.{IsAnswer, IsMade, visits, bare_tasks};
+ghost use Rattle.cedar_exprs.specs.Machine.{IsAnswer, IsMade, bare_tasks, children_of, last_first};
 ghost use Rattle.cedar_exprs.specs.declared.machine.WalkFault.TheVariants.{Memory};
 
-use crate::children::Children;
 use crate::expr::{Expr, ExprKind};
+use crate::results::put;
 use std::alloc::{AllocError, AllocFailed, Global};
+use std::collections::BTreeMap;
+use std::rc::RcStr;
 
 // Why a walk gives no answer.
 #[derive(Drop)]
@@ -98,7 +100,7 @@ pub(crate) fn run<T, W: Walk<T>>(
             Task::Visit(node) => {
                 if is_leaf(node) {
                     let out = walk.make(alloc, node, &mut done)?;
-                    done.push(out)?;
+                    put(&mut done, out)?;
                 } else {
                     tasks.push(Task::Make(node))?;
                     push_children(&mut tasks, node)?;
@@ -106,7 +108,7 @@ pub(crate) fn run<T, W: Walk<T>>(
             }
             Task::Make(node) => {
                 let out = walk.make(alloc, node, &mut done)?;
-                done.push(out)?;
+                put(&mut done, out)?;
             }
         }
     }
@@ -127,11 +129,85 @@ fn is_leaf<T>(node: &Expr<T>) -> bool
 fn push_children<'a, T>(tasks: &mut Vec<Task<'a, T>>, node: &'a Expr<T>) -> Result<(), AllocError>
     ensures { IfOk result (λ _.
         bare_tasks tasks.new.items
-        ≡ bare_tasks tasks.old.items ++ reverse (visits (children (bare_expr node.now)))) }
+        ≡ bare_tasks tasks.old.items ++ last_first (children_of node.now)) }
 {
-    let mut left = Children::of(node);
+    match node.expr_kind() {
+        ExprKind::Lit(_) | ExprKind::Var(_) | ExprKind::Slot(_) | ExprKind::Unknown(_) => Ok(()),
+        ExprKind::If {
+            test_expr,
+            then_expr,
+            else_expr,
+        } => push_three(tasks, test_expr, then_expr, else_expr),
+        ExprKind::And { left, right } | ExprKind::Or { left, right } => {
+            push_two(tasks, left, right)
+        }
+        ExprKind::BinaryApp { arg1, arg2, .. } => push_two(tasks, arg1, arg2),
+        ExprKind::UnaryApp { arg: child, .. }
+        | ExprKind::GetAttr { expr: child, .. }
+        | ExprKind::HasAttr { expr: child, .. }
+        | ExprKind::Like { expr: child, .. }
+        | ExprKind::Is { expr: child, .. } => Ok(tasks.push(Task::Visit(child))?),
+        ExprKind::ExtensionFunctionApp { args: row, .. } | ExprKind::Set(row) => {
+            push_row(tasks, row)
+        }
+        ExprKind::Record(pairs) => push_values(tasks, pairs),
+    }
+}
+
+// Puts two children onto the tasks, the first on top.
+fn push_two<'a, T>(
+    tasks: &mut Vec<Task<'a, T>>,
+    first: &'a Expr<T>,
+    second: &'a Expr<T>,
+) -> Result<(), AllocError>
+    ensures { IfOk result (λ _.
+        bare_tasks tasks.new.items
+        ≡ bare_tasks tasks.old.items ++ last_first (first.now ∷ second.now ∷ [])) }
+{
+    tasks.push(Task::Visit(second))?;
+    Ok(tasks.push(Task::Visit(first))?)
+}
+
+// The same with three children.
+fn push_three<'a, T>(
+    tasks: &mut Vec<Task<'a, T>>,
+    first: &'a Expr<T>,
+    second: &'a Expr<T>,
+    third: &'a Expr<T>,
+) -> Result<(), AllocError>
+    ensures { IfOk result (λ _.
+        bare_tasks tasks.new.items
+        ≡ bare_tasks tasks.old.items ++ last_first (first.now ∷ second.now ∷ third.now ∷ [])) }
+{
+    tasks.push(Task::Visit(third))?;
+    push_two(tasks, first, second)
+}
+
+#[inline(never)]
+fn push_row<'a, T>(tasks: &mut Vec<Task<'a, T>>, row: &'a [Expr<T>]) -> Result<(), AllocError>
+    ensures { IfOk result (λ _.
+        bare_tasks tasks.new.items
+        ≡ bare_tasks tasks.old.items ++ last_first row.now) }
+{
+    let mut left = row.iter();
     'left: while let Some(child) = left.next_back() {
         tasks.push(Task::Visit(child))?;
+    }
+    Ok(())
+}
+
+#[inline(never)]
+fn push_values<'a, T>(
+    tasks: &mut Vec<Task<'a, T>>,
+    pairs: &'a BTreeMap<RcStr, Expr<T>>,
+) -> Result<(), AllocError>
+    ensures { IfOk result (λ _.
+        bare_tasks tasks.new.items
+        ≡ bare_tasks tasks.old.items ++ last_first (map (λ e. e.1) pairs.now.entries)) }
+{
+    let mut values = pairs.values();
+    'values: while let Some(value) = values.next_back() {
+        tasks.push(Task::Visit(value))?;
     }
     Ok(())
 }

@@ -7,6 +7,16 @@ use std::alloc::{AllocError, Global};
 use std::collections::BTreeMap;
 use std::rc::RcStr;
 
+// Puts a result on top. `push` would move it once more, since its error has the value.
+#[inline(always)]
+pub(crate) fn put<X: Drop>(done: &mut Vec<X>, out: X) -> Result<(), AllocError>
+    ensures { IfOk result (λ _. done.new.items ≡ done.old.items ++ out ∷ []) }
+{
+    done.reserve(1)?;
+    done.push_reserved(out);
+    Ok(())
+}
+
 // The last two results, which are taken off.
 pub(crate) fn take_two<X: Drop>(done: &mut Vec<X>) -> (X, X)
     requires { 2 ≤ vec_len done.old }
@@ -51,7 +61,7 @@ pub(crate) fn keyed<T, X: Drop>(
     let mut rest = values.into_iter();
     for (key, _) in pairs.iter() {
         match rest.next() {
-            Some(value) => keyed.push((key.clone()?, value))?,
+            Some(value) => keyed.push_reserved((key.clone()?, value)),
             None => unreachable!(),
         }
     }

@@ -139,6 +139,7 @@ impl<S: SubstitutionFunction, V: SubstituteValue> Walk<()> for Substitution<'_, 
     ghost is_made_of = { λ w e. IsRenewedOf S.refuses (env_of V.bare_type_of V.bare_expr_of w.values.now)
         e };
 
+    #[inline(always)]
     fn make(
         &self,
         alloc: Global,
@@ -235,11 +236,18 @@ fn own_or_copy(
     ensures { IfOk result (λ e. bare_expr e ≡ new_or (bare_expr member.now) (new_tree new)) }
 {
     match new {
-        Some(new) => match Rc::try_unwrap(new) {
-            Ok(owned) => Ok(owned),
-            Err(shared) => Expr::clone(&shared, alloc),
-        },
+        Some(new) => owned(alloc, new),
         None => member.clone(alloc),
+    }
+}
+
+// What a pointer holds, or a copy of it where it is shared.
+fn owned(alloc: Global, expr: Rc<Expr<()>>) -> Result<Expr<()>, AllocError>
+    ensures { IfOk result (λ e. bare_expr e ≡ bare_expr expr.value) }
+{
+    match Rc::try_unwrap(expr) {
+        Ok(owned) => Ok(owned),
+        Err(shared) => Expr::clone(&shared, alloc),
     }
 }
 
@@ -485,7 +493,8 @@ fn renew_members(
     let mut rest = new.into_iter();
     for member in members {
         match rest.next() {
-            Some(one) => done.push(own_or_copy(alloc, one, member)?)?,
+            Some(Some(new)) => done.push_reserved(owned(alloc, new)?),
+            Some(None) => done.push_reserved(member.clone(alloc)?),
             None => unreachable!(),
         }
     }
@@ -509,7 +518,8 @@ fn renew_values(
     let mut rest = new.into_iter();
     for (key, value) in pairs.iter() {
         match rest.next() {
-            Some(one) => done.push((key.clone()?, own_or_copy(alloc, one, value)?))?,
+            Some(Some(new)) => done.push_reserved((key.clone()?, owned(alloc, new)?)),
+            Some(None) => done.push_reserved((key.clone()?, value.clone(alloc)?)),
             None => unreachable!(),
         }
     }

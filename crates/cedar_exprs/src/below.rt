@@ -1,0 +1,103 @@
+//! What stands below a node that a drop is done with.
+ghost use Rattle.std.specs.Prelude.{◌≡◌, IsTrue};
+ghost use Rattle.cedar_exprs.specs.Steps.{below_nodes, is_leaf, kind_nodes};
+
+use crate::expr::{Expr, ExprKind};
+use cedar_terms::{UnaryOp, Var};
+use std::collections::BTreeMap;
+use std::rc::{Rc, RcStr};
+
+// What stands below a node that is done with.
+pub(crate) enum Below<T> {
+    Nothing,
+    One(Rc<Expr<T>>),
+    Two(Rc<Expr<T>>, Rc<Expr<T>>),
+    Three(Rc<Expr<T>>, Rc<Expr<T>>, Rc<Expr<T>>),
+    Row(Rc<Vec<Expr<T>>>),
+    Fields(Rc<BTreeMap<RcStr, Expr<T>>>),
+}
+
+// Drops all of a kind but what stands below it.
+#[inline(never)]
+pub(crate) fn strip<T: Drop>(kind: ExprKind<T>) -> Below<T>
+    ensures { below_nodes result ≡ kind_nodes kind }
+{
+    match kind {
+        ExprKind::Lit(literal) => {
+            drop(literal);
+            Below::Nothing
+        }
+        ExprKind::Var(_) => Below::Nothing,
+        ExprKind::Slot(_) => Below::Nothing,
+        ExprKind::Unknown(unknown) => {
+            drop(unknown);
+            Below::Nothing
+        }
+        ExprKind::If {
+            test_expr,
+            then_expr,
+            else_expr,
+        } => Below::Three(test_expr, then_expr, else_expr),
+        ExprKind::And { left, right } => Below::Two(left, right),
+        ExprKind::Or { left, right } => Below::Two(left, right),
+        ExprKind::UnaryApp { op: _, arg } => Below::One(arg),
+        ExprKind::BinaryApp { op: _, arg1, arg2 } => Below::Two(arg1, arg2),
+        ExprKind::ExtensionFunctionApp { fn_name, args } => {
+            drop(fn_name);
+            Below::Row(args)
+        }
+        ExprKind::GetAttr { expr, attr } => {
+            drop(attr);
+            Below::One(expr)
+        }
+        ExprKind::HasAttr { expr, attrs } => {
+            drop(attrs);
+            Below::One(expr)
+        }
+        ExprKind::Like { expr, pattern } => {
+            drop(pattern);
+            Below::One(expr)
+        }
+        ExprKind::Set(members) => Below::Row(members),
+        ExprKind::Record(fields) => Below::Fields(fields),
+        ExprKind::Is { expr, entity_type } => {
+            drop(entity_type);
+            Below::One(expr)
+        }
+    }
+}
+
+// A kind with this below it.
+pub(crate) fn kind_over<T>(below: Below<T>) -> ExprKind<T>
+    ensures { kind_nodes result ≡ below_nodes below }
+{
+    match below {
+        Below::Nothing => ExprKind::Var(Var::Principal),
+        Below::One(arg) => ExprKind::UnaryApp {
+            op: UnaryOp::Not,
+            arg,
+        },
+        Below::Two(left, right) => ExprKind::And { left, right },
+        Below::Three(test_expr, then_expr, else_expr) => ExprKind::If {
+            test_expr,
+            then_expr,
+            else_expr,
+        },
+        Below::Row(row) => ExprKind::Set(row),
+        Below::Fields(fields) => ExprKind::Record(fields),
+    }
+}
+
+// Drops a kind that nothing stands below.
+#[inline(always)]
+pub(crate) fn drop_leaf<T: Drop>(kind: ExprKind<T>)
+    requires { IsTrue (is_leaf kind) }
+{
+    match kind {
+        ExprKind::Lit(literal) => drop(literal),
+        ExprKind::Var(_) => {}
+        ExprKind::Slot(_) => {}
+        ExprKind::Unknown(unknown) => drop(unknown),
+        _kind => unreachable!(),
+    }
+}
