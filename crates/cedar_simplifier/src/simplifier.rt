@@ -110,63 +110,27 @@ impl ExprBuilder for Simplifier {
         else_expr: Part,
     ) -> Result<Part, AllocError> {
         match test_expr.truth() {
-            Some(true) => {
-                if else_expr.calls_nothing() {
-                    Ok(then_expr)
-                } else {
-                    Part::left_if(alloc, test_expr, then_expr, else_expr)
-                }
-            }
-            Some(false) => {
-                if then_expr.calls_nothing() {
-                    Ok(else_expr)
-                } else {
-                    Part::left_if(alloc, test_expr, then_expr, else_expr)
-                }
-            }
-            None => Part::left_if(alloc, test_expr, then_expr, else_expr),
+            Some(true) if else_expr.calls_nothing() => Ok(then_expr),
+            Some(false) if then_expr.calls_nothing() => Ok(else_expr),
+            _ => Part::left_if(alloc, test_expr, then_expr, else_expr),
         }
     }
 
     #[tactic(auto, using(crate::proofs::Branches::first_of, crate::proofs::Branches::second_of))]
     fn and(self, alloc: Global, left: Part, right: Part) -> Result<Part, AllocError> {
         match left.truth() {
-            Some(true) => {
-                if right.is_boolean() {
-                    Ok(right)
-                } else {
-                    Part::left_and(alloc, left, right)
-                }
-            }
-            Some(false) => {
-                if right.calls_nothing() {
-                    Ok(Part::lit(Literal::Bool(false)))
-                } else {
-                    Part::left_and(alloc, left, right)
-                }
-            }
-            None => Part::left_and(alloc, left, right),
+            Some(true) if right.is_boolean() => Ok(right),
+            Some(false) if right.calls_nothing() => Ok(Part::lit(Literal::Bool(false))),
+            _ => Part::left_and(alloc, left, right),
         }
     }
 
     #[tactic(auto, using(crate::proofs::Branches::first_of, crate::proofs::Branches::second_of))]
     fn or(self, alloc: Global, left: Part, right: Part) -> Result<Part, AllocError> {
         match left.truth() {
-            Some(true) => {
-                if right.calls_nothing() {
-                    Ok(Part::lit(Literal::Bool(true)))
-                } else {
-                    Part::left_or(alloc, left, right)
-                }
-            }
-            Some(false) => {
-                if right.is_boolean() {
-                    Ok(right)
-                } else {
-                    Part::left_or(alloc, left, right)
-                }
-            }
-            None => Part::left_or(alloc, left, right),
+            Some(true) if right.calls_nothing() => Ok(Part::lit(Literal::Bool(true))),
+            Some(false) if right.is_boolean() => Ok(right),
+            _ => Part::left_or(alloc, left, right),
         }
     }
 
