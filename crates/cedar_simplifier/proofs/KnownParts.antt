@@ -1,5 +1,5 @@
 -- What an operation makes of parts, by the values that they have.
-use Rattle.std.proofs.Common.{◌≡◌, refl, List, [], ◌∷◌, Option, Some, None, Result, Ok, Err}
+use Rattle.std.proofs.Common.{◌≡◌, refl, List, [], ◌∷◌, Some, None, Ok, Err}
 use Rattle.cedar_builders.specs.BareExpr.{BareExpr, Text}
 use Rattle.cedar_value_trees.specs.BareValue.{BareValue}
 use Rattle.evaluations.specs.Attributes.{has_path}

@@ -1,5 +1,5 @@
 -- Sets and records of parts, by whether each part is known.
-use Rattle.std.proofs.Common.{◌≡◌, refl, sym, ◌∙◌, ap, subst, Bool, true, false, ◌&&◌, IsTrue, List, [], ◌∷◌, map, option_map, Result, Ok, Err}
+use Rattle.std.proofs.Common.{◌≡◌, refl, sym, ◌∙◌, ap, subst, Bool, true, false, ◌&&◌, IsTrue, List, [], ◌∷◌, map, option_map, Ok, Err}
 use Rattle.std.specs.Global.{Global}
 use Rattle.std.specs.List.{cons_option, filter_map, list_all}
 use Rattle.std.specs.Rc.{rc_str_bytes}

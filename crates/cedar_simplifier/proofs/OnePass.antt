@@ -2,7 +2,7 @@
 use Rattle.std.proofs.Common.{◌≡◌, Bool, IsTrue, ap, sym, subst, ◌∙◌}
 use Rattle.std.specs.declared.cmp.Ordering.{Ordering}
 use Rattle.cedar_builders.specs.BareExpr.{BareExpr}
-use Rattle.cedar_builders.specs.Environment.{Env, fold}
+use Rattle.cedar_builders.specs.Environment.{fold}
 use Rattle.cedar_value_trees.specs.Laws.{BindsPlainValues}
 use Rattle.cedar_values.specs.Holders.{NoExtension, held_call, plain_env}
 use Rattle.cedar_values.specs.ValueMaps.{ValueMap}

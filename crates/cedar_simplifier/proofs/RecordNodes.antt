@@ -8,7 +8,7 @@ use Rattle.std.specs.List.{list_all}
 use Rattle.std.specs.List.Sorted.{IsPermutation}
 use Rattle.std.specs.Rc.{rc_str_bytes}
 use Rattle.std.specs.declared.rc.RcStr.{RcStr}
-use Rattle.cedar_builders.specs.BareExpr.{Text, BareExpr, fields_of}
+use Rattle.cedar_builders.specs.BareExpr.{Text, fields_of}
 use Rattle.cedar_builders.specs.Keys.{are_distinct, in_key_order, IsInKeyOrder, keyed, keys_of}
 use Rattle.cedar_builders.specs.Walks.{values_of}
 use Rattle.cedar_exprs.specs.BareExpr.{bare_expr}

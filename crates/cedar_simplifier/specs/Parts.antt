@@ -1,5 +1,5 @@
 -- The meaning of a part.
-use Rattle.std.specs.Prelude.{Bool, Option, Some, None, is_some, option_map, Result, Ok, Err}
+use Rattle.std.specs.Prelude.{Bool, Option, Some, None, is_some, option_map, Ok, Err}
 use Rattle.std.specs.Global.{Global}
 use Rattle.std.specs.declared.rc.RcStr.{RcStr}
 use Rattle.cedar_terms.specs.Literals.{bare_literal}

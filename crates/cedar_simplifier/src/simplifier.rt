@@ -35,7 +35,7 @@ use std::rc::RcStr;
 /// evaluator does not choose, and hold no call, since a call in it would be refused. Of
 /// `true && right` the right side is made only where that can be nothing but a Boolean or a fault.
 ///
-/// Nothing is refused. What it makes has no places.
+/// Nothing is refused. What is left has the places that it had.
 ///
 /// ```rust
 /// fn simplified(alloc: Global, expr: &Expr) -> Result<Part, BuildFault<Infallible>> {
@@ -43,7 +43,9 @@ use std::rc::RcStr;
 /// }
 /// ```
 #[derive(Debug, Drop)]
-pub struct Simplifier;
+pub struct Simplifier {
+    pub(crate) place: Option<Loc>,
+}
 
 impl ExprBuilder for Simplifier {
     type Expr = Part;
@@ -65,24 +67,28 @@ impl ExprBuilder for Simplifier {
 
     ghost fault_of = { never };
 
+    ghost place_of = { λ b. b.place };
+
+    ghost kept_place = { λ place. place };
+
     fn new() -> Simplifier {
-        Simplifier
+        Simplifier { place: None }
     }
 
     fn with_data(_data: ()) -> Simplifier {
-        Simplifier
+        Simplifier { place: None }
     }
 
     fn loc(&self) -> Option<&Loc> {
-        None
+        self.place.as_ref()
     }
 
     fn data(&self) -> &() {
         &()
     }
 
-    fn with_maybe_source_loc(self, _source_loc: Option<Loc>) -> Simplifier {
-        self
+    fn with_maybe_source_loc(self, source_loc: Option<Loc>) -> Simplifier {
+        Simplifier { place: source_loc }
     }
 
     fn val(self, _alloc: Global, literal: Literal) -> Result<Part, AllocError> {
@@ -90,15 +96,15 @@ impl ExprBuilder for Simplifier {
     }
 
     fn var(self, _alloc: Global, var: Var) -> Result<Part, AllocError> {
-        Ok(Part::left(Tree::var(var)))
+        Ok(self.left(Tree::var(var)))
     }
 
     fn slot(self, _alloc: Global, slot: SlotId) -> Result<Part, AllocError> {
-        Ok(Part::left(Tree::slot(slot)))
+        Ok(self.left(Tree::slot(slot)))
     }
 
     fn unknown(self, _alloc: Global, unknown: Unknown) -> Result<Part, AllocError> {
-        Ok(Part::left(Tree::unknown(unknown)))
+        Ok(self.left(Tree::unknown(unknown)))
     }
 
     #[tactic(auto, using(crate::proofs::Branches::first_of, crate::proofs::Branches::second_of))]
@@ -112,7 +118,7 @@ impl ExprBuilder for Simplifier {
         match test_expr.truth() {
             Some(true) if else_expr.calls_nothing() => Ok(then_expr),
             Some(false) if then_expr.calls_nothing() => Ok(else_expr),
-            _ => Part::left_if(alloc, test_expr, then_expr, else_expr),
+            _ => self.left_if(alloc, test_expr, then_expr, else_expr),
         }
     }
 
@@ -121,7 +127,7 @@ impl ExprBuilder for Simplifier {
         match left.truth() {
             Some(true) if right.is_boolean() => Ok(right),
             Some(false) if right.calls_nothing() => Ok(Part::lit(Literal::Bool(false))),
-            _ => Part::left_and(alloc, left, right),
+            _ => self.left_and(alloc, left, right),
         }
     }
 
@@ -130,7 +136,7 @@ impl ExprBuilder for Simplifier {
         match left.truth() {
             Some(true) if right.calls_nothing() => Ok(Part::lit(Literal::Bool(true))),
             Some(false) if right.is_boolean() => Ok(right),
-            _ => Part::left_or(alloc, left, right),
+            _ => self.left_or(alloc, left, right),
         }
     }
 
@@ -138,7 +144,7 @@ impl ExprBuilder for Simplifier {
     fn unary_app(self, alloc: Global, op: UnaryOp, arg: Part) -> Result<Part, AllocError> {
         match apply_one(op, &arg) {
             Some(literal) => Ok(Part::lit(literal)),
-            None => Part::left_unary(alloc, op, arg),
+            None => self.left_unary(alloc, op, arg),
         }
     }
 
@@ -152,7 +158,7 @@ impl ExprBuilder for Simplifier {
     ) -> Result<Part, AllocError> {
         match apply_two(op, &arg1, &arg2) {
             Some(literal) => Ok(Part::lit(literal)),
-            None => Part::left_binary(alloc, op, arg1, arg2),
+            None => self.left_binary(alloc, op, arg1, arg2),
         }
     }
 
@@ -167,14 +173,14 @@ impl ExprBuilder for Simplifier {
             (map meaning_of args.items)) result }
     {
         let row = row_of(alloc, args)?;
-        Ok(Part::left(Tree::call(alloc, fn_name, row)?))
+        Ok(self.left(Tree::call(alloc, fn_name, row)?))
     }
 
     #[tactic(auto, using(crate::proofs::KnownParts::made_known, crate::proofs::KnownParts::made_left))]
     fn get_attr(self, alloc: Global, expr: Part, attr: RcStr) -> Result<Part, AllocError> {
         match get(alloc, &expr, &attr)? {
             Some(value) => Ok(Part::known(value)),
-            None => Part::left_get(alloc, expr, attr),
+            None => self.left_get(alloc, expr, attr),
         }
     }
 
@@ -187,7 +193,7 @@ impl ExprBuilder for Simplifier {
     ) -> Result<Part, AllocError> {
         match has(&expr, &attrs) {
             Some(literal) => Ok(Part::lit(literal)),
-            None => Part::left_has(alloc, expr, attrs),
+            None => self.left_has(alloc, expr, attrs),
         }
     }
 
@@ -195,7 +201,7 @@ impl ExprBuilder for Simplifier {
     fn like(self, alloc: Global, expr: Part, pattern: Pattern) -> Result<Part, AllocError> {
         match like(&expr, &pattern) {
             Some(literal) => Ok(Part::lit(literal)),
-            None => Part::left_like(alloc, expr, pattern),
+            None => self.left_like(alloc, expr, pattern),
         }
     }
 
@@ -208,7 +214,7 @@ impl ExprBuilder for Simplifier {
     ) -> Result<Part, AllocError> {
         match is_of_type(&expr, &entity_type) {
             Some(literal) => Ok(Part::lit(literal)),
-            None => Part::left_is(alloc, expr, entity_type),
+            None => self.left_is(alloc, expr, entity_type),
         }
     }
 
@@ -221,7 +227,7 @@ impl ExprBuilder for Simplifier {
             return Ok(Part::known(set_of(alloc, values)?));
         }
         let row = row_of(alloc, members)?;
-        Ok(Part::left(Tree::set(alloc, row)?))
+        Ok(self.left(Tree::set(alloc, row)?))
     }
 
     fn record(
@@ -241,7 +247,7 @@ impl ExprBuilder for Simplifier {
             return Ok(Part::known(record_of(alloc, values)?));
         }
         let fields = fields_of(alloc, pairs)?;
-        Ok(Part::left(Tree::record(alloc, fields)?))
+        Ok(self.left(Tree::record(alloc, fields)?))
     }
 }
 

@@ -9,7 +9,7 @@ use crate::rows::{Fields, Row};
 use cedar_builders::laws::pairs_in_key_order;
 use cedar_builders::{ExprBuilder as _, ExpressionConstructionError};
 use cedar_exprs::{Expr, ExprBuilder, ExprKind};
-use cedar_names::{Name, NonEmpty, SlotId};
+use cedar_names::{Loc, Name, NonEmpty, SlotId};
 use cedar_terms::{BinaryOp, EntityType, Pattern, UnaryOp, Unknown, Var};
 use cedar_values::laws::no_extension_values;
 use cedar_values::{NoExtension, Value};
@@ -77,6 +77,16 @@ impl Tree {
         ensures { result ≡ holds_no_call (bare_tree self.now) }
     {
         self.calls_nothing
+    }
+
+    // The same expression with this place, or with none.
+    pub(crate) fn at(self, place: Option<Loc>) -> Tree
+        ensures { bare_tree result ≡ bare_tree self }
+    {
+        Tree {
+            expr: self.expr.with_maybe_source_loc(place),
+            calls_nothing: self.calls_nothing,
+        }
     }
 
     // A variable of the request.
