@@ -1,5 +1,4 @@
 mod generic;
-mod refusing;
 
 use cedar_builders::laws::{
     built_after, rebuilt_twice, substituted_by_fold, substituted_twice, then_is_both,
@@ -13,12 +12,15 @@ use cedar_terms::{BinaryOp, Literal, UnaryOp};
 use generic::{
     binary_call, call_in_memory, call_of, call_of_one, negated_call, pair_of, unary_call,
 };
-use refusing::Refusing;
 use std::alloc::AllocError;
 use std::error::Error;
 use std::fmt::{Debug, Display};
 use std::process::Abort;
 use std::rc::RcStr;
+use test_support::RefuseCount;
+
+// A lawful builder that refuses the calls without arguments.
+type Refusing = RefuseCount<0>;
 
 #[test]
 fn laws_are_called() {
@@ -139,7 +141,8 @@ fn a_call_that_no_builder_refuses(rt: HostRuntime) {
 
 #[test]
 fn a_call_through_the_bound(rt: HostRuntime) {
-    assert!(rt; call_of_one::<Refusing>(rt.alloc(), name(&rt, "f"), ()).is_ok());
+    let one = made(&rt, Refusing::new().val(rt.alloc(), Literal::from(1)));
+    assert!(rt; call_of_one::<Refusing>(rt.alloc(), name(&rt, "f"), one).is_ok());
 }
 
 // Whether the call of this function is refused, and the refusal names it.

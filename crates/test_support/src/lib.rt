@@ -1,8 +1,11 @@
-//! A lawful builder of expressions that refuses some calls, for tests of what comes of a refusal.
+//! A builder of expressions that refuses some calls, for tests of what comes of a refusal. It is
+//! lawful where it makes `and` and `or` as the struct does.
 #![tactic(auto)]
 
+mod connectives;
 mod refusal;
 mod refusing;
 
-pub use crate::refusal::{Counted, Numbered, Refusal};
+pub use crate::connectives::{Connectives, Simplifying};
+pub use crate::refusal::{Counted, Nothing, Numbered, Refusal};
 pub use crate::refusing::{RefuseAt, RefuseCount, Refused, Refusing};

@@ -1,5 +1,5 @@
 //! Which calls are refused.
-ghost use Rattle.std.specs.Prelude.{◌≡◌, ◌==◌, ℕ, Bool, IfOk};
+ghost use Rattle.std.specs.Prelude.{◌≡◌, ◌==◌, ℕ, Bool, false, IfOk};
 ghost use Rattle.cedar_names.specs.NameOrder.{name_eq};
 ghost use Rattle.cedar_names.specs.Names.{BareName};
 ghost use Rattle.cedar_names.specs.PlainNames.{bare_name};
@@ -39,5 +39,16 @@ impl<const COUNT: usize> Refusal for Counted<COUNT> {
 
     fn is_refused(_: Global, _: &Name, count: usize) -> Result<bool, AllocError> {
         Ok(count == COUNT)
+    }
+}
+
+/// No calls.
+pub enum Nothing {}
+
+impl Refusal for Nothing {
+    ghost refuses = { λ _ _. false };
+
+    fn is_refused(_: Global, _: &Name, _: usize) -> Result<bool, AllocError> {
+        Ok(false)
     }
 }

@@ -12,6 +12,7 @@ ghost use Rattle.cedar_exprs.specs.BuiltNode.{builder_place};
 ghost use Rattle.cedar_exprs.specs.BareExpr.{bare_expr, bare_exprs};
 ghost use Rattle.test_support.specs.Refusing.{refusing};
 
+use crate::connectives::{Connectives, Simplifying};
 use crate::refusal::{Counted, Numbered, Refusal};
 use cedar_builders::{
     BuildFault, ExprBuilder as Builder, ExpressionConstructionError, LawfulExprBuilder,
@@ -23,11 +24,25 @@ use std::alloc::{AllocError, Global};
 use std::marker::PhantomData;
 use std::rc::RcStr;
 
-/// Makes expressions without data, as the struct does, but for the calls that are refused.
+/// Makes expressions without data, as the struct does, but for the calls that are refused, and for
+/// `and` and `or` where they are made otherwise.
 #[derive(Drop)]
-pub struct Refusing<R> {
+pub struct Refusing<R, C = Simplifying> {
     inner: ExprBuilder<()>,
     refusal: PhantomData<R>,
+    connectives: PhantomData<C>,
+}
+
+impl<R, C> Refusing<R, C> {
+    fn over(inner: ExprBuilder<()>) -> Refusing<R, C>
+        ensures { result.inner ≡ inner }
+    {
+        Refusing {
+            inner,
+            refusal: PhantomData,
+            connectives: PhantomData,
+        }
+    }
 }
 
 /// Refuses the calls whose name is `f` and `K` in decimal.
@@ -43,7 +58,7 @@ pub struct Refused {
     pub name: Name,
 }
 
-impl<R: Refusal> Builder for Refusing<R> {
+impl<R: Refusal, C: Connectives> Builder for Refusing<R, C> {
     type Expr = Expr<()>;
 
     type Data = ();
@@ -54,7 +69,7 @@ impl<R: Refusal> Builder for Refusing<R> {
 
     ghost Fault = { BareName };
 
-    ghost ops = { refusing R.refuses };
+    ghost ops = { refusing tree_ops C.and_of C.or_of R.refuses };
 
     ghost meaning_of = { bare_expr };
 
@@ -64,18 +79,12 @@ impl<R: Refusal> Builder for Refusing<R> {
 
     ghost kept_place = { λ place. place };
 
-    fn new() -> Refusing<R> {
-        Refusing {
-            inner: ExprBuilder::new(),
-            refusal: PhantomData,
-        }
+    fn new() -> Refusing<R, C> {
+        Refusing::over(ExprBuilder::new())
     }
 
-    fn with_data(data: ()) -> Refusing<R> {
-        Refusing {
-            inner: ExprBuilder::with_data(data),
-            refusal: PhantomData,
-        }
+    fn with_data(data: ()) -> Refusing<R, C> {
+        Refusing::over(ExprBuilder::with_data(data))
     }
 
     fn loc(&self) -> Option<&Loc> {
@@ -86,11 +95,8 @@ impl<R: Refusal> Builder for Refusing<R> {
         self.inner.data()
     }
 
-    fn with_maybe_source_loc(self, source_loc: Option<Loc>) -> Refusing<R> {
-        Refusing {
-            inner: self.inner.with_maybe_source_loc(source_loc),
-            refusal: PhantomData,
-        }
+    fn with_maybe_source_loc(self, source_loc: Option<Loc>) -> Refusing<R, C> {
+        Refusing::over(self.inner.with_maybe_source_loc(source_loc))
     }
 
     fn val(self, alloc: Global, literal: Literal) -> Result<Expr<()>, AllocError> {
@@ -120,11 +126,11 @@ impl<R: Refusal> Builder for Refusing<R> {
     }
 
     fn and(self, alloc: Global, left: Expr<()>, right: Expr<()>) -> Result<Expr<()>, AllocError> {
-        self.inner.and(alloc, left, right)
+        C::and(self.inner, alloc, left, right)
     }
 
     fn or(self, alloc: Global, left: Expr<()>, right: Expr<()>) -> Result<Expr<()>, AllocError> {
-        self.inner.or(alloc, left, right)
+        C::or(self.inner, alloc, left, right)
     }
 
     fn unary_app(self, alloc: Global, op: UnaryOp, arg: Expr<()>) -> Result<Expr<()>, AllocError> {
@@ -148,7 +154,8 @@ impl<R: Refusal> Builder for Refusing<R> {
         args: Vec<Expr<()>>,
     ) -> Result<Expr<()>, BuildFault<Refused>>
         ensures { Gives bare_expr (λ e. bare_name e.name)
-            ((refusing R.refuses).call_of (bare_name fn_name) (map bare_expr args.items))
+            ((refusing tree_ops C.and_of C.or_of R.refuses).call_of (bare_name fn_name)
+            (map bare_expr args.items))
             result }
     {
         if R::is_refused(alloc, &fn_name, args.len())? {
