@@ -17,19 +17,20 @@ use Rattle.cedar_builders.specs.BareExpr.{Text, BareExpr, Lit, Var as variable, 
 use Rattle.cedar_builders.specs.TypeClash.{clash}
 use Rattle.cedar_builders.specs.Environment.{Env, empty, fold}
 use Rattle.cedar_builders.specs.Fold.{on_one}
-use Rattle.cedar_builders.specs.Trees.{tree_ops}
+use Rattle.cedar_builders.specs.Trees.{tree_ops, sure}
 use Rattle.cedar_builders.specs.Keys.{in_key_order}
 use Rattle.cedar_builders.specs.Ops.{Ops}
 use Rattle.cedar_exprs.specs.BareExpr.{bare_expr, bare_exprs}
 use Rattle.cedar_exprs.specs.declared.expr.Expr.{Expr}
-use Rattle.cedar_values.specs.Holders.{NoExtension}
+use Rattle.cedar_values.specs.Holders.{NoExtension, held_call}
 use Rattle.evaluations.specs.Outcomes.{Outcome}
+use Rattle.simplifications.specs.Parts.{Part, tree_of}
 use Rattle.cedar_evaluator.specs.Texts.{outcome_text}
 use Rattle.cedar_script.specs.CommandWords.{texts_now}
 use Rattle.cedar_sketch.specs.SketchTexts.{sketch_ops}
 use Rattle.cedar_script.specs.Stack.{Stack, stack_of, bindings_of, environment, IsBoundToValueOf, Pushes, TopHas, ReplacesOne, ReplacesTwo, ReplacesThree, ReplacesMany}
 use Rattle.cedar_script.specs.declared.line.Command.{Command}
-use Rattle.cedar_script.specs.declared.line.Command.TheVariants.{Bool as Bool', Long, String, Var, Slot, Unknown, If, And, Or, RawAnd, RawOr, Unary, Binary, Call, Get, Has, ExtHas, Like, Is, Set, Record, Bind, Substitute, Typed, Show, Eval}
+use Rattle.cedar_script.specs.declared.line.Command.TheVariants.{Bool as Bool', Long, String, Var, Slot, Unknown, If, And, Or, RawAnd, RawOr, Unary, Binary, Call, Get, Has, ExtHas, Like, Is, Set, Record, Bind, Substitute, Typed, Show, Eval, Simplify}
 use Rattle.cedar_script.specs.declared.work.State.{State}
 
 -- how many expressions a command needs on the stack
@@ -60,6 +61,7 @@ needed_count Substitute = 1
 needed_count Typed = 1
 needed_count Show = 1
 needed_count Eval = 1
+needed_count Simplify = 1
 
 -- how many expressions stand in place of those: `bind` leaves none, and every other command one
 abbrev pub left_count : Command → ℕ
@@ -74,34 +76,39 @@ key_pairs keys exprs = map (λ p. (p.0.now, p.1)) (zip keys exprs)
 abbrev pub record_of : List (Bor Text) → List (Expr Unit) → BareExpr
 record_of keys exprs = record_tree (fields_of (map (λ p. (p.0, bare_expr p.1)) (in_key_order (key_pairs keys exprs))))
 
--- what a command makes of the old stack, where names are bound as `env` says
-abbrev pub Works : Env → Command → Stack → Stack → Type 0
-Works env (Bool' b) old new = Pushes (λ e. bare_expr e ≡ Lit (BoolLit b)) old new
-Works env (Long n) old new = Pushes (λ e. bare_expr e ≡ Lit (LongLit n)) old new
-Works env (String text) old new = Pushes (λ e. bare_expr e ≡ Lit (StringLit text.now)) old new
-Works env (Var v) old new = Pushes (λ e. bare_expr e ≡ variable v) old new
-Works env (Slot s) old new = Pushes (λ e. bare_expr e ≡ tree_ops.slot_of s) old new
-Works env (Unknown name annotation) old new = Pushes (λ e. bare_expr e ≡ unknown name.now (bare_annotation annotation)) old new
-Works env If old new = ReplacesThree (λ a b c e. bare_expr e ≡ tree_ops.if_of (bare_expr a) (bare_expr b) (bare_expr c)) old new
-Works env And old new = ReplacesTwo (λ a b e. bare_expr e ≡ tree_ops.and_of (bare_expr a) (bare_expr b)) old new
-Works env Or old new = ReplacesTwo (λ a b e. bare_expr e ≡ tree_ops.or_of (bare_expr a) (bare_expr b)) old new
-Works env RawAnd old new = ReplacesTwo (λ a b e. bare_expr e ≡ conjunction (bare_expr a) (bare_expr b)) old new
-Works env RawOr old new = ReplacesTwo (λ a b e. bare_expr e ≡ disjunction (bare_expr a) (bare_expr b)) old new
-Works env (Unary op) old new = ReplacesOne (λ a e. bare_expr e ≡ tree_ops.unary_of op (bare_expr a)) old new
-Works env (Binary op) old new = ReplacesTwo (λ a b e. bare_expr e ≡ tree_ops.binary_of op (bare_expr a) (bare_expr b)) old new
-Works env (Call name count) old new = ReplacesMany count (λ args e. bare_expr e ≡ call (bare_name name) (bare_exprs args)) old new
-Works env (Get k) old new = ReplacesOne (λ a e. bare_expr e ≡ tree_ops.get_of (bare_expr a) k.now) old new
-Works env (Has k) old new = ReplacesOne (λ a e. bare_expr e ≡ tree_ops.has_of (bare_expr a) k.now []) old new
-Works env (ExtHas ks) old new = ReplacesOne (λ a e. bare_expr e ≡ tree_ops.has_of (bare_expr a) ks.head.now (texts_now ks.tail.items)) old new
-Works env (Like p) old new = ReplacesOne (λ a e. bare_expr e ≡ tree_ops.like_of (bare_expr a) p) old new
-Works env (Is ty) old new = ReplacesOne (λ a e. bare_expr e ≡ tree_ops.is_of (bare_expr a) (bare_entity_type ty)) old new
-Works env (Set count) old new = ReplacesMany count (λ es e. bare_expr e ≡ members (bare_exprs es)) old new
-Works env (Record keys) old new = ReplacesMany (vec_len keys) (λ values e. bare_expr e ≡ record_of keys.items values) old new
-Works env (Bind name) old new = new ≡ drop 1 old
-Works env Substitute old new = ReplacesOne (λ a e. fold tree_ops env (bare_expr a) ≡ Ok (bare_expr e)) old new
-Works env Typed old new = ReplacesOne (λ a e. (fold tree_ops env (bare_expr a) ≡ Ok (bare_expr e)) × (clash env (bare_expr a) ≡ None)) old new
-Works env Show old new = new ≡ old
-Works env Eval old new = new ≡ old
+-- what is left of a tree, where names are bound as `env` says; S is the simplifier
+abbrev pub what_is_left : Ops (Part NoExtension) ⊥ → Env → BareExpr → BareExpr
+what_is_left S env e = tree_of held_call (sure (fold S env e))
+
+-- what a command makes of the old stack, where names are bound as `env` says; S is the simplifier
+abbrev pub Works : Ops (Part NoExtension) ⊥ → Env → Command → Stack → Stack → Type 0
+Works S env (Bool' b) old new = Pushes (λ e. bare_expr e ≡ Lit (BoolLit b)) old new
+Works S env (Long n) old new = Pushes (λ e. bare_expr e ≡ Lit (LongLit n)) old new
+Works S env (String text) old new = Pushes (λ e. bare_expr e ≡ Lit (StringLit text.now)) old new
+Works S env (Var v) old new = Pushes (λ e. bare_expr e ≡ variable v) old new
+Works S env (Slot s) old new = Pushes (λ e. bare_expr e ≡ tree_ops.slot_of s) old new
+Works S env (Unknown name annotation) old new = Pushes (λ e. bare_expr e ≡ unknown name.now (bare_annotation annotation)) old new
+Works S env If old new = ReplacesThree (λ a b c e. bare_expr e ≡ tree_ops.if_of (bare_expr a) (bare_expr b) (bare_expr c)) old new
+Works S env And old new = ReplacesTwo (λ a b e. bare_expr e ≡ tree_ops.and_of (bare_expr a) (bare_expr b)) old new
+Works S env Or old new = ReplacesTwo (λ a b e. bare_expr e ≡ tree_ops.or_of (bare_expr a) (bare_expr b)) old new
+Works S env RawAnd old new = ReplacesTwo (λ a b e. bare_expr e ≡ conjunction (bare_expr a) (bare_expr b)) old new
+Works S env RawOr old new = ReplacesTwo (λ a b e. bare_expr e ≡ disjunction (bare_expr a) (bare_expr b)) old new
+Works S env (Unary op) old new = ReplacesOne (λ a e. bare_expr e ≡ tree_ops.unary_of op (bare_expr a)) old new
+Works S env (Binary op) old new = ReplacesTwo (λ a b e. bare_expr e ≡ tree_ops.binary_of op (bare_expr a) (bare_expr b)) old new
+Works S env (Call name count) old new = ReplacesMany count (λ args e. bare_expr e ≡ call (bare_name name) (bare_exprs args)) old new
+Works S env (Get k) old new = ReplacesOne (λ a e. bare_expr e ≡ tree_ops.get_of (bare_expr a) k.now) old new
+Works S env (Has k) old new = ReplacesOne (λ a e. bare_expr e ≡ tree_ops.has_of (bare_expr a) k.now []) old new
+Works S env (ExtHas ks) old new = ReplacesOne (λ a e. bare_expr e ≡ tree_ops.has_of (bare_expr a) ks.head.now (texts_now ks.tail.items)) old new
+Works S env (Like p) old new = ReplacesOne (λ a e. bare_expr e ≡ tree_ops.like_of (bare_expr a) p) old new
+Works S env (Is ty) old new = ReplacesOne (λ a e. bare_expr e ≡ tree_ops.is_of (bare_expr a) (bare_entity_type ty)) old new
+Works S env (Set count) old new = ReplacesMany count (λ es e. bare_expr e ≡ members (bare_exprs es)) old new
+Works S env (Record keys) old new = ReplacesMany (vec_len keys) (λ values e. bare_expr e ≡ record_of keys.items values) old new
+Works S env (Bind name) old new = new ≡ drop 1 old
+Works S env Substitute old new = ReplacesOne (λ a e. fold tree_ops env (bare_expr a) ≡ Ok (bare_expr e)) old new
+Works S env Typed old new = ReplacesOne (λ a e. (fold tree_ops env (bare_expr a) ≡ Ok (bare_expr e)) × (clash env (bare_expr a) ≡ None)) old new
+Works S env Show old new = new ≡ old
+Works S env Eval old new = new ≡ old
+Works S env Simplify old new = ReplacesOne (λ a e. bare_expr e ≡ what_is_left S env (bare_expr a)) old new
 
 -- what is bound after a command: `bind` binds its name to the value of the top, and every other
 -- command changes nothing; R is the order of extension values, of which there are none

@@ -14,7 +14,7 @@ use Rattle.cedar_terms.specs.declared.ops.UnaryOp.TheVariants.{Not, Neg, IsEmpty
 use Rattle.cedar_builders.specs.BareExpr.{Text}
 use Rattle.cedar_script.specs.Words.{WritesCount, WritesLong}
 use Rattle.cedar_script.specs.declared.line.Command.{Command}
-use Rattle.cedar_script.specs.declared.line.Command.TheVariants.{Bool, Long, String, Var, Slot, Unknown, If, And, Or, RawAnd, RawOr, Unary, Binary, Call, Get, Has, ExtHas, Like, Is, Set, Record, Bind, Substitute, Typed, Show, Eval}
+use Rattle.cedar_script.specs.declared.line.Command.TheVariants.{Bool, Long, String, Var, Slot, Unknown, If, And, Or, RawAnd, RawOr, Unary, Binary, Call, Get, Has, ExtHas, Like, Is, Set, Record, Bind, Substitute, Typed, Show, Eval, Simplify}
 
 -- what references to texts point to
 abbrev pub texts_now : List (Bor Text) → List Text
@@ -75,3 +75,4 @@ Spells Substitute ws = Alone (codes "substitute") ws
 Spells Typed ws = Alone (codes "typed") ws
 Spells Show ws = Alone (codes "show") ws
 Spells Eval ws = Alone (codes "eval") ws
+Spells Simplify ws = Alone (codes "simplify") ws

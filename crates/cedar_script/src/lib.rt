@@ -1,4 +1,5 @@
-//! The language of scripts: lines that make, bind, substitute, evaluate and show expressions.
+//! The language of scripts: lines that make, bind, substitute, simplify, evaluate and show
+//! expressions.
 #![tactic(auto)]
 
 mod line;

@@ -79,6 +79,8 @@ pub enum Command<'a> {
     Show,
     /// Shows the outcome of the top, which stays: its value, or the fault.
     Eval,
+    /// Replaces the top by what is left of it.
+    Simplify,
 }
 
 impl<'a> Command<'a> {
@@ -90,19 +92,29 @@ impl<'a> Command<'a> {
         ensures { IfErr result (λ e. (e ≡ Refusal.BadLine) ⊎ (e ≡ Refusal.Memory)) }
     {
         match text.split_once(' ') {
-            Some(("string", rest)) => return Ok(Command::String(rest)),
-            Some(("like", rest)) => return Ok(Command::Like(parse_pattern(alloc, rest)?)),
-            _ => {}
+            None => parse_alone(alloc, text),
+            Some(("string", rest)) => Ok(Command::String(rest)),
+            Some(("like", rest)) => Ok(Command::Like(parse_pattern(alloc, rest)?)),
+            Some((first, rest)) => match rest.split_once(' ') {
+                None if !rest.is_empty() => parse_with_one(alloc, first, rest),
+                _ => parse_each(alloc, text),
+            },
         }
-        let words: Vec<&str> = text.split(' ').collect(alloc)?;
-        if words.iter().any(|word| word.is_empty()) {
-            return Err(Refusal::BadLine);
-        }
-        parse_words(alloc, &words)
     }
 }
 
-// The command that words spell, none of which is empty.
+// The command that the words of a line spell, three or more.
+fn parse_each<'a>(alloc: Global, text: &'a str) -> Result<Command<'a>, Refusal>
+    ensures { IfErr result (λ e. (e ≡ Refusal.BadLine) ⊎ (e ≡ Refusal.Memory)) }
+{
+    let words: Vec<&str> = text.split(' ').collect(alloc)?;
+    if words.iter().any(|word| word.is_empty()) {
+        return Err(Refusal::BadLine);
+    }
+    parse_words(alloc, &words)
+}
+
+// The command that three words or more spell, none of which is empty.
 fn parse_words<'a>(alloc: Global, words: &[&'a str]) -> Result<Command<'a>, Refusal>
     ensures spelled { IfOk result (λ command. Spells command (texts_now words.now)) }
     ensures refused { IfErr result (λ e. (e ≡ Refusal.BadLine) ⊎ (e ≡ Refusal.Memory)) }
@@ -113,8 +125,6 @@ fn parse_words<'a>(alloc: Global, words: &[&'a str]) -> Result<Command<'a>, Refu
             let later = later.to_vec(alloc)?;
             Ok(Command::ExtHas(NonEmpty::new(*first, later)))
         }
-        [word] => parse_alone(alloc, word),
-        [first, word] => parse_with_one(alloc, first, word),
         ["unknown", name, ty] => Ok(Command::Unknown(name, Some(parse_type(ty)?))),
         ["call", name, number] => Ok(Command::Call(parse_name(alloc, name)?, parse_count(number)?)),
         _ => Err(Refusal::BadLine),
@@ -137,10 +147,12 @@ fn parse_alone<'a>(alloc: Global, word: &str) -> Result<Command<'a>, Refusal>
         "neg" => Ok(Command::Unary(UnaryOp::Neg)),
         "isEmpty" => Ok(Command::Unary(UnaryOp::IsEmpty)),
         "like" => Ok(Command::Like(Pattern::from_vec(alloc, Vec::new(alloc))?)),
+        "record" => Ok(Command::Record(Vec::new(alloc))),
         "substitute" => Ok(Command::Substitute),
         "typed" => Ok(Command::Typed),
         "show" => Ok(Command::Show),
         "eval" => Ok(Command::Eval),
+        "simplify" => Ok(Command::Simplify),
         _ => Ok(Command::Binary(parse_binary_op(word)?)),
     }
 }
@@ -160,6 +172,8 @@ fn parse_with_one<'a>(alloc: Global, first: &str, word: &'a str) -> Result<Comma
         "has" => Ok(Command::Has(word)),
         "is" => Ok(Command::Is(EntityType::from(parse_name(alloc, word)?))),
         "set" => Ok(Command::Set(parse_count(word)?)),
+        "record" => Ok(Command::Record(vec![in alloc; word]?)),
+        "exthas" => Ok(Command::ExtHas(NonEmpty::new(word, Vec::new(alloc)))),
         "bind" => Ok(Command::Bind(word)),
         _ => Err(Refusal::BadLine),
     }

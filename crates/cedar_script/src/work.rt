@@ -16,7 +16,7 @@ ghost use Rattle.cedar_builders.specs.SubstitutionErrors.{IsClashError};
 ghost use Rattle.cedar_value_trees.specs.Reading.{IsValueOf};
 ghost use Rattle.cedar_values.specs.BareValues.{bare_value};
 ghost use Rattle.cedar_evaluator.specs.Texts.{outcome_text};
-ghost use Rattle.cedar_script.specs.CommandEffects.{needed_count, left_count, key_pairs, record_of, Works, Binds, Shows};
+ghost use Rattle.cedar_script.specs.CommandEffects.{needed_count, left_count, key_pairs, record_of, what_is_left, Works, Binds, Shows};
 ghost use Rattle.cedar_script.specs.CommandWords.{texts_now};
 ghost use Rattle.cedar_script.specs.Refusals.{IsCallRefusal, IsValueRefusal};
 ghost use Rattle.cedar_sketch.specs.SketchTexts.{sketch_ops};
@@ -29,6 +29,7 @@ use cedar_builders::ExprBuilder as Builder;
 use cedar_evaluator::{Evaluator, evaluate};
 use cedar_exprs::{Expr, ExprBuilder, ExprKind, SubstitutionError};
 use cedar_names::{Name, NonEmpty};
+use cedar_simplifier::{Simplifier, simplify};
 use cedar_sketch::Sketch;
 use cedar_terms::{Literal, Type, Unknown};
 use cedar_values::{NoExtension, Value};
@@ -63,8 +64,8 @@ impl State {
     /// needs. After a refusal some of them may be gone.
     pub fn work(&mut self, alloc: Global, command: Command<'_>) -> Shown
         ensures works { OnOk result
-            (Works (environment (bindings_of self.old)) command.entry
-            (stack_of self.old) (stack_of self.new)) }
+            (Works ⟦<Simplifier as Builder>⟧.ops (environment (bindings_of self.old))
+            command.entry (stack_of self.old) (stack_of self.new)) }
         ensures binds { OnOk result
             (Binds ⟦<NoExtension as Ord>⟧.cmp command.entry self.old self.new) }
         ensures depth { OnOk result
@@ -109,6 +110,7 @@ impl State {
             Command::Typed => self.substitute_typed(alloc),
             Command::Show => self.show(alloc),
             Command::Eval => self.evaluate(alloc),
+            Command::Simplify => self.simplify(alloc),
         }
     }
 
@@ -308,6 +310,32 @@ impl State {
         let top = self.pop()?;
         let top = self.replace_bound_typed(alloc, &top)?;
         self.push(top)
+    }
+
+    // Replaces the top by what is left of it.
+    fn simplify(&mut self, alloc: Global) -> Shown
+        ensures shows { IfOk result (λ shown. shown ≡ None) }
+        ensures bindings { bindings_of self.new ≡ bindings_of self.old }
+        ensures made { OnOk result (ReplacesOne
+            (λ a e. bare_expr e
+            ≡ what_is_left ⟦<Simplifier as Builder>⟧.ops (environment (bindings_of self.old))
+            (bare_expr a))
+            (stack_of self.old) (stack_of self.new)) }
+        ensures depth { OnOk result (depth self.new ≡ depth self.old) }
+        ensures too_few { IsErrOf result Refusal.TooFewExpressions ↔ (depth self.old < 1) }
+    {
+        let top = self.pop()?;
+        let top = self.simplify_bound(alloc, &top)?;
+        self.push(top)
+    }
+
+    // What is left of the expression with what is bound.
+    fn simplify_bound(&self, alloc: Global, expr: &Expr) -> Result<Expr, AllocError>
+        ensures { IfOk result (λ e. bare_expr e
+            ≡ what_is_left ⟦<Simplifier as Builder>⟧.ops (environment (bindings_of self.now))
+            (bare_expr expr.now)) }
+    {
+        simplify(alloc, expr, &self.bindings)?.into_expr(alloc)
     }
 
     // Replaces each unknown of the expression whose name is bound.
