@@ -1,0 +1,141 @@
+//! Literals, names and slots.
+ghost use Rattle.std.specs.Prelude.{◌≤◌};
+ghost use Rattle.cedar_tokens.specs.Pieces.{tokens_left};
+
+use crate::nodes::Nodes;
+use cedar_exprs::{Expr, ExprKind};
+use cedar_names::{FromNormalizedStr as _, Name, ParseErrors, SlotId};
+use cedar_terms::{EntityType, EntityUID, Literal, Var};
+use cedar_tokens::{Kind, Refusal, Span, Token, Tokens, read_text};
+use std::alloc::Global;
+use std::rc::RcStr;
+
+impl Nodes<'_> {
+    /// The entity of this type whose identifier is the next token.
+    pub(crate) fn entity(
+        &self,
+        path: Path,
+        tokens: &mut Tokens<'_>,
+    ) -> Result<(Expr, Span), Refusal>
+        ensures { tokens_left tokens.new ≤ tokens_left tokens.old }
+    {
+        let id = tokens.expect(Kind::Quoted, "an identifier or a text is wanted here")?;
+        let ty = EntityType::from(path.name(self.alloc)?);
+        let uid = EntityUID::new(ty, text_of(self.alloc, id)?);
+        let literal = Literal::from_uid(self.alloc, uid)?;
+        let span = path.span.up_to(id.span.stop);
+        Ok((self.node(ExprKind::Lit(literal), span)?, span))
+    }
+
+    /// A variable of the request.
+    pub(crate) fn variable(&self, path: &Path) -> Result<Expr, Refusal> {
+        let var = match path.text.as_str() {
+            "principal" => Var::Principal,
+            "action" => Var::Action,
+            "resource" => Var::Resource,
+            "context" => Var::Context,
+            _ => return Err(Refusal::Syntax(path.span, "this is no variable")),
+        };
+        match self.value(&path.text, path.span)? {
+            Some(expr) => Ok(expr),
+            None => Ok(self.node(ExprKind::Var(var), path.span)?),
+        }
+    }
+
+    /// A slot.
+    pub(crate) fn slot(&self, token: Token<'_>) -> Result<Expr, Refusal> {
+        let slot = match token.text {
+            "?principal" => SlotId::Principal,
+            "?resource" => SlotId::Resource,
+            _ => return Err(Refusal::Syntax(token.span, "a slot is `?principal` or `?resource`")),
+        };
+        Ok(self.node(ExprKind::Slot(slot), token.span)?)
+    }
+}
+
+/// The integer of these digits, below 0 where a minus stands before them.
+pub(crate) fn integer(digits: Token<'_>, is_negative: bool) -> Result<Literal, Refusal> {
+    let size = digits.text.parse::<u64>().ok();
+    match size.and_then(|size| signed(size, is_negative)) {
+        Some(integer) => Ok(Literal::Long(integer)),
+        None => Err(Refusal::Syntax(digits.span, "this is no integer of 64 bits")),
+    }
+}
+
+// The integer of this size.
+fn signed(size: u64, is_negative: bool) -> Option<i64> {
+    if is_negative {
+        0_i64.checked_sub_unsigned(size)
+    } else {
+        i64::try_from(size).ok()
+    }
+}
+
+/// The text that a token between quotes stands for.
+pub(crate) fn text_of(alloc: Global, token: Token<'_>) -> Result<RcStr, Refusal> {
+    match read_text(alloc, inside(token))? {
+        Some(text) => Ok(RcStr::from_str(alloc, &text)?),
+        None => Err(Refusal::Syntax(token.span, "this text has an escape that there is not")),
+    }
+}
+
+/// What stands between the quotes of a token.
+pub(crate) fn inside<'a>(token: Token<'a>) -> &'a str {
+    let open = token.text.strip_prefix('"').unwrap_or(token.text);
+    open.strip_suffix('"').unwrap_or(open)
+}
+
+/// The key of a field or of `has`, which may stand in quotes, and where it ends.
+pub(crate) fn key(alloc: Global, tokens: &mut Tokens<'_>) -> Result<(RcStr, usize), Refusal>
+    ensures { tokens_left tokens.new ≤ tokens_left tokens.old }
+{
+    match tokens.take_if(Kind::Quoted) {
+        Some(token) => Ok((text_of(alloc, token)?, token.span.stop)),
+        None => {
+            let token = tokens.expect(Kind::Word, "an identifier or a text is wanted here")?;
+            Ok((RcStr::from_str(alloc, token.text)?, token.span.stop))
+        }
+    }
+}
+
+/// Identifiers with `::` between.
+#[derive(Drop)]
+pub(crate) struct Path {
+    /// Their text without blanks.
+    text: String,
+    pub(crate) span: Span,
+}
+
+impl Path {
+    /// The path that begins with this identifier.
+    pub(crate) fn read(
+        alloc: Global,
+        first: Token<'_>,
+        tokens: &mut Tokens<'_>,
+    ) -> Result<Path, Refusal>
+        ensures { tokens_left tokens.new ≤ tokens_left tokens.old }
+    {
+        let mut text = String::from_str(alloc, first.text)?;
+        let mut span = first.span;
+        'identifiers: while let Some(next) = tokens.take_pair(Kind::Colons, Kind::Word) {
+            text.push_str("::")?;
+            text.push_str(next.text)?;
+            span = span.up_to(next.span.stop);
+        }
+        Ok(Path { text, span })
+    }
+
+    /// The name that it is.
+    pub(crate) fn name(&self, alloc: Global) -> Result<Name, Refusal> {
+        name_of(alloc, &self.text, self.span)
+    }
+}
+
+/// The name of this text, which stands here.
+pub(crate) fn name_of(alloc: Global, text: &str, span: Span) -> Result<Name, Refusal> {
+    match Name::from_normalized_str(alloc, text) {
+        Ok(name) => Ok(name),
+        Err(ParseErrors::Memory) => Err(Refusal::Memory),
+        Err(_) => Err(Refusal::Syntax(span, "this is no name")),
+    }
+}

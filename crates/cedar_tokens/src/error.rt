@@ -1,0 +1,166 @@
+//! Why a text is not read, and where.
+ghost use Rattle.std.specs.Prelude.{◌≡◌};
+ghost use Rattle.cedar_tokens.specs.declared.error.ReadError.TheVariants.{Memory};
+
+use crate::token::Span;
+use std::alloc::AllocError;
+use std::fmt;
+use thiserror::Error;
+
+/// A text is no expression of Cedar's syntax.
+#[derive(Clone, Copy, Debug, Error)]
+#[error("line {line}, column {column}: {problem}")]
+pub struct SyntaxError {
+    /// What is wrong.
+    pub problem: &'static str,
+    /// The line in which the piece begins that is wrong, from 1 on.
+    pub line: usize,
+    /// The character of the line with which it begins, from 1 on.
+    pub column: usize,
+    /// Where it begins, in bytes of the text.
+    pub start: usize,
+    /// Where it ends.
+    pub stop: usize,
+}
+
+impl SyntaxError {
+    // The problem with a piece of the text.
+    pub(crate) fn new(text: &str, span: Span, problem: &'static str) -> SyntaxError {
+        let Span { start, stop } = span;
+        let piece = Excerpt { text, start, stop };
+        SyntaxError {
+            problem,
+            line: piece.line(),
+            column: piece.column(),
+            start,
+            stop,
+        }
+    }
+
+    /// The piece of the text that is wrong, for display.
+    pub fn excerpt<'a>(&self, text: &'a str) -> Excerpt<'a> {
+        Excerpt {
+            text,
+            start: self.start,
+            stop: self.stop,
+        }
+    }
+}
+
+/// Why a text is not read.
+#[derive(Clone, Copy, Debug, Error)]
+pub enum ReadError {
+    /// The text is no expression.
+    #[error("{0}")]
+    Syntax(SyntaxError),
+    /// Memory was wanted, and none was given.
+    #[error("no memory")]
+    Memory,
+}
+
+impl From<AllocError> for ReadError {
+    ghost from_gives = { λ _ e. e ≡ Memory };
+
+    fn from(_error: AllocError) -> ReadError {
+        ReadError::Memory
+    }
+}
+
+/// A piece of a text as it is shown to who wrote it: the line in which it begins, and carets below
+/// the piece.
+///
+/// ```text
+///     1 + (2 *)
+///             ^
+/// ```
+///
+/// Of a piece of several lines the first is shown.
+#[derive(Clone, Copy, Debug)]
+pub struct Excerpt<'a> {
+    /// The whole text.
+    pub text: &'a str,
+    /// Where the piece begins, in bytes.
+    pub start: usize,
+    /// Where it ends.
+    pub stop: usize,
+}
+
+impl Excerpt<'_> {
+    // What stands before the piece.
+    fn before(&self) -> &str {
+        self.text.get(..self.start).unwrap_or(self.text)
+    }
+
+    // What stands before the piece in its line.
+    fn line_before(&self) -> &str {
+        let before = self.before();
+        last_line(before)
+    }
+
+    // What stands in the piece's line from the piece on.
+    fn line_after(&self) -> &str {
+        match self.text.get(self.start..) {
+            Some(after) => first_line(after),
+            None => "",
+        }
+    }
+
+    /// The number of its line, from 1 on.
+    pub fn line(&self) -> usize {
+        let breaks = self.before().bytes().filter(|byte| *byte == b'\n').count();
+        breaks.saturating_add(1)
+    }
+
+    /// The character of the line with which it begins, from 1 on.
+    pub fn column(&self) -> usize {
+        self.line_before().chars().count().saturating_add(1)
+    }
+
+    // How many carets there are: one for each character of the piece in its line, one at least.
+    fn width(&self) -> usize {
+        let piece = first_line(self.text.get(self.start..self.stop).unwrap_or(""));
+        piece.chars().count().max(1)
+    }
+}
+
+// The text up to its first line feed.
+fn first_line(text: &str) -> &str {
+    match text.split_once('\n') {
+        Some((line, _)) => line,
+        None => text,
+    }
+}
+
+// The text from behind its last line feed.
+fn last_line(text: &str) -> &str {
+    match text.rsplit_once('\n') {
+        Some((_, line)) => line,
+        None => text,
+    }
+}
+
+impl fmt::Display for Excerpt<'_> {
+    fn fmt<W: fmt::Write>(&self, f: &mut fmt::Formatter<W>) -> fmt::Result {
+        let before = self.line_before();
+        let after = self.line_after();
+        write!(f, "    {before}{after}\n    ")?;
+        write_blanks(f, before)?;
+        write_carets(f, self.width())
+    }
+}
+
+// Writes a blank for each character, a tab for a tab.
+fn write_blanks<W: fmt::Write>(f: &mut fmt::Formatter<W>, text: &str) -> fmt::Result {
+    for c in text.chars() {
+        f.write_char(if c == '\t' { '\t' } else { ' ' })?;
+    }
+    Ok(())
+}
+
+// Writes this many carets.
+fn write_carets<W: fmt::Write>(f: &mut fmt::Formatter<W>, count: usize) -> fmt::Result {
+    for _ in 0..count {
+        f.write_char('^')?;
+    }
+    Ok(())
+}

@@ -1,0 +1,90 @@
+//! The tokens of a text, as they are taken one by one.
+ghost use Rattle.std.specs.Prelude.{◌<◌, ◌≤◌, IfSome};
+ghost use Rattle.cedar_tokens.specs.Pieces.{tokens_left};
+
+use crate::refusal::Refusal;
+use crate::token::{Kind, Span, Token};
+
+/// The tokens that are not taken yet.
+#[derive(Drop)]
+pub struct Tokens<'a> {
+    rest: &'a [Token<'a>],
+    // The end of the text.
+    end: Token<'a>,
+}
+
+impl<'a> Tokens<'a> {
+    /// All of them.
+    pub fn new(tokens: &'a [Token<'a>]) -> Tokens<'a> {
+        let at = tokens.last().map_or(0, |last| last.span.stop);
+        Tokens {
+            rest: tokens,
+            end: Token {
+                kind: Kind::End,
+                text: "",
+                span: Span {
+                    start: at,
+                    stop: at,
+                },
+            },
+        }
+    }
+
+    /// The next one, or the end.
+    pub fn first(&self) -> Token<'a> {
+        match self.rest {
+            [first, ..] => *first,
+            [] => self.end,
+        }
+    }
+
+    /// Takes the next one, if there is one.
+    pub fn next(&mut self) -> Option<Token<'a>>
+        ensures left { tokens_left self.new ≤ tokens_left self.old }
+        ensures takes { IfSome result (λ _. tokens_left self.new < tokens_left self.old) }
+    {
+        match self.rest {
+            [token, rest @ ..] => {
+                self.rest = rest;
+                Some(*token)
+            }
+            [] => None,
+        }
+    }
+
+    /// Takes the next one, if it is of this kind.
+    pub fn take_if(&mut self, kind: Kind) -> Option<Token<'a>>
+        ensures left { tokens_left self.new ≤ tokens_left self.old }
+        ensures takes { IfSome result (λ _. tokens_left self.new < tokens_left self.old) }
+    {
+        if self.first().kind == kind {
+            self.next()
+        } else {
+            None
+        }
+    }
+
+    /// Takes the next two, if they are of these kinds, and gives the second.
+    pub fn take_pair(&mut self, first: Kind, second: Kind) -> Option<Token<'a>>
+        ensures left { tokens_left self.new ≤ tokens_left self.old }
+        ensures takes { IfSome result (λ _. tokens_left self.new < tokens_left self.old) }
+    {
+        match self.rest {
+            [a, b, rest @ ..] if a.kind == first && b.kind == second => {
+                self.rest = rest;
+                Some(*b)
+            }
+            _ => None,
+        }
+    }
+
+    /// Takes the next one, which has to be of this kind.
+    pub fn expect(&mut self, kind: Kind, problem: &'static str) -> Result<Token<'a>, Refusal>
+        ensures { tokens_left self.new ≤ tokens_left self.old }
+    {
+        match self.take_if(kind) {
+            Some(token) => Ok(token),
+            None => Err(Refusal::Syntax(self.first().span, problem)),
+        }
+    }
+}
