@@ -219,7 +219,11 @@ fn write_members<'a, X: ExtensionValue + Ord>(
     let mut row = row;
     'each: while let Some(member) = row.rest.next() {
         match leaf(alloc, member)? {
-            Some(expr) => row.exprs.push(expr)?,
+            // `push` would hand the expression back where it fails, which costs a move.
+            Some(expr) => {
+                row.exprs.reserve(1)?;
+                row.exprs.push_reserved(expr);
+            }
             None => return Ok(Step::Into(Waiting::InSet(row), member)),
         }
     }
@@ -253,6 +257,7 @@ fn write_pairs<'a, X: ExtensionValue + Ord>(
 }
 
 // The expression of a value without values inside; none of another value.
+#[inline(always)]
 fn leaf<X: ExtensionValue + Ord>(
     alloc: Global,
     value: &Value<X>,
@@ -272,6 +277,7 @@ fn leaf<X: ExtensionValue + Ord>(
 }
 
 // The expression of a literal, at a place.
+#[inline(always)]
 fn literal_at(alloc: Global, literal: &Literal, loc: Option<&Loc>) -> Result<Expr<()>, AllocError>
     ensures tree { IfOk result (λ e. bare_expr e ≡ Lit (bare_literal literal.now)) }
     ensures place { IfOk result (λ e. expr_place e ≡ option_copied loc.entry) }
@@ -281,6 +287,7 @@ fn literal_at(alloc: Global, literal: &Literal, loc: Option<&Loc>) -> Result<Exp
 }
 
 // The expression of an extension value, at a place.
+#[inline(never)]
 fn extension_at<X: ExtensionValue>(
     alloc: Global,
     value: &RepresentableExtensionValue<X>,
@@ -296,6 +303,7 @@ fn extension_at<X: ExtensionValue>(
 }
 
 // The expression at another place.
+#[inline(always)]
 fn at_place(expr: Expr<()>, loc: Option<Loc>) -> Expr<()>
     ensures tree { bare_expr result ≡ bare_expr expr }
     ensures place { expr_place result ≡ loc }
