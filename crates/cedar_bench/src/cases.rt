@@ -24,6 +24,7 @@ pub enum Call {
     Walk,
     CmpShape,
     NewSet(Members),
+    DropSet(Members),
     Contains(Members),
     Subset(Members),
     Disjoint(Members),
@@ -61,6 +62,7 @@ impl Call {
             Call::Walk => expressions::time_walk(rt, size),
             Call::CmpShape => expressions::time_cmp_shape(rt, size),
             Call::NewSet(members) => sets::time_new(rt, members, size),
+            Call::DropSet(members) => sets::time_drop(rt, members, size),
             Call::Contains(members) => sets::time_contains(rt, members, size),
             Call::Subset(members) => sets::time_subset(rt, members, size),
             Call::Disjoint(members) => sets::time_disjoint(rt, members, size),
@@ -120,7 +122,7 @@ const CALLS: [usize; 3] = [1_000, 10_000, 100_000];
 const LINES: [usize; 3] = [1_000, 10_000, 100_000];
 
 /// The name of each case, its sizes from the least up, and its call.
-pub static CASES: [(&str, &[usize], Call); 60] = [
+pub static CASES: [(&str, &[usize], Call); 64] = [
     ("names-read", &NAMES, Call::ReadNames),
     ("names-refuse", &NAMES, Call::RefuseNames),
     ("names-sort", &NAMES, Call::SortNames),
@@ -144,6 +146,10 @@ pub static CASES: [(&str, &[usize], Call); 60] = [
     ("set-new-strings", &MEMBERS, Call::NewSet(Strings)),
     ("set-new-nested", &MEMBERS, Call::NewSet(Nested)),
     ("set-new-few", &MEMBERS, Call::NewSet(Few)),
+    ("set-drop-longs", &MEMBERS, Call::DropSet(Longs)),
+    ("set-drop-strings", &MEMBERS, Call::DropSet(Strings)),
+    ("set-drop-nested", &MEMBERS, Call::DropSet(Nested)),
+    ("set-drop-few", &MEMBERS, Call::DropSet(Few)),
     ("set-contains-longs", &MEMBERS, Call::Contains(Longs)),
     ("set-contains-strings", &MEMBERS, Call::Contains(Strings)),
     ("set-contains-nested", &MEMBERS, Call::Contains(Nested)),

@@ -27,6 +27,13 @@ pub fn time_new(rt: &HostRuntime, members: Members, count: usize) -> Result<Dura
     watch.stop(Set::new(rt.alloc(), values))
 }
 
+/// Drops the set of so many values, whose nested sets no one else has.
+pub fn time_drop(rt: &HostRuntime, members: Members, count: usize) -> Result<Duration, CaseFault> {
+    let set = Set::new(rt.alloc(), members.values(rt.alloc(), count)?)?;
+    let watch = Stopwatch::start(rt);
+    watch.stop::<(), CaseFault>(Ok(drop(set)))
+}
+
 /// Looks for so many values in the set of every other one.
 pub fn time_contains(
     rt: &HostRuntime,
