@@ -39,9 +39,6 @@ pub whole_rest : (n : Option ℕ) (xs : List Text) → inside n xs ≡ rest true
 whole_rest n [] = inside_none n
 whole_rest n (x ∷ xs) = refl
 
-pub none_shown : (first : Bool) (x : Text) (xs : List Text) → rest first (Some 0) (x ∷ xs) ≡ lead first ++ codes ".. "
-none_shown first x xs = refl
-
 -- what follows an item
 behind : (n : Option ℕ) (xs : List Text) → separator xs ++ inside n xs ≡ rest false n xs
 behind n [] = inside_none n

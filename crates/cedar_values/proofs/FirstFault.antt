@@ -1,5 +1,5 @@
 -- The first node that is no literal, set or record, from a node to its children.
-use Rattle.std.proofs.Common.{◌≡◌, ℕ, ◌+◌, ◌<◌, length, get_or, drop, drop-cons, add-one, List, [], ◌∷◌, map, Bool, true, false, not, ◌&&◌, if◌then◌else◌, Option, Some, None, option_map, refl, sym, ap, ◌∙◌, subst, Global, BTreeMap, Vec, Result, Ok, Err}
+use Rattle.std.proofs.Common.{◌≡◌, List, [], ◌∷◌, map, Bool, true, false, not, ◌&&◌, if◌then◌else◌, Option, Some, None, option_map, refl, sym, ap, ◌∙◌, subst, Global, BTreeMap, Vec, Result, Ok, Err}
 use Rattle.std.specs.List.{find, list_all}
 use Rattle.std.specs.Option.{option_or, is_none}
 use Rattle.std.specs.Result.{MatchResult}
@@ -104,11 +104,3 @@ module _ {T : Type 0} (all : List (Expr T)) (e : Expr T) (es : List (Expr T)) (w
 
   pub passed : first_not_readable e ≡ None → first_not_readable_of es ≡ w
   passed h = ap (λ r. option_or r (first_not_readable_of es)) (sym h) ∙ split
-
--- what is left of a list begins with the member that is next
-pub next_member : {A : Type 0} (es : List A) (i : ℕ) (e : A) → i < length es → e ≡ get_or es i e → drop i es ≡ e ∷ drop (i + 1) es
-next_member es i e lt is = rw (drop-cons es i e, ← is, add-one)
-
--- a refusal that is passed on
-pub passed_on : {A T : Type 0} (P : A → Type 0) (answer : Result A NotValue) (d : NotValue) (w w' : Option (Expr T)) → answer ≡ Err d → w ≡ w' → IsNotValueAt w d → MatchResult answer P (IsNotValueAt w')
-passed_on P answer d w w' is same h = subst (λ r. MatchResult r P (IsNotValueAt w')) (sym is) (subst (λ o. IsNotValueAt o d) same h)

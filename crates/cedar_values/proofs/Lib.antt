@@ -14,6 +14,7 @@ pub mod Entries
 pub mod ExprLevels
 pub mod FirstFault
 pub mod Readings
+pub mod RowsRead
 pub mod Restrictions
 pub mod Writings
 pub mod Rebuilt

@@ -1,5 +1,5 @@
 -- The values of lists and maps of expressions, one by one.
-use Rattle.std.proofs.Common.{◌≡◌, ℕ, ◌&&◌, ◌+◌, ◌<◌, ◌≤◌, List, [], ◌∷◌, ◌++◌, map, refl, sym, ap, subst, ◌∙◌, length, get_or, take, Global, BTreeMap, Vec, Bool, true, false, if◌then◌else◌}
+use Rattle.std.proofs.Common.{◌≡◌, ◌&&◌, List, [], ◌∷◌, ◌++◌, map, refl, sym, ap, subst, ◌∙◌, Global, BTreeMap, Vec, Bool, true, false, if◌then◌else◌}
 use Rattle.std.specs.List.{AllZip, list_all}
 use Rattle.std.specs.Rc.{rc_str_bytes}
 use Rattle.std.specs.Cmp.{IsTotalOrder}
@@ -7,7 +7,6 @@ use Rattle.std.specs.declared.rc.Rc.{Rc}
 use Rattle.std.specs.declared.rc.RcStr.{RcStr}
 use Rattle.std.specs.declared.cmp.Ordering.{Ordering}
 use Rattle.std.proofs.lemmas.List.Folds.{list_all-append}
-use Rattle.std.proofs.lemmas.List.{take_more, take_all}
 use Rattle.sorted_slices.specs.Classes.{IsClassesOf}
 use Rattle.sorted_slices.specs.Images.{classes_of_images}
 use Rattle.cedar_builders.specs.BareExpr as tree
@@ -19,6 +18,7 @@ use Rattle.cedar_value_trees.specs.ValueOrder.{value_cmp}
 use Rattle.cedar_value_trees.specs.Reading.{IsValueOf, AreValuesOf, ArePairsOf}
 use Rattle.cedar_values.specs.BareValues.{bare_value, bare_value_kind}
 use Rattle.cedar_values.specs.Conversions.{bare_pairs}
+use Rattle.cedar_values.specs.RowsRead.{IsRead, IsReadPair}
 use Rattle.cedar_values.specs.Places.{gathered, is_lit_value, unplaced}
 use Rattle.cedar_values.specs.Sets.{by_tree, members}
 use Rattle.cedar_values.specs.declared.value.Value.{Value}
@@ -38,42 +38,24 @@ pub one_more_kept : {A : Type 0} (p : A → Bool) (xs : List A) (x : A) → list
 one_more_kept p xs x all one = list_all-append p xs (x ∷ []) ∙ λ i. all i && (one i && true)
 
 module _ {X : Type 0} (R : X → X → Ordering) where
-  abbrev pub IsRead : Expr Unit → Value X → Type 0
-  IsRead e v = IsValueOf R (bare_expr e) (bare_value v)
-
-  abbrev pub IsReadPair : RcStr Global × Expr Unit → RcStr Global × Value X → Type 0
-  IsReadPair e v = (rc_str_bytes v.0 ≡ rc_str_bytes e.0) × IsRead e.1 v.1
-
-  -- the first ones are read, and then one more
-  pub one_more : (es : List (Expr Unit)) (vs : List (Value X)) (i : ℕ) (e : Expr Unit) (v : Value X) → i < length es → e ≡ get_or es i e → AllZip IsRead (take i es) vs → IsRead e v → AllZip IsRead (take (i + 1) es) (vs ++ v ∷ [])
-  one_more es vs i e v lt is h read =
-      subst (λ l. AllZip IsRead l (vs ++ v ∷ [])) (ap (λ x. take i es ++ x ∷ []) is ∙ sym (take_more es i e lt)) (zip_push IsRead (take i es) vs e v h read)
-
-  are_values : (es : List (Expr Unit)) (vs : List (Value X)) → AllZip IsRead es vs → AreValuesOf R (bare_exprs es) (map bare_value vs)
+  pub are_values : (es : List (Expr Unit)) (vs : List (Value X)) → AllZip (IsRead R) es vs → AreValuesOf R (bare_exprs es) (map bare_value vs)
   are_values [] [] h = tt
   are_values [] (v ∷ vs) h = absurd h
   are_values (e ∷ es) [] h = absurd h
   are_values (e ∷ es) (v ∷ vs) h = (h.0, are_values es vs h.1)
 
-  -- all of them
-  pub all_read : (es seen : List (Expr Unit)) (vs : List (Value X)) (i : ℕ) → AllZip IsRead (take i seen) vs → length seen ≤ i → seen ≡ es → AreValuesOf R (bare_exprs es) (map bare_value vs)
-  all_read es seen vs i h over is = are_values es vs (subst (λ l. AllZip IsRead l vs) (take_all i seen over ∙ is) h)
-
-  pub are_pairs : (es : List (RcStr Global × Expr Unit)) (vs : List (RcStr Global × Value X)) → AllZip IsReadPair es vs → ArePairsOf R (bare_fields es) (bare_pairs vs)
+  pub are_pairs : (es : List (RcStr Global × Expr Unit)) (vs : List (RcStr Global × Value X)) → AllZip (IsReadPair R) es vs → ArePairsOf R (bare_fields es) (bare_pairs vs)
   are_pairs [] [] h = tt
   are_pairs [] (v ∷ vs) h = absurd h
   are_pairs (e ∷ es) [] h = absurd h
   are_pairs (e ∷ es) (v ∷ vs) h = (h.0.0, h.0.1, are_pairs es vs h.1)
 
-  pub same_texts : (es : List (RcStr Global × Expr Unit)) (vs : List (RcStr Global × Value X)) → AllZip IsReadPair es vs
+  pub same_texts : (es : List (RcStr Global × Expr Unit)) (vs : List (RcStr Global × Value X)) → AllZip (IsReadPair R) es vs
       → map (λ (p : RcStr Global × Value X). rc_str_bytes p.0) vs ≡ map (λ (p : RcStr Global × Expr Unit). rc_str_bytes p.0) es
   same_texts [] [] h = refl
   same_texts [] (v ∷ vs) h = absurd h
   same_texts (e ∷ es) [] h = absurd h
   same_texts (e ∷ es) (v ∷ vs) h = λ i. h.0.0 i ∷ same_texts es vs h.1 i
-
-  pub one_more_pair : (es : List (RcStr Global × Expr Unit)) (vs : List (RcStr Global × Value X)) (e : RcStr Global × Expr Unit) (v : RcStr Global × Value X) → AllZip IsReadPair es vs → IsReadPair e v → AllZip IsReadPair (es ++ e ∷ []) (vs ++ v ∷ [])
-  one_more_pair es vs e v h p = zip_push IsReadPair es vs e v h p
 
   unplaced_trees : (vs : List (Value X)) → map bare_value (map unplaced vs) ≡ map bare_value vs
   unplaced_trees [] = refl

@@ -12,6 +12,7 @@ pub mod Keyed
 pub mod Counts
 pub mod Drops
 pub mod Rows
+pub mod RowsRead
 pub mod ValueMaps
 pub mod Holders
 pub mod PartialValues

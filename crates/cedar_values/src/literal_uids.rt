@@ -1,11 +1,11 @@
 //! The entities inside a value (`value.rs`).
-ghost use Rattle.std.specs.Prelude.{[], ◌∷◌, IfOk, OnOk};
+ghost use Rattle.std.specs.Prelude.{◌≡◌, ◌∷◌, ◌++◌, [], IfOk, OnOk, map};
 ghost use Rattle.cedar_terms.specs.Entities.{bare_entity_uid};
 ghost use Rattle.cedar_terms.specs.Literals.{bare_literal};
-ghost use Rattle.cedar_value_trees.specs.BareValue as bare;
-ghost use Rattle.cedar_values.specs.BareValues.{bare_set, bare_value, bare_value_kind};
-ghost use Rattle.cedar_values.specs.Conversions.{bare_pairs};
+ghost use Rattle.cedar_exprs.specs.Walks.{referents};
+ghost use Rattle.cedar_values.specs.BareValues.{bare_value, bare_value_kind, kind_of};
 ghost use Rattle.cedar_values.specs.LiteralUids.{Gains, HasJust, literal_uid, literal_uids};
+ghost use Rattle.cedar_values.specs.Sets.{members};
 
 use crate::set::Set;
 use crate::value::{Value, ValueKind};
@@ -20,9 +20,7 @@ impl<X> Value<X> {
     pub fn all_literal_uids(&self, alloc: Global) -> Result<HashSet<EntityUID>, AllocError>
         ensures { IfOk result (HasJust (literal_uids (bare_value self.now))) }
     {
-        let mut uids = HashSet::new(alloc);
-        add_uids(alloc, self, &mut uids)?;
-        Ok(uids)
+        self.value_kind().all_literal_uids(alloc)
     }
 }
 
@@ -32,73 +30,47 @@ impl<X> ValueKind<X> {
     pub fn all_literal_uids(&self, alloc: Global) -> Result<HashSet<EntityUID>, AllocError>
         ensures { IfOk result (HasJust (literal_uids (bare_value_kind self.now))) }
     {
+        // The values that are still to be looked at wait on the heap, so that no depth ends the walk.
         let mut uids = HashSet::new(alloc);
-        add_uids_of_kind(alloc, self, &mut uids)?;
+        let mut waiting = Vec::new(alloc);
+        waiting.push(self)?;
+        'walk: while let Some(kind) = waiting.pop() {
+            match kind {
+                ValueKind::Lit(literal) => add_literal(alloc, literal, &mut uids)?,
+                ValueKind::Set(set) => push_members(&mut waiting, set)?,
+                ValueKind::Record(pairs) => push_values(&mut waiting, pairs)?,
+                ValueKind::ExtensionValue(_) => {}
+            }
+        }
         Ok(uids)
     }
 }
 
-// Adds those of a value.
-#[cycle(add_uids)]
-fn add_uids<X>(
-    alloc: Global,
-    value: &Value<X>,
-    uids: &mut HashSet<EntityUID>,
+// Puts the members of a set behind what waits.
+fn push_members<'a, X>(
+    waiting: &mut Vec<&'a ValueKind<X>>,
+    set: &'a Set<X>,
 ) -> Result<(), AllocError>
-    ensures { OnOk result (Gains (literal_uids (bare_value value.now)) uids.old uids.new) }
-{
-    add_uids_of_kind(alloc, value.value_kind(), uids)
-}
-
-// Adds those of a kind.
-#[cycle(add_uids)]
-fn add_uids_of_kind<X>(
-    alloc: Global,
-    kind: &ValueKind<X>,
-    uids: &mut HashSet<EntityUID>,
-) -> Result<(), AllocError>
-    ensures { OnOk result (Gains (literal_uids (bare_value_kind kind.now)) uids.old uids.new) }
-{
-    match kind {
-        ValueKind::Lit(literal) => add_literal(alloc, literal, uids),
-        ValueKind::Set(set) => add_uids_of_members(alloc, set, uids),
-        ValueKind::Record(pairs) => add_uids_of_pairs(alloc, pairs, uids),
-        ValueKind::ExtensionValue(_) => Ok(()),
-    }
-}
-
-// Adds those of the members of a set.
-#[cycle(add_uids)]
-#[inline(never)]
-#[tactic(auto, unfolding(crate::specs::Sets::members))]
-fn add_uids_of_members<X>(
-    alloc: Global,
-    set: &Set<X>,
-    uids: &mut HashSet<EntityUID>,
-) -> Result<(), AllocError>
-    ensures { OnOk result
-        (Gains (literal_uids (bare.SetValue (bare_set set.now))) uids.old uids.new) }
+    ensures { OnOk result (referents waiting.new.items
+        ≡ referents waiting.old.items ++ map kind_of (members set.now)) }
 {
     let members = set.authoritative();
     for member in members {
-        add_uids(alloc, member, uids)?;
+        waiting.push(member.value_kind())?;
     }
     Ok(())
 }
 
-// Adds those of the values of a record.
-#[cycle(add_uids)]
-#[inline(never)]
-fn add_uids_of_pairs<X>(
-    alloc: Global,
-    pairs: &BTreeMap<RcStr, Value<X>>,
-    uids: &mut HashSet<EntityUID>,
+// Puts the values of a record behind what waits.
+fn push_values<'a, X>(
+    waiting: &mut Vec<&'a ValueKind<X>>,
+    pairs: &'a BTreeMap<RcStr, Value<X>>,
 ) -> Result<(), AllocError>
-    ensures { OnOk result
-        (Gains (literal_uids (bare.RecordValue (bare_pairs pairs.now.entries))) uids.old uids.new) }
+    ensures { OnOk result (referents waiting.new.items
+        ≡ referents waiting.old.items ++ map (λ e. kind_of e.1) pairs.now.entries) }
 {
     for (_, value) in pairs.iter() {
-        add_uids(alloc, value, uids)?;
+        waiting.push(value.value_kind())?;
     }
     Ok(())
 }

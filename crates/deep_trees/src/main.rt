@@ -1,5 +1,5 @@
 //! Chains of expressions, each one inside the next, that are made, substituted, built, shown and
-//! dropped on the usual stack; and chains of values, whose expressions are written.
+//! dropped on the usual stack; and chains of values, whose expressions are written and read back.
 #![tactic(auto)]
 
 mod values;
@@ -56,8 +56,13 @@ fn main(rt: HostRuntime) -> io::Result<()> {
         (Nest::Record, "record of values", RECORDS),
     ];
     for (nest, name, levels) in nests {
-        let text = show_value(rt.alloc(), nest, levels)?;
-        println!(rt; "{name}: {levels} levels, shown in {} bytes", text.len())?;
+        let shown = show_value(rt.alloc(), nest, levels)?;
+        println!(
+            rt;
+            "{name}: {levels} levels, entities: {}, shown in {} bytes",
+            shown.entities,
+            shown.text.len()
+        )?;
     }
     Ok(())
 }
