@@ -58,7 +58,8 @@ impl Nodes<'_> {
 
     /// The operation with its last operand.
     pub(crate) fn apply(&self, operation: Operation, last: Held) -> Result<Held, AllocError>
-        ensures { IfOk result (λ h. bare_expr h.expr ≡ operation_tree operation (bare_expr last.expr)) }
+        ensures { IfOk result (λ h.
+            bare_expr h.expr ≡ operation_tree operation (bare_expr last.expr)) }
     {
         let level = operation.level();
         let span = Span {
@@ -84,7 +85,8 @@ impl Nodes<'_> {
     }
 
     fn infix(&self, sign: Infix, first: Expr, last: Expr, span: Span) -> Result<Expr, AllocError>
-        ensures { IfOk result (λ e. bare_expr e ≡ infix_tree sign (bare_expr first) (bare_expr last)) }
+        ensures { IfOk result (λ e.
+            bare_expr e ≡ infix_tree sign (bare_expr first) (bare_expr last)) }
     {
         match sign {
             Infix::Or => self.or(first, last, span),
@@ -123,7 +125,8 @@ impl Nodes<'_> {
 
     /// An attribute of an operand, which ends here.
     pub(crate) fn get(&self, held: Held, attr: RcStr, stop: usize) -> Result<Held, AllocError>
-        ensures { IfOk result (λ h. bare_expr h.expr ≡ GetAttr (bare_expr held.expr) (rc_str_bytes attr)) }
+        ensures { IfOk result (λ h.
+            bare_expr h.expr ≡ GetAttr (bare_expr held.expr) (rc_str_bytes attr)) }
     {
         let span = held.span.up_to(stop);
         let expr = self.at(span)?.get_attr(self.alloc, held.expr, attr)?;
@@ -158,7 +161,8 @@ impl Nodes<'_> {
 
     /// The test for a type of entities, which ends here.
     pub(crate) fn is(&self, held: Held, ty: EntityType, stop: usize) -> Result<Held, AllocError>
-        ensures { IfOk result (λ h. bare_expr h.expr ≡ Is (bare_expr held.expr) (bare_entity_type ty)) }
+        ensures { IfOk result (λ h.
+            bare_expr h.expr ≡ Is (bare_expr held.expr) (bare_entity_type ty)) }
     {
         let span = held.span.up_to(stop);
         let expr = self.at(span)?.is_entity_type(self.alloc, held.expr, ty)?;

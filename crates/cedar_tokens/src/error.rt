@@ -38,7 +38,11 @@ impl SyntaxError {
     }
 
     /// The piece of the text that is wrong, for display.
-    pub fn excerpt<'a>(&self, text: &'a str) -> Excerpt<'a> {
+    pub fn excerpt<'a>(&self, text: &'a str) -> Excerpt<'a>
+        ensures text { result.text.now ≡ text.now }
+        ensures start { result.start ≡ self.now.start }
+        ensures stop { result.stop ≡ self.now.stop }
+    {
         Excerpt {
             text,
             start: self.start,

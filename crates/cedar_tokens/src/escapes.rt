@@ -29,8 +29,8 @@ pub fn read_text(alloc: Global, inside: &str) -> Result<Option<String>, AllocErr
     Ok(if rest.is_empty() { Some(text) } else { None })
 }
 
-/// The pattern that stands between quotes, if its escapes are those of patterns: those of texts, and
-/// `\*` for a star. A star is a wildcard else.
+/// The pattern that stands between quotes, if its escapes are those of patterns: those of texts,
+/// and `\*` for a star. A star is a wildcard else.
 pub fn read_pattern(alloc: Global, inside: &str) -> Result<Option<Pattern>, AllocError> {
     let mut elems = Vec::new(alloc);
     let mut rest = inside;

@@ -1,4 +1,5 @@
 //! What a text in Cedar's syntax is made of.
+ghost use Rattle.std.specs.Prelude.{◌≡◌};
 
 /// What a token is.
 #[derive(Clone, Copy, PartialEq, Eq)]
@@ -57,7 +58,10 @@ pub struct Span {
 
 impl Span {
     /// From where it begins up to here.
-    pub fn up_to(self, stop: usize) -> Span {
+    pub fn up_to(self, stop: usize) -> Span
+        ensures start { result.start ≡ self.start }
+        ensures stop { result.stop ≡ stop }
+    {
         Span {
             start: self.start,
             stop,

@@ -1,5 +1,5 @@
 //! The tokens of a text, as they are taken one by one.
-ghost use Rattle.std.specs.Prelude.{◌<◌, ◌≤◌, IfSome};
+ghost use Rattle.std.specs.Prelude.{◌≡◌, ◌<◌, ◌≤◌, IfSome, length};
 ghost use Rattle.cedar_tokens.specs.Pieces.{tokens_left};
 
 use crate::refusal::Refusal;
@@ -15,7 +15,9 @@ pub struct Tokens<'a> {
 
 impl<'a> Tokens<'a> {
     /// All of them.
-    pub fn new(tokens: &'a [Token<'a>]) -> Tokens<'a> {
+    pub fn new(tokens: &'a [Token<'a>]) -> Tokens<'a>
+        ensures { tokens_left result ≡ length tokens.now }
+    {
         let at = tokens.last().map_or(0, |last| last.span.stop);
         Tokens {
             rest: tokens,

@@ -37,9 +37,9 @@ fn show_error(rt: &HostRuntime, text: &str, error: &SyntaxError) -> io::Result<(
 
 /// Shows that depth ends no reading.
 pub fn show_deep(rt: &HostRuntime) -> io::Result<()> {
-    let text = nested(rt.alloc(), 100_000)?;
+    let text = nested(rt.alloc(), 20_000)?;
     match read_expr(rt.alloc(), &text) {
-        Ok(_) => println!(rt; "\n100000 conditionals in one another are read"),
+        Ok(_) => println!(rt; "\n20000 conditionals in one another are read"),
         Err(error) => println!(rt; "\n{error}"),
     }
 }
