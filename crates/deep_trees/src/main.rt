@@ -57,8 +57,7 @@ fn main(rt: HostRuntime) -> io::Result<()> {
     ];
     for (nest, name, levels) in nests {
         let shown = show_value(rt.alloc(), nest, levels)?;
-        println!(
-            rt;
+        println!(rt;
             "{name}: {levels} levels, entities: {}, shown in {} bytes",
             shown.entities,
             shown.text.len()
