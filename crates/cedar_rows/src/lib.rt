@@ -90,10 +90,17 @@ fn answer(alloc: Global, row: &str) -> Result<String, NoAnswer> {
     }
 }
 
-// By the crate that knows the call. The one that knows a single call is asked first, as it costs
-// the least.
+// By the crate that knows the call. Those that know a single call are asked first, as they cost the
+// least.
 fn answer_call(alloc: Global, call: &str, args: &[Part]) -> Result<String, NoAnswer> {
     match eval_rows::answer(alloc, call, args) {
+        Err(NoAnswer::OtherCall) => of_simplifications(alloc, call, args),
+        answered => answered,
+    }
+}
+
+fn of_simplifications(alloc: Global, call: &str, args: &[Part]) -> Result<String, NoAnswer> {
+    match simplify_rows::answer(alloc, call, args) {
         Err(NoAnswer::OtherCall) => of_expressions(alloc, call, args),
         answered => answered,
     }

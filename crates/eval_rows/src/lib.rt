@@ -4,6 +4,7 @@
 mod outcomes;
 mod plain_values;
 
+pub use crate::plain_values::{PlainValue, PlainValues, plain_bindings};
 use row_parts::{NoAnswer, Part};
 use std::alloc::Global;
 
