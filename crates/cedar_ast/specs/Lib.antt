@@ -37,3 +37,4 @@ pub use Rattle.cedar_calls.specs.OutputValues
 pub mod Construction
 pub mod Exprs
 pub mod Evaluations
+pub mod Simplifications

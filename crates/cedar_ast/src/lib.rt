@@ -8,6 +8,7 @@ pub mod evaluator;
 pub mod expr_builder;
 pub mod expression_construction_errors;
 pub mod laws;
+pub mod simplifier;
 
 pub use cedar_builders::{
     BuildFault, ExprBuilderInfallibleBuild, ExpressionConstructionError, LawfulExprBuilder,
