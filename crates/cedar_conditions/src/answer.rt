@@ -1,0 +1,131 @@
+//! The answer to a condition.
+use crate::bindings::Bindings;
+use crate::place::fault_place;
+use cedar_builders::BuildFault;
+use cedar_evaluator::{EvalFault, evaluate};
+use cedar_exprs::Expr;
+use cedar_printer::policy_text;
+use cedar_reader::{ReadError, SyntaxError, read_with_values};
+use cedar_simplifier::simplify;
+use std::alloc::{AllocError, Global};
+use std::collections::HashMap;
+use std::fmt;
+
+/// What comes of a condition, as text.
+#[derive(Debug, Drop)]
+pub enum Answer {
+    /// Its value.
+    Value(String),
+    /// What is left of it.
+    Left(String),
+    /// The fault which it has whatever else is bound, and where that comes up.
+    Fault(String),
+    /// Why it can't be read, and where.
+    NoCondition(String),
+}
+
+impl Answer {
+    /// Whether it is a value, or what is left.
+    pub fn is_well(&self) -> bool {
+        matches!(self, Answer::Value(_) | Answer::Left(_))
+    }
+}
+
+impl fmt::Display for Answer {
+    fn fmt<W: fmt::Write>(&self, f: &mut fmt::Formatter<W>) -> fmt::Result {
+        match self {
+            Answer::Value(text)
+            | Answer::Left(text)
+            | Answer::Fault(text)
+            | Answer::NoCondition(text) => f.write_str(text),
+        }
+    }
+}
+
+/// The answer to a condition, where some names are bound.
+///
+/// ```rust
+/// fn is_allowed(alloc: Global, bindings: &Bindings) -> Result<bool, AllocError> {
+///     let answer = answer(alloc, "principal == resource.owner", bindings)?;
+///     Ok(matches!(&answer, Answer::Value(text) if text == "true"))
+/// }
+/// ```
+pub fn evaluate_condition(
+    alloc: Global,
+    text: &str,
+    bindings: &Bindings,
+) -> Result<Answer, AllocError> {
+    match read_with_values(alloc, text, &bindings.read_as) {
+        Ok(expr) => answer_expr(alloc, text, &expr, bindings),
+        Err(ReadError::Syntax(error)) => no_condition(alloc, text, &error),
+        Err(ReadError::Memory) => Err(AllocError),
+    }
+}
+
+fn no_condition(alloc: Global, text: &str, error: &SyntaxError) -> Result<Answer, AllocError> {
+    let text = format!(in alloc; "{error}\n{}", error.excerpt(text))?;
+    Ok(Answer::NoCondition(text))
+}
+
+// The answer to an expression that was read.
+fn answer_expr(
+    alloc: Global,
+    text: &str,
+    expr: &Expr,
+    bindings: &Bindings,
+) -> Result<Answer, AllocError> {
+    let part = simplify(alloc, expr, &bindings.values)?;
+    let is_known = part.as_value().is_some();
+    let left = part.into_expr(alloc)?;
+    if is_known {
+        return Ok(Answer::Value(policy_text(alloc, &left)?.text));
+    }
+    match lasting_fault(alloc, &left)? {
+        Some(fault) => answer_fault(alloc, text, fault, bindings),
+        None => Ok(Answer::Left(policy_text(alloc, &left)?.text)),
+    }
+}
+
+// The fault of what is left, if no binding, store of entities or function takes it away.
+fn lasting_fault(alloc: Global, left: &Expr) -> Result<Option<EvalFault>, AllocError> {
+    match evaluate(alloc, left, &HashMap::new(alloc)) {
+        Ok(outcome) => Ok(lasting(outcome.as_result().as_ref().err())),
+        Err(BuildFault::Build(_)) => Ok(None),
+        Err(BuildFault::Memory) => Err(AllocError),
+    }
+}
+
+fn lasting(fault: Option<&EvalFault>) -> Option<EvalFault> {
+    match fault {
+        Some(EvalFault::Open | EvalFault::Store) | None => None,
+        Some(fault) => Some(*fault),
+    }
+}
+
+// A fault, with its place.
+fn answer_fault(
+    alloc: Global,
+    text: &str,
+    fault: EvalFault,
+    bindings: &Bindings,
+) -> Result<Answer, AllocError> {
+    let words = words(fault);
+    let text = match fault_place(alloc, text, bindings)? {
+        Some(piece) => {
+            let (line, column) = (piece.line(), piece.column());
+            format!(in alloc; "line {line}, column {column}: {words}\n{piece}")?
+        }
+        None => String::from_str(alloc, words)?,
+    };
+    Ok(Answer::Fault(text))
+}
+
+fn words(fault: EvalFault) -> &'static str {
+    match fault {
+        EvalFault::WrongType => "a value has the wrong type",
+        EvalFault::Overflow => "an integer is outside 64 bits",
+        EvalFault::Missing => "a record lacks the attribute",
+        EvalFault::Open => "a part is not known",
+        EvalFault::Store => "the store of entities alone could answer",
+    }
+}
