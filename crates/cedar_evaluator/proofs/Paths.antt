@@ -1,5 +1,5 @@
 -- Attributes, and paths of attributes.
-use Rattle.std.proofs.Common.{◌≡◌, Bool, true, false, Bor, List, [], ◌∷◌, Option, Some, None, IfSome, is_some, ok_or, option_map, Result, Ok, Err, cond, nat_cmp, refl, sym, subst, ◌∙◌}
+use Rattle.std.proofs.Common.{◌≡◌, Bool, true, false, Bor, List, [], ◌∷◌, Option, Some, None, IfSome, option_map, Err, cond, nat_cmp, refl, sym, subst, ◌∙◌}
 use Rattle.std.specs.BTreeMap.{is_at}
 use Rattle.std.specs.Cmp.Lexicographic.{slice_cmp, texts_ties}
 use Rattle.std.specs.Global.{Global}
@@ -9,16 +9,13 @@ use Rattle.std.specs.Option.{option_copied}
 use Rattle.std.specs.Rc.{rc_str_bytes}
 use Rattle.std.specs.declared.rc.RcStr.{RcStr}
 use Rattle.sorted_slices.specs.Rising.{and_left, and_right}
-use Rattle.cedar_terms.specs.Literals.{EntityLit}
 use Rattle.cedar_builders.specs.BareExpr.{Text}
-use Rattle.cedar_builders.specs.Fold.{on_one}
 use Rattle.cedar_builders.specs.Keys.{meant_pairs}
-use Rattle.cedar_value_trees.specs.BareValue.{BareValue, LitValue, RecordValue}
 use Rattle.cedar_values.specs.BareValues.{bare_value}
 use Rattle.cedar_values.specs.declared.value.Value.{Value}
-use Rattle.evaluations.specs.Attributes.{get_in, has_path, value_at}
-use Rattle.evaluations.specs.Outcomes.{Fault, By, Missing, Outcome, if_outcome, settled, truth}
-use Rattle.cedar_evaluator.specs.Kinds.{at_key, found_in}
+use Rattle.evaluations.specs.Attributes.{has_path}
+use Rattle.evaluations.specs.Outcomes.{Fault}
+use Rattle.cedar_evaluator.specs.Kinds.{at_key}
 
 module _ {V B : Type 0} where
   pub copied_map : (f : V → B) (o : Option (Bor V))
@@ -70,45 +67,6 @@ module _ {X : Type 0} where
   found_kept P f es o is h =
       copied_if (λ v. P v ≡ true) o
       (subst (λ r. IfSome r (λ v. P v ≡ true)) (sym is) (kept_at P f es h))
-
-  -- the path goes on from what was found
-  abbrev pub after : Result (Option (BareValue X)) Fault → Text → List Text → Outcome X
-  after (Ok (Some t)) j js = has_path (Ok t) j js
-  after (Ok None) j js = Ok (truth false)
-  after (Err f) j js = Err f
-
-  in_record : (o : Option (BareValue X)) (j : Text) (js : List Text)
-      → if_outcome (settled (Ok (truth (is_some o)))) (has_path (settled (ok_or o Missing)) j js)
-      (Ok (truth false)) ≡ after (Ok o) j js
-  in_record None j js = refl
-  in_record (Some t) j js = refl
-
-  pub path_step : (k : Text) (t : BareValue X) (j : Text) (js : List Text)
-      → has_path (Ok t) k (j ∷ js) ≡ after (found_in k t) j js
-  path_step k (RecordValue ps) j js = in_record (value_at k ps) j js
-  path_step k (LitValue (EntityLit u)) j js = refl
-  path_step k t j js = refl
-
-  pub path_end : (k : Text) (t : BareValue X)
-      → has_path (Ok t) k [] ≡ on_one (λ o. truth (is_some o)) (found_in k t)
-  path_end k (RecordValue ps) = refl
-  path_end k (LitValue (EntityLit u)) = refl
-  path_end k t = refl
-
-  -- the value of an attribute, by what was found
-  abbrev pub got : Result (Option (BareValue X)) Fault → Outcome X
-  got (Ok (Some t)) = Ok t
-  got (Ok None) = Err (By Missing)
-  got (Err f) = Err f
-
-  got_record : (o : Option (BareValue X)) → settled (ok_or o Missing) ≡ got (Ok o)
-  got_record None = refl
-  got_record (Some t) = refl
-
-  pub get_is : (k : Text) (t : BareValue X) → settled (get_in k t) ≡ got (found_in k t)
-  get_is k (RecordValue ps) = got_record (value_at k ps)
-  get_is k (LitValue (EntityLit u)) = refl
-  get_is k t = refl
 
   -- a fault in the value's place answers
   pub fault_path : (f : Fault) (k : Text) (js : List Text) → has_path {X = X} (Err f) k js ≡ Err f
