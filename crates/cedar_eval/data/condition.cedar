@@ -1,0 +1,3 @@
+// Members of a trial may see the photo, after at most three attempts.
+context.labels.contains(unknown("trial"))
+    && (context.attempts < "3" || context.mfa)
