@@ -9,7 +9,6 @@ use Rattle.cedar_names.specs.Slots.{slot_text}
 use Rattle.cedar_terms.specs.Escape.{quoted}
 use Rattle.cedar_terms.specs.Ops.{binary_op_text, var_text}
 use Rattle.cedar_terms.specs.Patterns.{pattern_text}
-use Rattle.cedar_terms.specs.declared.ops.BinaryOp.{BinaryOp}
 use Rattle.cedar_terms.specs.declared.ops.UnaryOp.{UnaryOp}
 use Rattle.cedar_terms.specs.declared.ops.UnaryOp.TheVariants as Unary
 use Rattle.cedar_terms.specs.declared.pattern.PatternElem.{PatternElem}

@@ -39,7 +39,8 @@ pub fn policy_text(alloc: Global, expr: &Expr) -> Result<Phrase, AllocError>
 }
 
 /// The builder: of the conjunction of `a` and `1 < 2` it makes `a && 1 < 2`, with brackets where
-/// the grammar needs them and nowhere else.
+/// an operand binds less tightly than its place wants. A sign's operand with a sign of its own counts
+/// as such, so that it makes `!(!a)`.
 ///
 /// It copies the texts of the children into that of their node. `Sketch` of the crate `cedar_sketch`
 /// shows how a builder joins the pieces once.

@@ -1,5 +1,5 @@
 //! Texts and patterns between quotes.
-ghost use Rattle.std.specs.Prelude.{◌≡◌, IfSome};
+ghost use Rattle.std.specs.Prelude.{IfSome};
 ghost use Rattle.cedar_tokens.specs.Pieces.{IsShorter};
 
 use cedar_terms::{Pattern, PatternElem, first_char};
