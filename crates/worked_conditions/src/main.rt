@@ -1,0 +1,35 @@
+//! Works the conditions of standard input, one a line, and prints each with its answer.
+#![tactic(auto)]
+
+use anyhow::Result;
+use cedar_conditions::{Bindings, evaluate_condition};
+use std::alloc::{AllocError, Global};
+use std::io::{BufRead as _, BufReader};
+
+fn main(rt: HostRuntime) -> Result<()> {
+    let mut bindings = Bindings::new(rt.alloc());
+    for line in BufReader::new(rt.alloc(), rt.reader())?.lines(rt.alloc()) {
+        let line = line?;
+        println!(rt; "{line}")?;
+        match line.strip_prefix("bind ") {
+            Some(json) => bindings = bound(&rt, json)?,
+            None if is_passed_over(&line) => {}
+            None => println!(rt; "{}", evaluate_condition(rt.alloc(), &line, &bindings)?)?,
+        }
+    }
+    Ok(())
+}
+
+// The bindings of a line; where it has none, why.
+fn bound(rt: &HostRuntime, json: &str) -> Result<Bindings> {
+    let mut bindings = Bindings::new(rt.alloc());
+    if let Err(error) = bindings.bind_json(rt.alloc(), json) {
+        println!(rt; "{error}")?;
+    }
+    Ok(bindings)
+}
+
+// Whether a line is blank or a comment.
+fn is_passed_over(line: &str) -> bool {
+    line.is_empty() || line.starts_with("//")
+}
