@@ -5,7 +5,8 @@ use crate::fault::CaseFault;
 use crate::patterns::Wild;
 use crate::scripts::Script;
 use crate::sets::Members::{self, Few, Longs, Nested, Strings};
-use crate::{calls, evaluator, expressions, names, patterns, scripts, sets, values};
+use crate::simplifier::Rest;
+use crate::{calls, evaluator, expressions, names, patterns, scripts, sets, simplifier, values};
 use std::time::Duration;
 
 /// What a case times.
@@ -42,6 +43,7 @@ pub enum Call {
     CallVariadic,
     Validate,
     Evaluate(Rule),
+    Simplify(Rest),
     RunScript(Script),
 }
 
@@ -80,6 +82,7 @@ impl Call {
             Call::CallVariadic => calls::time_variadic(rt, size),
             Call::Validate => calls::time_validate(rt, size),
             Call::Evaluate(rule) => evaluator::time_evaluate(rt, rule, size),
+            Call::Simplify(rest) => simplifier::time_simplify(rt, rest, size),
             Call::RunScript(script) => scripts::time_run(rt, script, size),
         }
     }
@@ -122,7 +125,7 @@ const CALLS: [usize; 3] = [1_000, 10_000, 100_000];
 const LINES: [usize; 3] = [1_000, 10_000, 100_000];
 
 /// The name of each case, its sizes from the least up, and its call.
-pub static CASES: [(&str, &[usize], Call); 64] = [
+pub static CASES: [(&str, &[usize], Call); 71] = [
     ("names-read", &NAMES, Call::ReadNames),
     ("names-refuse", &NAMES, Call::RefuseNames),
     ("names-sort", &NAMES, Call::SortNames),
@@ -185,6 +188,13 @@ pub static CASES: [(&str, &[usize], Call); 64] = [
     ("eval-deep", &NODES, Call::Evaluate(Rule::Deep)),
     ("eval-records", &ASKED, Call::Evaluate(Rule::Records)),
     ("eval-sets", &MEMBERS, Call::Evaluate(Rule::Sets)),
+    ("simplify-balanced", &FULL, Call::Simplify(Rest::Balanced)),
+    ("simplify-closed", &FULL, Call::Simplify(Rest::Closed)),
+    ("simplify-open", &FULL, Call::Simplify(Rest::Open)),
     ("script-flat", &LINES, Call::RunScript(Script::Flat)),
     ("script-deep-and", &LINES, Call::RunScript(Script::DeepAnd)),
+    ("script-bind", &LINES, Call::RunScript(Script::Bind)),
+    ("script-records", &LINES, Call::RunScript(Script::Records)),
+    ("script-show", &LINES, Call::RunScript(Script::Show)),
+    ("script-like", &LINES, Call::RunScript(Script::Like)),
 ];

@@ -15,6 +15,7 @@ mod names;
 mod patterns;
 mod scripts;
 mod sets;
+mod simplifier;
 mod stopwatch;
 mod trees;
 mod values;

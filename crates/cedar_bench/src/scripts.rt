@@ -8,11 +8,21 @@ use std::time::Duration;
 /// What a script does.
 #[derive(Clone, Copy)]
 pub enum Script {
+    /// A set of numbers.
     Flat,
+    /// A chain of `and`s.
     DeepAnd,
+    /// Names that are bound, and put in.
+    Bind,
+    /// Records of two.
+    Records,
+    /// A text that is shown again and again.
+    Show,
+    /// Tests of texts against patterns.
+    Like,
 }
 
-/// The time of a script of so many lines.
+/// The time of a script that does it so often.
 pub fn time_run(rt: &HostRuntime, script: Script, count: usize) -> Result<Duration, CaseFault> {
     let text = script.text(rt.alloc(), count)?;
     let watch = Stopwatch::start(rt);
@@ -31,6 +41,10 @@ impl Script {
         match self {
             Script::Flat => flat(alloc, count),
             Script::DeepAnd => deep_and(alloc, count),
+            Script::Bind => bind(alloc, count),
+            Script::Records => repeated(alloc, "", "long 1\nbool true\nrecord b a\n", count),
+            Script::Show => repeated(alloc, "string banana\n", "show\n", count),
+            Script::Like => repeated(alloc, "", "string banana\nlike b*n*a\n", count),
         }
     }
 }
@@ -52,5 +66,32 @@ fn deep_and(alloc: Global, count: usize) -> Result<String, AllocError> {
         script.push_str("bool true\nand\n")?;
     }
     script.push_str("bool true\nbind x\nsubstitute\nshow\n")?;
+    Ok(script)
+}
+
+// So many names, each bound to a number, and the set of them, in which they are put in.
+fn bind(alloc: Global, count: usize) -> Result<String, AllocError> {
+    let mut script = String::new(alloc);
+    for i in 0..count {
+        script.push_str(&format!(in alloc; "long {i}\nbind x{i}\n")?)?;
+    }
+    for i in 0..count {
+        script.push_str(&format!(in alloc; "unknown x{i}\n")?)?;
+    }
+    script.push_str(&format!(in alloc; "set {count}\nsubstitute\n")?)?;
+    Ok(script)
+}
+
+// A beginning, and the same lines so often.
+fn repeated(
+    alloc: Global,
+    beginning: &str,
+    lines: &str,
+    count: usize,
+) -> Result<String, AllocError> {
+    let mut script = String::from_str(alloc, beginning)?;
+    for _ in 0..count {
+        script.push_str(lines)?;
+    }
     Ok(script)
 }
