@@ -39,9 +39,10 @@ impl Infix {
         match self {
             Infix::Or => (Level::Or, Level::Or),
             Infix::And => (Level::And, Level::And),
-            Infix::Plain(BinaryOp::Add | BinaryOp::Sub) => (Level::Sum, Level::Sum),
-            Infix::Plain(BinaryOp::Mul) => (Level::Product, Level::Product),
-            _ => (Level::Relation, Level::Sum),
+            Infix::Plain(op) | Infix::Negated(op) => match Level::of_infix(op) {
+                Some((own, left, _)) => (own, left),
+                None => (Level::Relation, Level::Sum),
+            },
         }
     }
 }
