@@ -44,6 +44,7 @@ class Item:
     docs: list
     lines: list
     first: int
+    text: str = ""
     calls: list = field(default_factory=list)
     traits: list = field(default_factory=list)
 
@@ -188,6 +189,12 @@ def impl_target(line):
     return name, trait if of else ""
 
 
+def error_text(marks):
+    """The text of an error that is a struct, as its `#[error("..")]` has it; else none."""
+    found = [re.match(r'#\[error\("(.*?)"', mark) for mark in marks]
+    return next((mark.group(1) for mark in found if mark), "")
+
+
 def block_end(lines, start):
     """The line in which an item without indent ends."""
     if lines[start].endswith((";", "{}", "}")):
@@ -233,7 +240,7 @@ def read_file(file, text):
         elif found := TYPE.match(line):
             end = block_end(lines, at)
             item = Item(*found.groups(), module, file, docs, lines[at : end + 1], at)
-            item.traits = derived(marks)
+            item.traits, item.text = derived(marks), error_text(marks)
             if item.kind == "trait":
                 item.calls = read_members(lines, at, end, item.name, file, module, True)
             items.append(item)
