@@ -200,7 +200,7 @@ def block_end(lines, start):
     if lines[start].endswith((";", "{}", "}")):
         return start
     for at in range(start + 1, len(lines)):
-        if lines[at].rstrip() in ("}", "};") or lines[at].startswith(("} ", ");")):
+        if lines[at].rstrip() in ("}", "};", ">;") or lines[at].startswith(("} ", ");")):
             return at
     return len(lines) - 1
 
