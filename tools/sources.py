@@ -79,11 +79,16 @@ def layers():
     return found
 
 
+def crate_libraries():
+    """The libraries that crates.txt lists for each crate, in its order."""
+    with open(os.path.join(TOP, "crates.txt")) as lines:
+        parts = (line.partition("#")[0].partition(":") for line in lines)
+        return {head.split()[0]: words.split() for head, _, words in parts if head.strip()}
+
+
 def crate_names():
     """Every crate of crates.txt, in its order."""
-    with open(os.path.join(TOP, "crates.txt")) as lines:
-        heads = (line.partition("#")[0].partition(":")[0].split() for line in lines)
-        return [words[0] for words in heads if words]
+    return list(crate_libraries())
 
 
 def source_files(crate):
