@@ -1,3 +1,4 @@
+//! Each law is called once, at a concrete type.
 use crate::laws::{
     expressions_read_back, plain_where_none, reading_gives_one_value, then_is_both_of_values,
     values_are_ordered,

@@ -1,7 +1,7 @@
 //! Boxed functions with what is known of them, one type for each count of arguments.
 //!
-//! A struct that is generic in the extension values can't hold such a box; at given ones, as here at
-//! none, it can. The fact on the box stands in the struct, so that a call asks for nothing.
+//! A struct that is generic in the extension values can't hold such a box; at given ones, as here
+//! at none, it can. The fact on the box stands in the struct, so that a call asks for nothing.
 ghost use Rattle.std.specs.Prelude.{◌≡◌, Some};
 ghost use Rattle.cedar_values.specs.Holders.{held_name};
 ghost use Rattle.cedar_calls.specs.Types.{Keeps, Keeps-prop, declared};

@@ -104,7 +104,7 @@ fn between(alloc: Global) -> io::Result<Answer> {
     Ok(BoxedTernary::new(func, SchemaType::Bool).call(alloc, &number(1), &number(3), &number(2)))
 }
 
-// The answer of a box of two or more arguments, whether the first is one of the others, to 4 and 5, 4.
+// Whether the first of 4, 5 and 4 is one of the others, by the box of two or more arguments.
 fn is_among(alloc: Global) -> io::Result<Answer> {
     let func: VariadicExtensionFunctionObject<NoExtension> = Box::new(
         alloc,

@@ -1,5 +1,5 @@
-//! Conditions in Cedar's own syntax: a tree is printed, what was printed is read, and a mistake in a
-//! text is shown where it stands.
+//! Conditions in Cedar's own syntax: a tree is printed, what was printed is read, and a mistake in
+//! a text is shown where it stands.
 #![tactic(auto)]
 
 use anyhow::Result;

@@ -2,8 +2,8 @@
 //!
 //! Each line of standard input is a tree, written as `docs/CALLS.md` says: it is printed, what was
 //! printed is read, and the two trees are compared. The argument names a file of texts with blank
-//! lines between them: each is read, and the program shows its tree, and how it is printed again, or
-//! why it is not read. At last it reads a text of great depth.
+//! lines between them: each is read, and the program shows its tree, and how it is printed again,
+//! or why it is not read. At last it reads a text of great depth.
 #![tactic(auto)]
 
 mod texts;

@@ -1,5 +1,5 @@
-//! Answers rows of calls from standard input; to those stored here, evaluations, two evaluators that
-//! were written by hand in other languages give these answers alike.
+//! Answers rows of calls from standard input; to those stored here, evaluations, two evaluators
+//! that were written by hand in other languages give these answers alike.
 #![tactic(auto)]
 
 use cedar_rows::run;

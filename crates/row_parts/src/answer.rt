@@ -5,8 +5,8 @@ use std::fmt::Display;
 
 /// An answer under way: words with a space between, some with a label in front.
 ///
-/// As std's `DebugStruct` does, it keeps the first refusal to the end, so that a chain of calls needs
-/// no `?`.
+/// As std's `DebugStruct` does, it keeps the first refusal to the end, so that a chain of calls
+/// needs no `?`.
 #[derive(Drop)]
 pub struct Answer {
     text: Result<String, NoAnswer>,

@@ -1,3 +1,4 @@
+//! Each law is called once, at a concrete type.
 use crate::laws::{
     asks_by_children, asks_no_more, closed_is_known, known_stays, one_pass,
     partial_evaluation_is_sound, simplified_means_the_same, simplified_twice, simplifier_is_lawful,

@@ -1,5 +1,5 @@
-//! What a strictly rising list is, among the lists of its classes, and what is asked of two lists by
-//! their classes.
+//! What a strictly rising list is, among the lists of its classes, and what is asked of two lists
+//! by their classes.
 //!
 //! Each function here does nothing: its contract is the law, for each ordered type.
 ghost use Rattle.sorted_slices.specs.Classes.{AreAsLong, NoneIsAny, PartIsAll, TieWhereSame};
@@ -11,8 +11,8 @@ pub fn rising_lists_are_unique<T: Ord>()
     ensures lengths { AreAsLong T.cmp }
 {}
 
-/// Each class of one list is in another just where the class of each of its items is: to ask item by
-/// item is enough. Neither list has to rise.
+/// Each class of one list is in another just where the class of each of its items is: to ask item
+/// by item is enough. Neither list has to rise.
 pub fn part_is_all<T: Ord>()
     ensures { PartIsAll T.cmp }
 {}

@@ -1,3 +1,4 @@
+//! The operators through the bound of a builder, the texts and copies of errors, and the laws.
 mod generic;
 
 use cedar_builders::laws::{

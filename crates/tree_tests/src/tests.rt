@@ -1,3 +1,4 @@
+//! The tests, in a file for each subject, and what they share.
 mod keys;
 mod laws;
 mod literals;

@@ -1,3 +1,4 @@
+//! The tests, in a file for each subject.
 mod laws;
 mod made;
 mod plain;
