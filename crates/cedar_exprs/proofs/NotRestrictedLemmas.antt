@@ -1,18 +1,21 @@
 -- The first node of a kind that no restricted expression has, from a node to its children.
-use Rattle.std.proofs.Common.{◌≡◌, List, [], ◌∷◌, map, Bool, true, false, not, ◌&&◌, if◌then◌else◌, Option, Some, None, refl, sym, ap, ◌∙◌, ◌↔◌, Result, Ok, Err}
+use Rattle.std.proofs.Common.{◌≡◌, ◌+◌, ◌<◌, arith, length, List, [], ◌∷◌, ◌++◌, map, reverse, append_assoc, append-nil, Bool, true, false, not, ◌&&◌, if◌then◌else◌, Option, Some, None, refl, sym, ap, ◌∙◌, ◌↔◌, Result, Ok, Err}
 use Rattle.std.specs.List.{find, list_all}
 use Rattle.std.specs.Option.{option_or, is_none}
 use Rattle.std.specs.Result.{is_ok, IsErrAnd}
 use Rattle.std.proofs.lemmas.Bool.{false≢true}
+use Rattle.std.proofs.lemmas.List.{length-append, map-append, reverse-append}
 use Rattle.std.proofs.lemmas.List.Folds.{find-append}
 use Rattle.cedar_builders.specs.Restricted.{is_restricted_node, is_restricted, IsRestricted}
 use Rattle.cedar_builders.specs.Walks.{forward}
 use Rattle.cedar_exprs.specs.BareExpr.{bare_expr}
-use Rattle.cedar_exprs.specs.Walks.{children, preorder}
+use Rattle.cedar_exprs.specs.Waiting.{next_first}
+use Rattle.cedar_exprs.specs.Walks.{children, preorder, referents}
 use Rattle.cedar_exprs.specs.NotRestricted.{is_not_restricted, first_not_restricted, first_not_restricted_of}
 use Rattle.cedar_exprs.specs.declared.expr.Expr.{Expr}
-use Rattle.cedar_exprs.proofs.Walks.{walk_is}
+use Rattle.cedar_exprs.proofs.Walks.{walk_is, counted, fewer_below}
 use Rattle.cedar_exprs.proofs.BareWalks.{preorder_bare}
+use denote.Ref.{Bor}
 
 module _ {T : Type 0} where
   pub first_of_all : (e : Expr T) (es : List (Expr T)) → first_not_restricted_of (e ∷ es) ≡ option_or (first_not_restricted e) (first_not_restricted_of es)
@@ -42,6 +45,33 @@ module _ {T : Type 0} (e : Expr T) (all es : List (Expr T)) (w : Option (Expr T)
 
   pub passed : None ≡ first_not_restricted e → first_not_restricted_of es ≡ w
   passed h = ap (λ r. option_or r (first_not_restricted_of es)) h ∙ split
+
+-- one turn over the nodes that wait: a node of one of the five kinds gives way to its children
+module _ {T : Type 0} where
+  forward_both : (ds es : List (Expr T)) → forward (map preorder (ds ++ es)) ≡ forward (map preorder ds) ++ forward (map preorder es)
+  forward_both [] es = refl
+  forward_both (d ∷ ds) es = ap (λ xs. preorder d ++ xs) (forward_both ds es) ∙ sym (append_assoc (preorder d) (forward (map preorder ds)) (forward (map preorder es)))
+
+  first_of_both : (ds es : List (Expr T)) → first_not_restricted_of (ds ++ es) ≡ option_or (first_not_restricted_of ds) (first_not_restricted_of es)
+  first_of_both ds es = ap (find is_not_restricted) (forward_both ds es) ∙ find-append is_not_restricted (forward (map preorder ds)) (forward (map preorder es))
+
+  pub first_of_one : (e : Expr T) → first_not_restricted_of (e ∷ []) ≡ first_not_restricted e
+  first_of_one e = ap (find is_not_restricted) (append-nil (preorder e))
+
+  module _ (e : Expr T) (es next : List (Expr T)) (pushed : next ≡ children e ++ es) where
+    pub gives_way : (w : Option (Expr T)) → is_not_restricted e ≡ false → first_not_restricted_of (e ∷ es) ≡ w → first_not_restricted_of next ≡ w
+    gives_way w passes h =
+        ap first_not_restricted_of pushed ∙ first_of_both (children e) es ∙ ap (λ r. option_or r (first_not_restricted_of es)) (first_below e passes) ∙ sym (first_of_all e es) ∙ h
+
+    pub fewer_wait : counted next < counted (e ∷ es)
+    fewer_wait =
+        let new : counted next ≡ counted (children e) + counted es = ap length (ap (λ ds. forward (map preorder ds)) pushed ∙ forward_both (children e) es) ∙ length-append (forward (map preorder (children e))) (forward (map preorder es)) in
+        let old : counted (e ∷ es) ≡ length (preorder e) + counted es = length-append (preorder e) (forward (map preorder es)) in
+        omega (arith, new, old, fewer_below e)
+
+-- the last that waits comes next
+pub next_is : {T : Type 0} (all rest : List (Bor (Expr T))) (e : Bor (Expr T)) → all ≡ rest ++ e ∷ [] → next_first all ≡ e.now ∷ next_first rest
+next_is {T} all rest e is = ap next_first is ∙ ap reverse (map-append (λ (x : Bor (Expr T)). x.now) rest (e ∷ [])) ∙ reverse-append (referents rest) (e.now ∷ [])
 
 -- none is found exactly where all pass
 none_found : {A : Type 0} (p : A → Bool) (xs : List A) → is_none (find (λ x. not (p x)) xs) ≡ list_all p xs

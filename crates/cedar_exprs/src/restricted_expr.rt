@@ -27,14 +27,14 @@ impl RestrictedExpr {
     ghost use Rattle.cedar_exprs.specs.RestrictedExprs.{expr_of, bare_restricted_expr};
     ghost use Rattle.cedar_exprs.specs.NotRestricted.{first_not_restricted, IsRefusalOf};
 
-    /// The same expression, known to be restricted. Memory is taken only to copy the place of a
-    /// refusal.
+    /// The same expression, known to be restricted. Memory is taken for the walk, and to copy the
+    /// place of a refusal. Where the walk is refused memory, it goes on by recursion.
     pub fn new(alloc: Global, expr: Expr<()>) -> Result<RestrictedExpr, RestrictedExprError>
         ensures outcome { MatchResult result
             (λ r. expr_of r ≡ expr) (IsRefusalOf (first_not_restricted expr)) }
         ensures succeeds { IsOk result ↔ IsRestricted (bare_expr expr) }
     {
-        match first_not_restricted(&expr) {
+        match first_not_restricted(alloc, &expr) {
             Some(node) => Err(RestrictedExprError::NotRestricted {
                 loc: Loc::clone_option(alloc, node.source_loc())?,
             }),

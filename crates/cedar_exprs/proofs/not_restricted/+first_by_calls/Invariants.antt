@@ -3,11 +3,11 @@ use Rattle.cedar_exprs.specs.Children.{children_left}
 use Rattle.cedar_exprs.specs.NotRestricted.{first_not_restricted, first_not_restricted_of}
 use Rattle.cedar_exprs.proofs.Walks.{counted}
 use Rattle.cedar_exprs.specs.Walks.{preorder}
-use Rattle.cedar_exprs.proofs.not_restricted.+first_not_restricted.Given as goal
+use Rattle.cedar_exprs.proofs.not_restricted.+first_by_calls.Given as goal
 
 -- the number of positions
-abbrev pub decreases-first_not_restricted : goal.decreases-first_not_restricted
-decreases-first_not_restricted g l = length (preorder l.expr.now)
+abbrev pub decreases-first_by_calls : goal.decreases-first_by_calls
+decreases-first_by_calls g l = length (preorder l.expr.now)
 
 -- the children that are left have the answer of all, and fewer positions
 abbrev pub invariant-loop-child : goal.invariant-loop-child

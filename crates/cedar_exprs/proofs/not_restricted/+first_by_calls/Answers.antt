@@ -4,7 +4,7 @@ use Rattle.cedar_exprs.specs.NotRestricted.{first_not_restricted_of}
 use Rattle.cedar_exprs.specs.Walks.{children, preorder}
 use Rattle.cedar_exprs.proofs.Walks.{counted, fewer_below, fewer_rest}
 use Rattle.cedar_exprs.proofs.NotRestrictedLemmas.{first_itself, first_below, found, passed}
-use Rattle.cedar_exprs.proofs.not_restricted.+first_not_restricted.Goals as goal
+use Rattle.cedar_exprs.proofs.not_restricted.+first_by_calls.Goals as goal
 
 pub returns-then-not-is_restricted_node : goal.returns-then-not-is_restricted_node
 returns-then-not-is_restricted_node g t c =
@@ -20,9 +20,9 @@ loop-child-init g t c =
       subst (λ es. counted es < length (preorder e)) all (fewer_below e),
     )
 
-pub returns-in-Some-first_not_restricted : goal.returns-in-Some-first_not_restricted
-returns-in-Some-first_not_restricted g t c =
-    found c.in-Some.child.now _ _ _ c.in-Some.ensures.steps c.loop-child.invariant.2 _ c.in-Some-first_not_restricted.ensures
+pub returns-in-Some-first_by_calls : goal.returns-in-Some-first_by_calls
+returns-in-Some-first_by_calls g t c =
+    found c.in-Some.child.now _ _ _ c.in-Some.ensures.steps c.loop-child.invariant.2 _ c.in-Some-first_by_calls.ensures
 
 pub loop-child-preserved : goal.loop-child-preserved
 loop-child-preserved g t c = (
