@@ -5,13 +5,16 @@ use Rattle.std.specs.Str.{encode_utf8_all}
 use Rattle.cedar_names.specs.Names.{name_text}
 use Rattle.cedar_names.specs.Slots.{slot_text}
 use Rattle.cedar_terms.specs.Escape.{quoted}
-use Rattle.cedar_terms.specs.Literals.{literal_text}
+use Rattle.cedar_terms.specs.Literals.{bare_literal, literal_text}
 use Rattle.cedar_terms.specs.Ops.{unary_op_text, binary_op_text, var_text}
 use Rattle.cedar_terms.specs.Patterns.{pattern_text}
 use Rattle.cedar_terms.specs.Types.{BareType, type_text}
 use Rattle.cedar_terms.specs.declared.pattern.PatternElem.{PatternElem}
 use Rattle.cedar_builders.specs.BareExpr.{Text}
 use Rattle.cedar_builders.specs.Ops.{Ops}
+use Rattle.cedar_sketch.specs.declared.Form.{Form}
+use Rattle.cedar_sketch.specs.declared.Form.TheVariants.{Literal, Var, Slot, List as list}
+use Rattle.cedar_sketch.specs.declared.Pieces.{Pieces}
 use Rattle.cedar_sketch.specs.declared.SExpression.{SExpression}
 
 -- each text behind a space
@@ -56,6 +59,17 @@ sketch_ops = record {
   is_of = λ e n. list_text (codes "is") (e ∷ name_text n ∷ []);
 }
 
--- the text of an S-expression: its pieces, joined
+-- the text of a list: its pieces, joined
+abbrev pub joined : Pieces → Text
+joined pieces = flat_map string_bytes pieces.before ++ string_bytes pieces.last
+
+-- the text of what an S-expression is made of
+abbrev pub form_text : Form → Text
+form_text (Literal l) = literal_text (bare_literal l)
+form_text (Var v) = var_text v
+form_text (Slot s) = slot_text s
+form_text (list pieces) = joined pieces
+
+-- the text of an S-expression
 abbrev pub text_of : SExpression → Text
-text_of e = flat_map string_bytes e.before ++ string_bytes e.last
+text_of e = form_text e.form

@@ -6,40 +6,231 @@ ghost use Rattle.std.specs.Rc.{rc_str_bytes};
 ghost use Rattle.cedar_names.specs.PlainNames.{bare_name};
 ghost use Rattle.cedar_names.specs.Names.{name_text};
 ghost use Rattle.cedar_terms.specs.Escape.{quoted};
-ghost use Rattle.cedar_terms.specs.Unknowns.{bare_unknown};
+ghost use Rattle.cedar_terms.specs.Unknowns.{bare_annotation};
 ghost use Rattle.cedar_builders.specs.Errors.{OnDuplicateKey};
 ghost use Rattle.cedar_builders.specs.Answers.{Gives};
 ghost use Rattle.cedar_builders.specs.Keys.{keys_of, meant_pairs, IsRising, HasRepeat};
 ghost use Rattle.cedar_builders.specs.declared.expression_construction_errors.ExpressionConstructionError.TheVariants as error;
 ghost use Rattle.cedar_builders.specs.Answers.{never};
-ghost use Rattle.cedar_sketch.specs.SketchTexts.{annotation_texts, list_text, pair_text, sketch_ops, spaced_text, text_of};
+ghost use Rattle.cedar_sketch.specs.SketchTexts.{annotation_texts, joined, list_text, pair_text, quoted_pattern, sketch_ops, spaced_text, text_of};
 
 use cedar_builders::{
     BuildFault, ExprBuilder, ExprBuilderInfallibleBuild, ExpressionConstructionError,
 };
 use cedar_names::{Loc, Name, NonEmpty, SlotId};
-use cedar_terms::{BinaryOp, EntityType, Escaped, Literal, Pattern, UnaryOp, Unknown, Var};
+use cedar_terms::{BinaryOp, EntityType, Escaped, Literal, Pattern, Type, UnaryOp, Unknown, Var};
 use std::alloc::{AllocError, Global};
 use std::collections::LinkedList;
 use std::convert::Infallible;
 use std::mem;
 use std::rc::RcStr;
 
-/// An S-expression: a text in pieces, which are joined once, when it is written.
+/// An S-expression: a leaf as it is, or a list as a text in pieces, which are joined once, when it
+/// is written.
 ///
-/// A list takes over the pieces of its parts as they stand, so that a tree of any shape and depth
-/// is made in time proportional to its nodes, and is dropped piece by piece.
+/// A list writes leaves and short lists behind its last piece, and takes over the pieces of a long
+/// one as they stand. So a tree of any shape and depth is made in time proportional to its nodes,
+/// and is dropped piece by piece.
 #[derive(Debug, Drop)]
 pub struct SExpression {
-    // What stands before the last piece.
-    before: LinkedList<String>,
-    last: String,
+    form: Form,
+}
+
+#[derive(Debug, Drop)]
+enum Form {
+    Literal(Literal),
+    Var(Var),
+    Slot(SlotId),
+    List(Pieces),
 }
 
 impl SExpression {
     /// The text, with one space between the parts of a list.
     pub fn to_text(&self, alloc: Global) -> Result<String, AllocError>
         ensures { IfOk result (λ s. string_bytes s ≡ text_of self.now) }
+    {
+        match &self.form {
+            Form::Literal(literal) => format!(in alloc; "{literal}"),
+            Form::Var(var) => format!(in alloc; "{var}"),
+            Form::Slot(slot) => format!(in alloc; "{slot}"),
+            Form::List(list) => list.join(alloc),
+        }
+    }
+}
+
+// The text of a list, in pieces.
+#[derive(Debug, Drop)]
+struct Pieces {
+    // What stands before the last piece.
+    before: LinkedList<String>,
+    last: String,
+}
+
+// What a piece has room for at first; what is no longer is copied into the list around it.
+const SHORT: usize = 64;
+
+impl Pieces {
+    // The beginning of a list: the bracket and a word.
+    fn open(alloc: Global, word: &str) -> Result<Pieces, AllocError>
+        ensures { IfOk result (λ list. joined list ≡ 40 ∷ word.now) }
+    {
+        let mut last = String::with_capacity(alloc, SHORT)?;
+        last.push('(')?;
+        last.push_str(word)?;
+        Ok(Pieces {
+            before: LinkedList::new(alloc),
+            last,
+        })
+    }
+
+    // The beginning of a list: the bracket, a word and a part.
+    fn open_with(alloc: Global, word: &str, part: SExpression) -> Result<Pieces, AllocError>
+        ensures { IfOk result (λ list. joined list ≡ 40 ∷ (word.now ++ 32 ∷ text_of part)) }
+    {
+        let mut list = Pieces::open(alloc, word)?;
+        list.push(part)?;
+        Ok(list)
+    }
+
+    // Puts a part behind a space.
+    fn push(&mut self, part: SExpression) -> Result<(), AllocError>
+        ensures { OnOk result (joined self.new ≡ joined self.old ++ 32 ∷ text_of part) }
+    {
+        match part.form {
+            Form::Literal(literal) => write!(self.last, " {literal}"),
+            Form::Var(var) => write!(self.last, " {var}"),
+            Form::Slot(slot) => write!(self.last, " {slot}"),
+            Form::List(list) => self.push_list(list),
+        }
+    }
+
+    // Puts a list behind a space.
+    fn push_list(&mut self, list: Pieces) -> Result<(), AllocError>
+        ensures { OnOk result (joined self.new ≡ joined self.old ++ 32 ∷ joined list) }
+    {
+        self.last.push(' ')?;
+        let Pieces { mut before, last } = list;
+        if before.is_empty() && last.len() <= SHORT {
+            return self.last.push_str(&last);
+        }
+        self.before.push_back(mem::replace(&mut self.last, last))?;
+        self.before.append(&mut before)
+    }
+
+    // Puts each part behind a space.
+    fn push_all(&mut self, parts: Vec<SExpression>) -> Result<(), AllocError>
+        ensures { OnOk result
+            (joined self.new ≡ joined self.old ++ spaced_text (map text_of parts.items)) }
+    {
+        for part in parts {
+            self.push(part)?;
+        }
+        Ok(())
+    }
+
+    // Puts a text behind a space.
+    fn push_text(&mut self, text: &str) -> Result<(), AllocError>
+        ensures { OnOk result (joined self.new ≡ joined self.old ++ 32 ∷ text.now) }
+    {
+        write!(self.last, " {text}")
+    }
+
+    // Puts the name of a function or a type behind a space.
+    fn push_name(&mut self, name: &Name) -> Result<(), AllocError>
+        ensures { OnOk result
+            (joined self.new ≡ joined self.old ++ 32 ∷ name_text (bare_name name.now)) }
+    {
+        write!(self.last, " {name}")
+    }
+
+    // Puts a pattern in quotes behind a space.
+    fn push_pattern(&mut self, pattern: &Pattern) -> Result<(), AllocError>
+        ensures { OnOk result
+            (joined self.new ≡ joined self.old ++ 32 ∷ quoted_pattern pattern.now) }
+    {
+        write!(self.last, " \"{pattern}\"")
+    }
+
+    // Puts an attribute in quotes behind a space.
+    fn push_attribute(&mut self, attribute: &str) -> Result<(), AllocError>
+        ensures { OnOk result (joined self.new ≡ joined self.old ++ 32 ∷ quoted attribute.now) }
+    {
+        write!(self.last, " \"{}\"", Escaped(attribute))
+    }
+
+    // Puts each attribute in quotes behind a space.
+    fn push_attributes(&mut self, attributes: &[RcStr]) -> Result<(), AllocError>
+        ensures { OnOk result
+            (joined self.new
+            ≡ joined self.old ++ spaced_text (map quoted (map rc_str_bytes attributes.now))) }
+    {
+        for attribute in attributes {
+            self.push_attribute(attribute)?;
+        }
+        Ok(())
+    }
+
+    // Puts the type of an unknown behind a space, if it has one.
+    fn push_annotation(&mut self, annotation: &Option<Type>) -> Result<(), AllocError>
+        ensures { OnOk result
+            (joined self.new
+            ≡ joined self.old ++ spaced_text (annotation_texts (bare_annotation annotation.now))) }
+    {
+        match annotation {
+            None => Ok(()),
+            Some(ty) => write!(self.last, " {ty}"),
+        }
+    }
+
+    // Puts the list of each key and its value behind a space.
+    fn push_pairs(&mut self, pairs: Vec<(RcStr, SExpression)>) -> Result<(), AllocError>
+        ensures { OnOk result
+            (joined self.new
+            ≡ joined self.old ++ spaced_text (map pair_text (meant_pairs text_of pairs.items))) }
+    {
+        for (key, value) in pairs {
+            self.push_pair(&key, value)?;
+        }
+        Ok(())
+    }
+
+    // Puts the list of a key and its value behind a space.
+    fn push_pair(&mut self, key: &str, value: SExpression) -> Result<(), AllocError>
+        ensures { OnOk result
+            (joined self.new ≡ joined self.old ++ 32 ∷ pair_text (key.now, text_of value)) }
+    {
+        self.push_bracket_and_key(key)?;
+        self.push(value)?;
+        self.push_bracket()
+    }
+
+    // Puts a bracket and a key in quotes behind a space.
+    fn push_bracket_and_key(&mut self, key: &str) -> Result<(), AllocError>
+        ensures { OnOk result (joined self.new ≡ joined self.old ++ 32 ∷ 40 ∷ quoted key.now) }
+    {
+        write!(self.last, " (\"{}\"", Escaped(key))
+    }
+
+    // Puts the bracket behind the last part.
+    fn push_bracket(&mut self) -> Result<(), AllocError>
+        ensures { OnOk result (joined self.new ≡ joined self.old ++ 41 ∷ []) }
+    {
+        self.last.push(')')
+    }
+
+    // The list, with the bracket behind its last part.
+    fn close(mut self) -> Result<SExpression, AllocError>
+        ensures { IfOk result (λ e. text_of e ≡ joined self ++ 41 ∷ []) }
+    {
+        self.last.push(')')?;
+        Ok(SExpression {
+            form: Form::List(self),
+        })
+    }
+
+    // All pieces, one after the other.
+    fn join(&self, alloc: Global) -> Result<String, AllocError>
+        ensures { IfOk result (λ s. string_bytes s ≡ joined self.now) }
     {
         let mut text = String::new(alloc);
         for piece in &self.before {
@@ -48,128 +239,21 @@ impl SExpression {
         text.push_str(&self.last)?;
         Ok(text)
     }
-
-    // A text as it stands.
-    fn atom(alloc: Global, text: String) -> SExpression
-        ensures { text_of result ≡ string_bytes text }
-    {
-        SExpression {
-            before: LinkedList::new(alloc),
-            last: text,
-        }
-    }
-
-    // Puts a part behind a space.
-    fn push(&mut self, part: SExpression) -> Result<(), AllocError>
-        ensures { OnOk result (text_of self.new ≡ text_of self.old ++ 32 ∷ text_of part) }
-    {
-        let SExpression { mut before, last } = part;
-        self.last.push(' ')?;
-        self.before.push_back(mem::replace(&mut self.last, last))?;
-        self.before.append(&mut before)
-    }
-
-    // Puts the bracket behind the last part of a list.
-    fn close(&mut self) -> Result<(), AllocError>
-        ensures { OnOk result (text_of self.new ≡ text_of self.old ++ 41 ∷ []) }
-    {
-        self.last.push(')')
-    }
 }
 
-// Makes the list of a word and these parts.
-fn make_list(alloc: Global, word: &str, parts: Vec<SExpression>) -> Result<SExpression, AllocError>
-    ensures { IfOk result (λ e. text_of e ≡ list_text word.now (map text_of parts.items)) }
-{
-    let opening = format!(in alloc; "({word}")?;
-    fill_list(alloc, opening, parts)
-}
-
-// Makes the list of what it opens with, the bracket and the word, and these parts.
-fn fill_list(
+// Makes the list of a word and two parts.
+fn list_of_two(
     alloc: Global,
-    opening: String,
-    parts: Vec<SExpression>,
+    word: &str,
+    first: SExpression,
+    second: SExpression,
 ) -> Result<SExpression, AllocError>
     ensures { IfOk result (λ e.
-        text_of e ≡ string_bytes opening ++ (spaced_text (map text_of parts.items) ++ 41 ∷ [])) }
+        text_of e ≡ list_text word.now (text_of first ∷ text_of second ∷ [])) }
 {
-    let mut list = SExpression::atom(alloc, opening);
-    for part in parts {
-        list.push(part)?;
-    }
-    list.close()?;
-    Ok(list)
-}
-
-// Puts a text into double quotes, with its escapes.
-fn quote(alloc: Global, text: &str) -> Result<SExpression, AllocError>
-    ensures { IfOk result (λ e. text_of e ≡ quoted text.now) }
-{
-    let quoted = format!(in alloc; "\"{}\"", Escaped(text))?;
-    Ok(SExpression::atom(alloc, quoted))
-}
-
-// Writes the name of a function or a type.
-fn make_name(alloc: Global, name: &Name) -> Result<SExpression, AllocError>
-    ensures { IfOk result (λ e. text_of e ≡ name_text (bare_name name.now)) }
-{
-    Ok(SExpression::atom(alloc, format!(in alloc; "{name}")?))
-}
-
-// Lists the name of an unknown, and its type, if it has one.
-fn list_unknown_parts(alloc: Global, unknown: &Unknown) -> Result<Vec<SExpression>, AllocError>
-    ensures { let bare = bare_unknown unknown.now in
-        IfOk result (λ parts.
-        map text_of parts.items ≡ bare.name ∷ annotation_texts bare.annotation) }
-{
-    let name = SExpression::atom(alloc, String::from_str(alloc, &unknown.name)?);
-    match &unknown.type_annotation {
-        None => Ok(vec![in alloc; name]?),
-        Some(ty) => {
-            let annotation = SExpression::atom(alloc, format!(in alloc; "{ty}")?);
-            Ok(vec![in alloc; name, annotation]?)
-        }
-    }
-}
-
-// Pushes each attribute in quotes behind the parts that are there.
-fn push_attributes(
-    alloc: Global,
-    parts: &mut Vec<SExpression>,
-    attributes: &[RcStr],
-) -> Result<(), AllocError>
-    ensures { OnOk result
-        (map text_of parts.new.items
-        ≡ map text_of parts.old.items ++ map quoted (map rc_str_bytes attributes.now)) }
-{
-    for attribute in attributes {
-        parts.push(quote(alloc, attribute)?)?;
-    }
-    Ok(())
-}
-
-// Makes the list of each key and its value.
-fn make_pair_lists(
-    alloc: Global,
-    pairs: Vec<(RcStr, SExpression)>,
-) -> Result<Vec<SExpression>, AllocError>
-    ensures { IfOk result (λ parts.
-        map text_of parts.items ≡ map pair_text (meant_pairs text_of pairs.items)) }
-{
-    let mut parts = Vec::with_capacity(alloc, pairs.len())?;
-    for (key, value) in pairs {
-        parts.push(make_pair_list(alloc, &key, value)?)?;
-    }
-    Ok(parts)
-}
-
-// Makes the list of a key and its value.
-fn make_pair_list(alloc: Global, key: &str, value: SExpression) -> Result<SExpression, AllocError>
-    ensures { IfOk result (λ e. text_of e ≡ pair_text (key.now, text_of value)) }
-{
-    let opening = format!(in alloc; "(\"{}\"", Escaped(key))?;
-    fill_list(alloc, opening, vec![in alloc; value]?)
+    let mut list = Pieces::open_with(alloc, word, first)?;
+    list.push(second)?;
+    list.close()
 }
 
 /// The builder of texts: what it makes of `1 < 2 && true` is `(and (< 1 2) true)`.
@@ -215,21 +299,29 @@ impl ExprBuilder for Sketch {
         self
     }
 
-    fn val(self, alloc: Global, literal: Literal) -> Result<SExpression, AllocError> {
-        Ok(SExpression::atom(alloc, format!(in alloc; "{literal}")?))
+    fn val(self, _: Global, literal: Literal) -> Result<SExpression, AllocError> {
+        Ok(SExpression {
+            form: Form::Literal(literal),
+        })
     }
 
-    fn var(self, alloc: Global, var: Var) -> Result<SExpression, AllocError> {
-        Ok(SExpression::atom(alloc, format!(in alloc; "{var}")?))
+    fn var(self, _: Global, var: Var) -> Result<SExpression, AllocError> {
+        Ok(SExpression {
+            form: Form::Var(var),
+        })
     }
 
-    fn slot(self, alloc: Global, slot: SlotId) -> Result<SExpression, AllocError> {
-        Ok(SExpression::atom(alloc, format!(in alloc; "{slot}")?))
+    fn slot(self, _: Global, slot: SlotId) -> Result<SExpression, AllocError> {
+        Ok(SExpression {
+            form: Form::Slot(slot),
+        })
     }
 
     fn unknown(self, alloc: Global, unknown: Unknown) -> Result<SExpression, AllocError> {
-        let parts = list_unknown_parts(alloc, &unknown)?;
-        make_list(alloc, "unknown", parts)
+        let mut list = Pieces::open(alloc, "unknown")?;
+        list.push_text(&unknown.name)?;
+        list.push_annotation(&unknown.type_annotation)?;
+        list.close()
     }
 
     fn ite(
@@ -239,11 +331,10 @@ impl ExprBuilder for Sketch {
         then_expr: SExpression,
         else_expr: SExpression,
     ) -> Result<SExpression, AllocError> {
-        make_list(
-            alloc,
-            "if",
-            vec![in alloc; test_expr, then_expr, else_expr]?,
-        )
+        let mut list = Pieces::open_with(alloc, "if", test_expr)?;
+        list.push(then_expr)?;
+        list.push(else_expr)?;
+        list.close()
     }
 
     fn and(
@@ -252,7 +343,7 @@ impl ExprBuilder for Sketch {
         left: SExpression,
         right: SExpression,
     ) -> Result<SExpression, AllocError> {
-        make_list(alloc, "and", vec![in alloc; left, right]?)
+        list_of_two(alloc, "and", left, right)
     }
 
     fn or(
@@ -261,7 +352,7 @@ impl ExprBuilder for Sketch {
         left: SExpression,
         right: SExpression,
     ) -> Result<SExpression, AllocError> {
-        make_list(alloc, "or", vec![in alloc; left, right]?)
+        list_of_two(alloc, "or", left, right)
     }
 
     fn unary_app(
@@ -270,8 +361,7 @@ impl ExprBuilder for Sketch {
         op: UnaryOp,
         arg: SExpression,
     ) -> Result<SExpression, AllocError> {
-        let opening = format!(in alloc; "({op}")?;
-        fill_list(alloc, opening, vec![in alloc; arg]?)
+        Pieces::open_with(alloc, &op.to_string(alloc)?, arg)?.close()
     }
 
     fn binary_app(
@@ -281,23 +371,23 @@ impl ExprBuilder for Sketch {
         arg1: SExpression,
         arg2: SExpression,
     ) -> Result<SExpression, AllocError> {
-        let opening = format!(in alloc; "({op}")?;
-        fill_list(alloc, opening, vec![in alloc; arg1, arg2]?)
+        list_of_two(alloc, &op.to_string(alloc)?, arg1, arg2)
     }
 
     fn call_extension_fn(
         self,
         alloc: Global,
         fn_name: Name,
-        mut args: Vec<SExpression>,
+        args: Vec<SExpression>,
     ) -> Result<SExpression, BuildFault<Infallible>>
         ensures { Gives text_of never
             (sketch_ops.call_of (bare_name fn_name) (map text_of args.items))
             result }
     {
-        let mut parts = vec![in alloc; make_name(alloc, &fn_name)?]?;
-        parts.append(&mut args)?;
-        Ok(make_list(alloc, "call", parts)?)
+        let mut list = Pieces::open(alloc, "call")?;
+        list.push_name(&fn_name)?;
+        list.push_all(args)?;
+        Ok(list.close()?)
     }
 
     fn get_attr(
@@ -306,8 +396,9 @@ impl ExprBuilder for Sketch {
         expr: SExpression,
         attr: RcStr,
     ) -> Result<SExpression, AllocError> {
-        let attr = quote(alloc, &attr)?;
-        make_list(alloc, "get", vec![in alloc; expr, attr]?)
+        let mut list = Pieces::open_with(alloc, "get", expr)?;
+        list.push_attribute(&attr)?;
+        list.close()
     }
 
     fn extended_has_attr(
@@ -316,10 +407,10 @@ impl ExprBuilder for Sketch {
         expr: SExpression,
         attrs: NonEmpty<RcStr>,
     ) -> Result<SExpression, AllocError> {
-        let first = quote(alloc, &attrs.head)?;
-        let mut parts = vec![in alloc; expr, first]?;
-        push_attributes(alloc, &mut parts, &attrs.tail)?;
-        make_list(alloc, "has", parts)
+        let mut list = Pieces::open_with(alloc, "has", expr)?;
+        list.push_attribute(&attrs.head)?;
+        list.push_attributes(&attrs.tail)?;
+        list.close()
     }
 
     fn like(
@@ -328,8 +419,9 @@ impl ExprBuilder for Sketch {
         expr: SExpression,
         pattern: Pattern,
     ) -> Result<SExpression, AllocError> {
-        let pattern = SExpression::atom(alloc, format!(in alloc; "\"{pattern}\"")?);
-        make_list(alloc, "like", vec![in alloc; expr, pattern]?)
+        let mut list = Pieces::open_with(alloc, "like", expr)?;
+        list.push_pattern(&pattern)?;
+        list.close()
     }
 
     fn is_entity_type(
@@ -338,14 +430,17 @@ impl ExprBuilder for Sketch {
         expr: SExpression,
         entity_type: EntityType,
     ) -> Result<SExpression, AllocError> {
-        let entity_type = make_name(alloc, entity_type.name())?;
-        make_list(alloc, "is", vec![in alloc; expr, entity_type]?)
+        let mut list = Pieces::open_with(alloc, "is", expr)?;
+        list.push_name(entity_type.name())?;
+        list.close()
     }
 
     fn set(self, alloc: Global, members: Vec<SExpression>) -> Result<SExpression, AllocError>
         ensures { IfOk result (λ e. text_of e ≡ sketch_ops.set_of (map text_of members.items)) }
     {
-        make_list(alloc, "set", members)
+        let mut list = Pieces::open(alloc, "set")?;
+        list.push_all(members)?;
+        list.close()
     }
 
     fn record(
@@ -358,8 +453,9 @@ impl ExprBuilder for Sketch {
         ensures accepts { IsRising (keys_of pairs.items) → IfErr result (λ e. e ≡ error.Memory) }
         ensures refuses { IfErr result (OnDuplicateKey (λ _. HasRepeat (keys_of pairs.items))) }
     {
-        let parts = make_pair_lists(alloc, pairs)?;
-        Ok(make_list(alloc, "record", parts)?)
+        let mut list = Pieces::open(alloc, "record")?;
+        list.push_pairs(pairs)?;
+        Ok(list.close()?)
     }
 }
 

@@ -1,6 +1,6 @@
 use Rattle.std.proofs.Common.{◌≡◌, ◌++◌, string_bytes}
 use Rattle.std.specs.List.{flat_map}
-use Rattle.cedar_sketch.proofs.SExpression.to_text.Given as goal
+use Rattle.cedar_sketch.proofs.Pieces.join.Given as goal
 
 -- what was written, and then the rest
 abbrev pub invariant-loop-piece : goal.invariant-loop-piece
