@@ -1,8 +1,9 @@
 -- The values that the steps of a drop leave.
-use Rattle.std.proofs.Common.{◌≡◌, ℕ, ◌+◌, ◌*◌, ◌≤◌, ◌<◌, suc, refl, sym, ap, ◌∙◌, arith, Global, List, [], ◌∷◌, ◌++◌, length, slice_index_or, slice_set, true, false, Equal, Some, subst, BTreeMap}
+use Rattle.std.proofs.Common.{◌≡◌, ℕ, ◌+◌, ◌*◌, ◌≤◌, ◌<◌, suc, refl, sym, ap, ◌∙◌, arith, Global, List, [], ◌∷◌, ◌++◌, length, slice_index_or, slice_set, true, false, Equal, Option, Some, None, subst, BTreeMap}
 use Rattle.std.proofs.Math.Nat.{mul-le-mul_right, suc-mul}
 use Rattle.std.proofs.lemmas.Bool.{false≢true}
 use Rattle.std.proofs.lemmas.Cmp.{nat_list_cmp_total, tied_itself}
+use Rattle.std.specs.Prelude.{IfSome}
 use Rattle.std.specs.BTreeMap.{insert_entry}
 use Rattle.std.specs.List.{slice_get}
 use Rattle.std.specs.Map.{keys_of, values_of}
@@ -14,6 +15,7 @@ use Rattle.std.specs.declared.rc.RcStr.{RcStr}
 use Rattle.cedar_value_trees.specs.BareValue.{BareValue, LitValue, SetValue, RecordValue, ExtensionValue}
 use Rattle.cedar_values.specs.BareValues.{bare_value, bare_value_kind, kind_of}
 use Rattle.cedar_values.specs.Counts.{nodes, kind_nodes, nodes_of, entry_nodes}
+use Rattle.cedar_values.specs.Drops.{waiting_nodes}
 use Rattle.cedar_values.specs.Sets.{members}
 use Rattle.cedar_values.specs.declared.set.Set as set
 use Rattle.cedar_values.specs.declared.value.Value.{Value}
@@ -68,7 +70,7 @@ module _ {X : Type 0} where
   one_off all es e is = ap nodes_of is ∙ row-snoc es e
 
   -- a row whose first member v was replaced by w
-  pub first_written : (es : List (Value X)) (v w : Value X) (old new : ValueKind X) → 0 < length es → v ≡ slice_index_or es 0 v → old ≡ kind_of v → kind_of w ≡ new → kind_nodes old + nodes_of (slice_set es 0 w) ≡ nodes_of es + kind_nodes new
+  first_written : (es : List (Value X)) (v w : Value X) (old new : ValueKind X) → 0 < length es → v ≡ slice_index_or es 0 v → old ≡ kind_of v → kind_of w ≡ new → kind_nodes old + nodes_of (slice_set es 0 w) ≡ nodes_of es + kind_nodes new
   first_written [] v w old new some at is put = omega (arith, some)
   first_written (x ∷ es) v w old new some at is put =
       let here = nodes_of_kind v old is in
@@ -83,16 +85,15 @@ module _ {X : Type 0} where
       let same : nodes (bare_value v) ≡ nodes (bare_value x) = ap (λ y. nodes (bare_value y)) at in
       omega (arith, here, same)
 
-  -- what is left of such a row, where the first member was a leaf
-  pub first_dropped : (es : List (Value X)) (v w : Value X) (old new : ValueKind X) (m : ℕ) → 0 < length es → v ≡ slice_index_or es 0 v → old ≡ kind_of v → kind_of w ≡ new → m ≤ nodes_of (slice_set es 0 w) → m < nodes_of es + kind_nodes new
-  first_dropped es v w old new m some at is put within = let all = first_written es v w old new some at is put in let one = some_nodes old in omega (arith, all, one, within)
+  -- the first member, and a row in which something else was put into its place
+  pub first_put : (es : List (Value X)) (v w : Value X) (old new : ValueKind X) → 0 < length es → v ≡ slice_index_or es 0 v → old ≡ kind_of v → kind_of w ≡ new
+      → (kind_nodes old ≤ nodes_of es) × (kind_nodes old + nodes_of (slice_set es 0 w) ≡ nodes_of es + kind_nodes new)
+  first_put es v w old new some at is put = (first_fits es v old some at is, first_written es v w old new some at is put)
 
-  -- the first member and such a row
-  pub first_taken : (es : List (Value X)) (v w : Value X) (old new : ValueKind X) → 0 < length es → v ≡ slice_index_or es 0 v → old ≡ kind_of v → kind_of w ≡ new
-      → (kind_nodes old ≤ nodes_of es) × (kind_nodes old + nodes_of (slice_set es 0 w) ≤ nodes_of es + kind_nodes new)
-  first_taken es v w old new some at is put =
-      let all = first_written es v w old new some at is put in
-      (first_fits es v old some at is, omega (arith, all))
+  -- what was taken off, if anything, and what is left
+  pub with_last : (last : Option (ValueKind X)) (n m : ℕ) → IfSome last (λ k. kind_nodes k + n ≤ m) → n ≤ m → waiting_nodes last + n ≤ m
+  with_last None n m taken rest = omega (arith, rest)
+  with_last (Some k) n m taken rest = taken
 
   pub one_pair_off : (all es : List (RcStr Global × Value X)) (k : RcStr Global) (e : Value X) → all ≡ (k, e) ∷ es → entry_nodes all ≡ entry_nodes es + nodes (bare_value e)
   one_pair_off all es k e is = let here = ap entry_nodes is in omega (arith, here)

@@ -5,7 +5,7 @@ use Rattle.std.specs.Option.{option_or, is_none}
 use Rattle.std.specs.Result.{MatchResult}
 use Rattle.std.specs.declared.rc.Rc.{Rc}
 use Rattle.std.specs.declared.rc.RcStr.{RcStr}
-use Rattle.std.proofs.lemmas.List.Folds.{find-append}
+use Rattle.std.proofs.lemmas.List.Folds.{find-append, list_all-map}
 use Rattle.cedar_names.specs.Place.{Place}
 use Rattle.cedar_builders.specs.Walks as bare
 use Rattle.cedar_builders.specs.Walks.{forward}
@@ -27,10 +27,6 @@ none_found p (x ∷ xs) = go (p x) (none_found p xs)
     go : (b : Bool) → is_none (find (λ x. not (p x)) xs) ≡ list_all p xs → is_none (if not b then Some x else find (λ x. not (p x)) xs) ≡ (b && list_all p xs)
     go true h = h
     go false h = refl
-
-list_all-map : {A B : Type 0} (f : A → B) (p : B → Bool) (xs : List A) → list_all p (map f xs) ≡ list_all (λ x. p (f x)) xs
-list_all-map f p [] = refl
-list_all-map f p (x ∷ xs) = ap (λ b. p (f x) && b) (list_all-map f p xs)
 
 is_none_is : {A : Type 0} (r : Option A) → is_none r ≡ true → r ≡ None
 is_none_is None h = refl
@@ -66,7 +62,7 @@ module _ {T : Type 0} (o : InPreorder T) where
   decided : (e : Expr T) → is_none (first_not_readable e) ≡ is_readable (bare_expr e)
   decided e =
       none_found (λ (d : Expr T). is_readable_node (bare_expr d)) (preorder e)
-      ∙ sym (list_all-map bare_expr is_readable_node (preorder e))
+      ∙ sym (list_all-map is_readable_node bare_expr (preorder e))
       ∙ ap (list_all is_readable_node) (o.trees e)
 
   pub none_in_readable : (e : Expr T) → is_readable (bare_expr e) ≡ true → first_not_readable e ≡ None

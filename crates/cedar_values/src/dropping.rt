@@ -1,37 +1,40 @@
 //! How a value is dropped.
-ghost use Rattle.std.specs.Prelude.{◌≡◌, ℕ, ◌+◌, ◌<◌, ◌≤◌, suc, IsTrue, IfSome};
+ghost use Rattle.std.specs.Prelude.{◌≡◌, ℕ, ◌+◌, ◌<◌, ◌≤◌, suc, IfSome};
 ghost use Rattle.cedar_values.specs.Counts.{entry_nodes, kind_nodes, nodes_of};
-ghost use Rattle.cedar_values.specs.Drops.{IsItem, IsStep, all_nodes, is_leaf, waiting_nodes};
+ghost use Rattle.cedar_values.specs.Drops.{IsItem, IsStep, all_nodes, waiting_nodes};
 
+use crate::row_items::{
+    Item, drop_leaf, is_leaf, last_branch, last_branch_value, take_member, take_value,
+};
 use crate::set::Set;
 use crate::value::{Value, ValueKind};
 use std::collections::BTreeMap;
 use std::rc::{Rc, RcStr};
 
-// Drops a kind with all that it alone owns, without memory, and without the stack but where a weak
+// Drops a kind with all that it alone owns.
+#[cycle(dropped)]
+pub(crate) fn drop_kind<X: Drop>(kind: ValueKind<X>) {
+    if is_leaf(&kind) {
+        drop_leaf(kind);
+    } else {
+        drop_branch(kind);
+    }
+}
+
+// Drops a kind that has values inside, without memory, and without the stack but where a weak
 // pointer keeps a record.
 //
 // A row (the members of a set, the values of a record) that is gone into waits, in its own block,
 // with the items that it still has: the first of them is the row that waits below it.
 #[cycle(dropped)]
-pub(crate) fn drop_kind<X: Drop>(kind: ValueKind<X>) {
-    let mut left = Left {
-        kind,
-        waiting: None,
-    };
+fn drop_branch<X: Drop>(kind: ValueKind<X>) {
+    let mut left = only(kind);
     'down: loop {
         match enter(left) {
             Step::Into(next) => left = next,
             Step::On(next) => left = next,
-            Step::Members(row, next) => {
-                drop_members(row);
-                match next {
-                    Some(next) => left = next,
-                    None => return,
-                }
-            }
-            Step::Pairs(row, next) => {
-                drop_pairs(row);
+            Step::Row(row, next) => {
+                drop_row(row);
                 match next {
                     Some(next) => left = next,
                     None => return,
@@ -56,10 +59,8 @@ enum Step<X> {
     Into(Left<X>),
     // A value is gone.
     On(Left<X>),
-    // Members that can't wait, and what is left beside them.
-    Members(Rc<Vec<Value<X>>>, Option<Left<X>>),
-    // Keys and values that can't wait, and what is left beside them.
-    Pairs(Rc<BTreeMap<RcStr, Value<X>>>, Option<Left<X>>),
+    // A row that can't wait, and what is left beside it.
+    Row(ValueKind<X>, Option<Left<X>>),
     // Nothing is left.
     End,
 }
@@ -114,16 +115,6 @@ fn only<X>(kind: ValueKind<X>) -> Left<X>
     }
 }
 
-// A kind that is taken out of a row.
-enum Item<X> {
-    // Of an item.
-    Of(ValueKind<X>),
-    // Of an item, where a leaf was dropped before.
-    After(ValueKind<X>),
-    // Of none: all were leaves, and these are dropped. This waits.
-    None(Option<ValueKind<X>>),
-}
-
 // Into a member of a set, whose row then waits.
 #[inline(never)]
 fn open_members<X: Drop>(row: Rc<Vec<Value<X>>>, waiting: Option<ValueKind<X>>) -> Step<X>
@@ -132,116 +123,11 @@ fn open_members<X: Drop>(row: Rc<Vec<Value<X>>>, waiting: Option<ValueKind<X>>) 
 {
     let mut row = row;
     match Rc::get_mut(&mut row) {
-        Some(items) => match take_member(items, waiting) {
-            Item::Of(kind) => Step::Into(Left {
-                kind,
-                waiting: Some(ValueKind::Set(Set::of_row(row))),
-            }),
-            Item::After(kind) => Step::On(Left {
-                kind,
-                waiting: Some(ValueKind::Set(Set::of_row(row))),
-            }),
-            Item::None(waiting) => Step::Members(row, go_on(waiting)),
-        },
-        None => Step::Members(row, go_on(waiting)),
-    }
-}
-
-// A member that is no leaf. If a row waits it stands in the first member's place from then on. If
-// none is taken, what is left of the row is leaves.
-fn take_member<X: Drop>(items: &mut Vec<Value<X>>, waiting: Option<ValueKind<X>>) -> Item<X>
-    ensures { IsItem (nodes_of items.old.items) (waiting_nodes waiting)
-        (nodes_of items.new.items) result }
-{
-    match waiting {
-        Some(next) => match items.first_mut() {
-            Some(first) => {
-                let kind = first.replace_kind(next);
-                if is_leaf(&kind) {
-                    drop_leaf(kind);
-                    match last_branch(items) {
-                        Some(last) => {
-                            if items.is_empty() {
-                                Item::None(Some(last))
-                            } else {
-                                Item::After(last)
-                            }
-                        }
-                        None => Item::None(None),
-                    }
-                } else {
-                    Item::Of(kind)
-                }
-            }
-            None => Item::None(Some(next)),
-        },
-        None => match last_branch(items) {
-            Some(last) => Item::Of(last),
-            None => Item::None(None),
-        },
-    }
-}
-
-// Takes off the last members, down to one that is no leaf, and drops the leaves.
-#[inline(never)]
-fn last_branch<X: Drop>(items: &mut Vec<Value<X>>) -> Option<ValueKind<X>>
-    ensures taken { IfSome result (λ last.
-        kind_nodes last + nodes_of items.new.items ≤ nodes_of items.old.items) }
-    ensures fewer { nodes_of items.new.items ≤ nodes_of items.old.items }
-{
-    'leaves: while let Some(item) = items.pop() {
-        if is_leaf(item.value_kind()) {
-            drop_leaf(item.into_kind());
-        } else {
-            return Some(item.into_kind());
-        }
-    }
-    None
-}
-
-// Whether a kind has no values inside.
-fn is_leaf<X>(kind: &ValueKind<X>) -> bool
-    ensures { result ≡ is_leaf kind.now }
-{
-    matches!(kind, ValueKind::Lit(_) | ValueKind::ExtensionValue(_))
-}
-
-// Drops a kind that has no values inside.
-#[inline(always)]
-fn drop_leaf<X: Drop>(kind: ValueKind<X>)
-    requires { IsTrue (is_leaf kind) }
-{
-    match kind {
-        ValueKind::Lit(literal) => drop(literal),
-        ValueKind::ExtensionValue(value) => drop(value),
-        _kind => unreachable!(),
-    }
-}
-
-// The last member of a row that waits, but for leaves. If it is the only one, it is taken to be the
-// row that waits below, and the row is done with.
-fn resume_members<X: Drop>(row: Rc<Vec<Value<X>>>) -> Left<X>
-    ensures { all_nodes result ≤ suc (nodes_of row.value.items) }
-{
-    let mut row = row;
-    match Rc::get_mut(&mut row) {
-        Some(items) => match last_branch(items) {
-            Some(kind) => {
-                if items.is_empty() {
-                    Left {
-                        kind: ValueKind::Set(Set::of_row(row)),
-                        waiting: Some(kind),
-                    }
-                } else {
-                    Left {
-                        kind,
-                        waiting: Some(ValueKind::Set(Set::of_row(row))),
-                    }
-                }
-            }
-            None => only(ValueKind::Set(Set::of_row(row))),
-        },
-        None => only(ValueKind::Set(Set::of_row(row))),
+        Some(members) => opened(
+            take_member(members, waiting),
+            ValueKind::Set(Set::of_row(row)),
+        ),
+        None => opened(Item::None(waiting), ValueKind::Set(Set::of_row(row))),
     }
 }
 
@@ -253,99 +139,88 @@ fn open_pairs<X: Drop>(row: Rc<BTreeMap<RcStr, Value<X>>>, waiting: Option<Value
 {
     let mut row = row;
     match Rc::get_mut(&mut row) {
-        Some(items) => match take_value(items, waiting) {
-            Item::Of(kind) => Step::Into(Left {
-                kind,
-                waiting: Some(ValueKind::Record(row)),
-            }),
-            Item::After(kind) => Step::On(Left {
-                kind,
-                waiting: Some(ValueKind::Record(row)),
-            }),
-            Item::None(waiting) => Step::Pairs(row, go_on(waiting)),
-        },
-        None => Step::Pairs(row, go_on(waiting)),
+        Some(pairs) => opened(take_value(pairs, waiting), ValueKind::Record(row)),
+        None => opened(Item::None(waiting), ValueKind::Record(row)),
     }
 }
 
-// As `take_member`, of a record.
-fn take_value<X: Drop>(
-    items: &mut BTreeMap<RcStr, Value<X>>,
-    waiting: Option<ValueKind<X>>,
-) -> Item<X>
-    ensures { IsItem (entry_nodes items.old.entries) (waiting_nodes waiting)
-        (entry_nodes items.new.entries) result }
+// Into an item that was taken out of a row, which then waits.
+fn opened<X: Drop>(item: Item<X>, row: ValueKind<X>) -> Step<X>
+    ensures { (m w n : ℕ) → IsItem m w n item → kind_nodes row ≡ suc n
+        → IsStep (suc m) (suc m + w) result }
 {
-    match waiting {
-        Some(next) => match items.first_entry() {
-            Some(first) => {
-                let kind = first.into_mut().replace_kind(next);
-                if is_leaf(&kind) {
-                    drop_leaf(kind);
-                    match last_branch_value(items) {
-                        Some(last) => {
-                            if items.is_empty() {
-                                Item::None(Some(last))
-                            } else {
-                                Item::After(last)
-                            }
-                        }
-                        None => Item::None(None),
-                    }
-                } else {
-                    Item::Of(kind)
-                }
-            }
-            None => Item::None(Some(next)),
-        },
-        None => match last_branch_value(items) {
-            Some(last) => Item::Of(last),
-            None => Item::None(None),
-        },
+    match item {
+        Item::Of(kind) => Step::Into(Left {
+            kind,
+            waiting: Some(row),
+        }),
+        Item::After(kind) => Step::On(Left {
+            kind,
+            waiting: Some(row),
+        }),
+        Item::None(waiting) => Step::Row(row, go_on(waiting)),
     }
 }
 
-// As `last_branch`, of a record.
-#[inline(never)]
-fn last_branch_value<X: Drop>(items: &mut BTreeMap<RcStr, Value<X>>) -> Option<ValueKind<X>>
-    ensures taken { IfSome result (λ last.
-        kind_nodes last + entry_nodes items.new.entries ≤ entry_nodes items.old.entries) }
-    ensures fewer { entry_nodes items.new.entries ≤ entry_nodes items.old.entries }
+// The last member of a row that waits, but for leaves.
+fn resume_members<X: Drop>(row: Rc<Vec<Value<X>>>) -> Left<X>
+    ensures { all_nodes result ≤ suc (nodes_of row.value.items) }
 {
-    'leaves: while let Some((key, item)) = items.pop_last() {
-        drop(key);
-        if is_leaf(item.value_kind()) {
-            drop_leaf(item.into_kind());
-        } else {
-            return Some(item.into_kind());
+    let mut row = row;
+    match Rc::get_mut(&mut row) {
+        Some(members) => {
+            let last = last_branch(members);
+            resumed(last, members.is_empty(), ValueKind::Set(Set::of_row(row)))
         }
+        None => only(ValueKind::Set(Set::of_row(row))),
     }
-    None
 }
 
-// As `resume_members`, of a record.
+// The last value of a row that waits, but for leaves.
 fn resume_pairs<X: Drop>(row: Rc<BTreeMap<RcStr, Value<X>>>) -> Left<X>
     ensures { all_nodes result ≤ suc (entry_nodes row.value.entries) }
 {
     let mut row = row;
     match Rc::get_mut(&mut row) {
-        Some(items) => match last_branch_value(items) {
-            Some(kind) => {
-                if items.is_empty() {
-                    Left {
-                        kind: ValueKind::Record(row),
-                        waiting: Some(kind),
-                    }
-                } else {
-                    Left {
-                        kind,
-                        waiting: Some(ValueKind::Record(row)),
-                    }
+        Some(pairs) => {
+            let last = last_branch_value(pairs);
+            resumed(last, pairs.is_empty(), ValueKind::Record(row))
+        }
+        None => only(ValueKind::Record(row)),
+    }
+}
+
+// The last item of a row that waits, beside that row. If it was the only one, it is taken to be the
+// row that waits below, and the row is done with.
+fn resumed<X>(last: Option<ValueKind<X>>, is_only: bool, row: ValueKind<X>) -> Left<X>
+    ensures { all_nodes result ≡ waiting_nodes last + kind_nodes row }
+{
+    match last {
+        Some(last) => {
+            if is_only {
+                Left {
+                    kind: row,
+                    waiting: Some(last),
+                }
+            } else {
+                Left {
+                    kind: last,
+                    waiting: Some(row),
                 }
             }
-            None => only(ValueKind::Record(row)),
-        },
-        None => only(ValueKind::Record(row)),
+        }
+        None => only(row),
+    }
+}
+
+// Drops a row that can't wait.
+#[cycle(dropped)]
+fn drop_row<X: Drop>(row: ValueKind<X>) {
+    match row {
+        ValueKind::Lit(literal) => drop(literal),
+        ValueKind::Set(set) => drop_members(set.into_row()),
+        ValueKind::Record(pairs) => drop_pairs(pairs),
+        ValueKind::ExtensionValue(value) => drop(value),
     }
 }
 

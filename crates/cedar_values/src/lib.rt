@@ -14,6 +14,7 @@ mod not_value;
 mod partial_value;
 mod put_last;
 mod record;
+mod row_items;
 mod set;
 mod substitution;
 mod to_expr;

@@ -4,21 +4,27 @@ use Rattle.cedar_values.specs.Drops.{all_nodes}
 use Rattle.cedar_values.proofs.dropping.+dropped.Given as goal
 
 abbrev pub decreases-drop_kind : goal.decreases-drop_kind
-decreases-drop_kind g l = 2 * kind_nodes l.kind
+decreases-drop_kind g l = 4 * kind_nodes l.kind + 3
+
+abbrev pub decreases-drop_branch : goal.decreases-drop_branch
+decreases-drop_branch g l = 4 * kind_nodes l.kind + 2
+
+abbrev pub decreases-drop_row : goal.decreases-drop_row
+decreases-drop_row g l = 4 * kind_nodes l.row + 1
 
 abbrev pub decreases-drop_members : goal.decreases-drop_members
-decreases-drop_members g l = 2 * nodes_of l.row.value.items + 1
+decreases-drop_members g l = 4 * nodes_of l.row.value.items + 4
 
 abbrev pub decreases-drop_pairs : goal.decreases-drop_pairs
-decreases-drop_pairs g l = 2 * entry_nodes l.row.value.entries + 1
+decreases-drop_pairs g l = 4 * entry_nodes l.row.value.entries + 4
 
 -- no more values are left than there were
-abbrev pub invariant-drop_kind-down : goal.invariant-drop_kind-down
-invariant-drop_kind-down g l = all_nodes l.left ≤ kind_nodes l.fn.kind
+abbrev pub invariant-drop_branch-down : goal.invariant-drop_branch-down
+invariant-drop_branch-down g l = all_nodes l.left ≤ kind_nodes l.fn.kind
 
 -- each step leaves fewer values, or as many and a smaller kind
-abbrev pub decreases-drop_kind-down : goal.decreases-drop_kind-down
-decreases-drop_kind-down g l = all_nodes l.left * (kind_nodes l.fn.kind + 1) + kind_nodes l.left.kind
+abbrev pub decreases-drop_branch-down : goal.decreases-drop_branch-down
+decreases-drop_branch-down g l = all_nodes l.left * (kind_nodes l.fn.kind + 1) + kind_nodes l.left.kind
 
 abbrev pub invariant-drop_members-each : goal.invariant-drop_members-each
 invariant-drop_members-each g l = nodes_of l.row.items ≤ nodes_of l.initial.row.items

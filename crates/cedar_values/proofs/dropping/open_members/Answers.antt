@@ -1,18 +1,16 @@
-use Rattle.std.proofs.Common.{arith, ap}
+use Rattle.std.proofs.Common.{◌+◌, arith, subst, suc, ap}
 use Rattle.cedar_values.specs.Counts.{nodes_of}
+use Rattle.cedar_values.specs.Drops.{IsStep, waiting_nodes}
 use Rattle.cedar_values.proofs.Fewer.{row_set}
 use Rattle.cedar_values.proofs.dropping.open_members.Goals as goal
 
-pub returns-in-Of : goal.returns-in-Of
-returns-in-Of g c =
+pub returns-in-Some : goal.returns-in-Some
+returns-in-Some g c =
     let whole = ap (λ v. nodes_of v.items) c.in-Some.ensures.value in
     let set = row_set c.of_row.result _ c.of_row.ensures in
-    let item = c.in-Of.ensures in
-    (omega (arith, whole, item), omega (arith, whole, set, item))
+    subst (λ m. IsStep (suc m) (suc m + waiting_nodes c.args.waiting) c.opened.result) whole (c.opened.ensures _ _ _ c.take_member.ensures set)
 
-pub returns-in-After : goal.returns-in-After
-returns-in-After g c =
-    let whole = ap (λ v. nodes_of v.items) c.in-Some.ensures.value in
-    let set = row_set c.of_row-in-After.result _ c.of_row-in-After.ensures in
-    let item = c.in-After.ensures in
-    omega (arith, whole, set, item)
+pub returns-in-None : goal.returns-in-None
+returns-in-None g c =
+    let set = row_set c.of_row-in-None.result _ c.of_row-in-None.ensures in
+    c.opened-in-None.ensures (nodes_of c.args.row.value.items) (waiting_nodes c.args.waiting) _ (omega arith) set

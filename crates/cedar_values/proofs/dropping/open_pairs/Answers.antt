@@ -1,18 +1,15 @@
-use Rattle.std.proofs.Common.{arith, ap}
+use Rattle.std.proofs.Common.{◌+◌, arith, subst, suc, refl, ap}
 use Rattle.cedar_values.specs.Counts.{entry_nodes}
-use Rattle.cedar_values.proofs.Fewer.{written_record}
+use Rattle.cedar_values.specs.Drops.{IsStep, waiting_nodes}
+use Rattle.cedar_values.proofs.Fewer.{record_nodes, written_record}
 use Rattle.cedar_values.proofs.dropping.open_pairs.Goals as goal
 
-pub returns-in-Of : goal.returns-in-Of
-returns-in-Of g c =
+pub returns-in-Some : goal.returns-in-Some
+returns-in-Some g c =
     let whole = ap (λ m. entry_nodes m.entries) c.in-Some.ensures.value in
-    let record_of = written_record c.args.row c.take_value.new.items in
-    let item = c.in-Of.ensures in
-    (omega (arith, whole, item), omega (arith, whole, record_of, item))
+    let record_of = written_record c.args.row c.take_value.new.pairs in
+    subst (λ m. IsStep (suc m) (suc m + waiting_nodes c.args.waiting) c.opened.result) whole (c.opened.ensures _ _ _ c.take_value.ensures record_of)
 
-pub returns-in-After : goal.returns-in-After
-returns-in-After g c =
-    let whole = ap (λ m. entry_nodes m.entries) c.in-Some.ensures.value in
-    let record_of = written_record c.args.row c.take_value.new.items in
-    let item = c.in-After.ensures in
-    omega (arith, whole, record_of, item)
+pub returns-in-None : goal.returns-in-None
+returns-in-None g c =
+    c.opened-in-None.ensures (entry_nodes c.args.row.value.entries) (waiting_nodes c.args.waiting) _ (omega arith) (record_nodes _ c.args.row refl)

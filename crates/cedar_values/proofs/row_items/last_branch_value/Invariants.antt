@@ -1,10 +1,10 @@
 use Rattle.std.proofs.Common.{◌≤◌, length}
 use Rattle.cedar_values.specs.Counts.{entry_nodes}
-use Rattle.cedar_values.proofs.dropping.last_branch_value.Given as goal
+use Rattle.cedar_values.proofs.row_items.last_branch_value.Given as goal
 
 -- no more values are left than there were
 abbrev pub invariant-leaves : goal.invariant-leaves
-invariant-leaves g l = entry_nodes l.items.entries ≤ entry_nodes l.initial.items.entries
+invariant-leaves g l = entry_nodes l.pairs.entries ≤ entry_nodes l.initial.pairs.entries
 
 abbrev pub decreases-leaves : goal.decreases-leaves
-decreases-leaves g l = length l.items.entries
+decreases-leaves g l = length l.pairs.entries
