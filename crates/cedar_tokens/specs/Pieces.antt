@@ -1,12 +1,44 @@
--- How far texts are read.
-use Rattle.std.specs.Prelude.{ℕ, List, ◌<◌, length}
+-- How far texts are read, and which tokens are taken.
+use Rattle.std.specs.Prelude.{◌≡◌, ℕ, List, [], ◌∷◌, ◌<◌, length}
 use Rattle.std.specs.Str.{chars}
+use Rattle.cedar_tokens.specs.declared.token.Kind.{Kind}
+use Rattle.cedar_tokens.specs.declared.token.Token.{Token}
 use Rattle.cedar_tokens.specs.declared.tokens.Tokens.{Tokens}
 
 -- the first text has fewer characters
 abbrev pub IsShorter : List ℕ → List ℕ → Type 0
 IsShorter rest text = length (chars rest) < length (chars text)
 
+-- the tokens that are not taken yet
+abbrev pub rest_of : Tokens → List Token
+rest_of t = t.rest.now
+
 -- how many tokens are not taken yet
 abbrev pub tokens_left : Tokens → ℕ
-tokens_left t = length t.rest.now
+tokens_left t = length (rest_of t)
+
+-- what stands behind the last token
+abbrev pub end_of : Tokens → Token
+end_of t = t.end
+
+-- the first of the tokens, or what stands behind them
+abbrev pub first_or : Token → List Token → Token
+first_or end [] = end
+first_or end (t ∷ ts) = t
+
+-- what is taken next, or the end
+abbrev pub next_of : Tokens → Token
+next_of t = first_or (end_of t) (rest_of t)
+
+-- nothing was taken
+abbrev pub IsUntouched : Tokens → Tokens → Type 0
+IsUntouched old new = (rest_of new ≡ rest_of old) × (end_of new ≡ end_of old)
+
+-- the first token was taken
+abbrev pub IsTaken : Tokens → Token → Tokens → Type 0
+IsTaken old t new = (rest_of old ≡ t ∷ rest_of new) × (end_of new ≡ end_of old)
+
+-- the first two tokens were taken, of which the first is of this kind
+abbrev pub IsPairTaken : Tokens → Kind → Token → Tokens → Type 0
+IsPairTaken old kind t new =
+    (first : Token) × (first.kind ≡ kind) × (rest_of old ≡ first ∷ t ∷ rest_of new) × (end_of new ≡ end_of old)

@@ -1,5 +1,8 @@
 //! Why a text is not read, and where.
-ghost use Rattle.std.specs.Prelude.{◌≡◌};
+ghost use Rattle.std.specs.Prelude.{◌≡◌, length, take};
+ghost use Rattle.std.specs.Str.{IsCharBoundary, chars};
+ghost use Rattle.cedar_tokens.specs.Places.{IsLastLine, line_at};
+ghost use Rattle.cedar_tokens.specs.Told.{IsProblemAt};
 ghost use Rattle.cedar_tokens.specs.declared.error.ReadError.TheVariants.{Memory};
 
 use crate::token::Span;
@@ -25,7 +28,9 @@ pub struct SyntaxError {
 
 impl SyntaxError {
     // The problem with a piece of the text.
-    pub(crate) fn new(text: &str, span: Span, problem: &'static str) -> SyntaxError {
+    pub(crate) fn new(text: &str, span: Span, problem: &'static str) -> SyntaxError
+        ensures { IsProblemAt text.now span problem.now result }
+    {
         let Span { start, stop } = span;
         let piece = Excerpt { text, start, stop };
         SyntaxError {
@@ -91,40 +96,59 @@ pub struct Excerpt<'a> {
 
 impl Excerpt<'_> {
     // What stands before the piece.
-    fn before(&self) -> &str {
-        self.text.get(..self.start).unwrap_or(self.text)
+    fn before(&self) -> &str
+        ensures { IsCharBoundary self.now.text.now self.now.start →
+            result.now ≡ take self.now.start self.now.text.now }
+    {
+        match self.text.split_at_checked(self.start) {
+            Some((before, _)) => before,
+            None => self.text,
+        }
     }
 
     // What stands before the piece in its line.
-    fn line_before(&self) -> &str {
+    fn line_before(&self) -> &str
+        ensures { IsCharBoundary self.now.text.now self.now.start →
+            IsLastLine (take self.now.start self.now.text.now) result.now }
+    {
         let before = self.before();
         last_line(before)
     }
 
     // What stands in the piece's line from the piece on.
     fn line_after(&self) -> &str {
-        match self.text.get(self.start..) {
-            Some(after) => first_line(after),
+        match self.text.split_at_checked(self.start) {
+            Some((_, after)) => first_line(after),
             None => "",
         }
     }
 
     /// The number of its line, from 1 on.
-    pub fn line(&self) -> usize {
+    pub fn line(&self) -> usize
+        ensures { IsCharBoundary self.now.text.now self.now.start →
+            result ≡ line_at self.now.text.now self.now.start }
+    {
         let breaks = self.before().bytes().filter(|byte| *byte == b'\n').count();
         breaks.saturating_add(1)
     }
 
     /// The character of the line with which it begins, from 1 on.
     pub fn column(&self) -> usize {
-        self.line_before().chars().count().saturating_add(1)
+        char_count(self.line_before()).saturating_add(1)
     }
 
     // How many carets there are: one for each character of the piece in its line, one at least.
     fn width(&self) -> usize {
         let piece = first_line(self.text.get(self.start..self.stop).unwrap_or(""));
-        piece.chars().count().max(1)
+        char_count(piece).max(1)
     }
+}
+
+// How many characters a text has.
+fn char_count(text: &str) -> usize
+    ensures { result ≡ length (chars text.now) }
+{
+    text.chars().count()
 }
 
 // The text up to its first line feed.
@@ -136,7 +160,9 @@ fn first_line(text: &str) -> &str {
 }
 
 // The text from behind its last line feed.
-fn last_line(text: &str) -> &str {
+fn last_line(text: &str) -> &str
+    ensures { IsLastLine text.now result.now }
+{
     match text.rsplit_once('\n') {
         Some((_, line)) => line,
         None => text,

@@ -1,6 +1,19 @@
 //! Texts and patterns between quotes.
-ghost use Rattle.std.specs.Prelude.{IfSome};
+ghost use Rattle.std.specs.Prelude.{◌≡◌, ◌+◌, ◌*◌, ◌^◌, ◌<◌, ◌≤◌, IfOk, IfSome, string_bytes};
+ghost use Rattle.std.specs.Option.{option_map};
+ghost use Rattle.std.specs.Str.{chars};
+ghost use Rattle.cedar_tokens.specs.Escapes.{letter_escape, piece_elem};
+ghost use Rattle.cedar_tokens.specs.FirstPieces.{
+  code_at,
+  digit_at,
+  digits_at,
+  escape_at,
+  piece_at,
+  read_of,
+  two_digits_at,
+};
 ghost use Rattle.cedar_tokens.specs.Pieces.{IsShorter};
+ghost use Rattle.cedar_tokens.specs.Readings.{IsAnswerOfPattern, IsAnswerOfText};
 
 use cedar_terms::{Pattern, PatternElem, first_char};
 use std::alloc::{AllocError, Global};
@@ -16,7 +29,10 @@ enum Piece {
 ///
 /// `\n`, `\r`, `\t`, `\0`, `\\`, `\"` and `\'` are the characters that they are in Rust, `\x41` is
 /// one of ASCII by two hexadecimal digits, and `\u{1F600}` any by one to six.
-pub fn read_text(alloc: Global, inside: &str) -> Result<Option<String>, AllocError> {
+pub fn read_text(alloc: Global, inside: &str) -> Result<Option<String>, AllocError>
+    ensures { IfOk result (λ text.
+        IsAnswerOfText (chars inside.now) (option_map string_bytes text)) }
+{
     let mut text = String::new(alloc);
     let mut rest = inside;
     'pieces: while let Some((piece, later)) = first_piece(rest) {
@@ -26,12 +42,18 @@ pub fn read_text(alloc: Global, inside: &str) -> Result<Option<String>, AllocErr
         }
         rest = later;
     }
-    Ok(if rest.is_empty() { Some(text) } else { None })
+    if rest.is_empty() {
+        Ok(Some(text))
+    } else {
+        Ok(None)
+    }
 }
 
 /// The pattern that stands between quotes, if its escapes are those of patterns: those of texts,
 /// and `\*` for a star. A star is a wildcard else.
-pub fn read_pattern(alloc: Global, inside: &str) -> Result<Option<Pattern>, AllocError> {
+pub fn read_pattern(alloc: Global, inside: &str) -> Result<Option<Pattern>, AllocError>
+    ensures { IfOk result (λ pattern. IsAnswerOfPattern (chars inside.now) pattern) }
+{
     let mut elems = Vec::new(alloc);
     let mut rest = inside;
     'pieces: while let Some((piece, later)) = first_piece(rest) {
@@ -45,7 +67,9 @@ pub fn read_pattern(alloc: Global, inside: &str) -> Result<Option<Pattern>, Allo
 }
 
 // What a piece is in a pattern.
-fn pattern_elem(piece: Piece) -> PatternElem {
+fn pattern_elem(piece: Piece) -> PatternElem
+    ensures { result ≡ piece_elem piece }
+{
     match piece {
         Piece::Char('*') => PatternElem::Wildcard,
         Piece::Char(c) => PatternElem::Char(c),
@@ -54,8 +78,10 @@ fn pattern_elem(piece: Piece) -> PatternElem {
 }
 
 // The piece that a text begins with, and what follows it; none at the end and at what is no escape.
+#[tactic(auto, unfolding(crate::specs::FirstPieces::piece_at))]
 fn first_piece(text: &str) -> Option<(Piece, &str)>
-    ensures { IfSome result (λ x. IsShorter x.1.now text.now) }
+    ensures shorter { IfSome result (λ x. IsShorter x.1.now text.now) }
+    ensures reads { read_of result ≡ piece_at (chars text.now) }
 {
     match first_char(text)? {
         ('\\', rest) => escape(rest),
@@ -64,8 +90,10 @@ fn first_piece(text: &str) -> Option<(Piece, &str)>
 }
 
 // The piece that a text behind a backslash begins with.
+#[tactic(auto, unfolding(crate::specs::FirstPieces::escape_at))]
 fn escape(text: &str) -> Option<(Piece, &str)>
-    ensures { IfSome result (λ x. IsShorter x.1.now text.now) }
+    ensures shorter { IfSome result (λ x. IsShorter x.1.now text.now) }
+    ensures reads { read_of result ≡ escape_at (chars text.now) }
 {
     match first_char(text)? {
         ('*', rest) => Some((Piece::Star, rest)),
@@ -82,7 +110,9 @@ fn escape(text: &str) -> Option<(Piece, &str)>
 }
 
 // The character whose escape has this letter.
-fn simple_escape(letter: char) -> Option<char> {
+fn simple_escape(letter: char) -> Option<char>
+    ensures { result ≡ letter_escape letter }
+{
     match letter {
         '0' => Some('\0'),
         't' => Some('\t'),
@@ -94,43 +124,55 @@ fn simple_escape(letter: char) -> Option<char> {
 }
 
 // The character of ASCII that two hexadecimal digits give.
+#[tactic(auto, unfolding(crate::specs::FirstPieces::two_digits_at))]
 fn ascii_code(text: &str) -> Option<(char, &str)>
-    ensures { IfSome result (λ x. IsShorter x.1.now text.now) }
+    ensures shorter { IfSome result (λ x. IsShorter x.1.now text.now) }
+    ensures reads { read_of result ≡ two_digits_at (chars text.now) }
 {
     let (high, rest) = first_digit(text)?;
     let (low, rest) = first_digit(rest)?;
     if high > 7 {
         return None;
     }
-    let c = char::from_u32(high.saturating_mul(16).saturating_add(low))?;
+    let c = char::from_u32(high * 16 + low)?;
     Some((c, rest))
 }
 
 // The character that one to six hexadecimal digits in curly brackets give.
+#[tactic(auto, unfolding(crate::specs::FirstPieces::code_at))]
 fn code(text: &str) -> Option<(char, &str)>
-    ensures { IfSome result (λ x. IsShorter x.1.now text.now) }
+    ensures shorter { IfSome result (λ x. IsShorter x.1.now text.now) }
+    ensures reads { read_of result ≡ code_at (chars text.now) }
 {
-    let (bracket, rest) = first_char(text)?;
-    if bracket != '{' {
-        return None;
-    }
-    let (first, later) = first_digit(rest)?;
-    let mut value = first;
-    let mut rest = later;
-    'digits: for _ in 0..6 {
-        if let Some(('}', later)) = first_char(rest) {
-            return Some((char::from_u32(value)?, later));
+    match first_char(text)? {
+        ('{', rest) => {
+            let (digit, rest) = first_digit(rest)?;
+            digits(rest, digit, 5)
         }
-        let (digit, later) = first_digit(rest)?;
-        value = value.saturating_mul(16).saturating_add(digit);
-        rest = later;
+        _ => None,
     }
-    None
+}
+
+// The same behind digits that give a value, where so many more may stand.
+#[tactic(auto, using(crate::proofs::Room::digit_room, crate::proofs::Room::value_room), unfolding(crate::specs::FirstPieces::digits_at))]
+fn digits(text: &str, value: u32, left: u32) -> Option<(char, &str)>
+    requires { (value + 1) * 16 ^ left ≤ 16 ^ 6 }
+    ensures shorter { IfSome result (λ x. IsShorter x.1.now text.now) }
+    ensures reads { read_of result ≡ digits_at (chars text.now) value left }
+{
+    match first_char(text)? {
+        ('}', rest) => Some((char::from_u32(value)?, rest)),
+        (digit, rest) if left > 0 => digits(rest, value * 16 + digit.to_digit(16)?, left - 1),
+        _ => None,
+    }
 }
 
 // The hexadecimal digit that a text begins with.
+#[tactic(auto, unfolding(crate::specs::FirstPieces::digit_at))]
 fn first_digit(text: &str) -> Option<(u32, &str)>
-    ensures { IfSome result (λ x. IsShorter x.1.now text.now) }
+    ensures shorter { IfSome result (λ x. IsShorter x.1.now text.now) }
+    ensures below_16 { IfSome result (λ x. x.0 < 16) }
+    ensures reads { read_of result ≡ digit_at (chars text.now) }
 {
     let (digit, rest) = first_char(text)?;
     Some((digit.to_digit(16)?, rest))

@@ -4,6 +4,7 @@
 
 mod error;
 mod escapes;
+pub mod laws;
 mod refusal;
 mod scanner;
 mod token;

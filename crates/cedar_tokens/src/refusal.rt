@@ -1,5 +1,6 @@
 //! Why the reader stops.
 ghost use Rattle.std.specs.Prelude.{◌≡◌};
+ghost use Rattle.cedar_tokens.specs.Told.{IsToldOf};
 ghost use Rattle.cedar_tokens.specs.declared.refusal.Refusal.TheVariants.{Memory};
 
 use crate::error::{ReadError, SyntaxError};
@@ -17,7 +18,9 @@ pub enum Refusal {
 
 impl Refusal {
     /// What a caller is told of it.
-    pub fn in_text(self, text: &str) -> ReadError {
+    pub fn in_text(self, text: &str) -> ReadError
+        ensures { IsToldOf self text.now result }
+    {
         match self {
             Refusal::Syntax(span, problem) => {
                 ReadError::Syntax(SyntaxError::new(text, span, problem))

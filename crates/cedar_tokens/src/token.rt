@@ -1,5 +1,6 @@
 //! What a text in Cedar's syntax is made of.
 ghost use Rattle.std.specs.Prelude.{◌≡◌};
+ghost use Rattle.cedar_tokens.specs.Kinds.{word_kind_of};
 
 /// What a token is.
 #[derive(Clone, Copy, PartialEq, Eq)]
@@ -77,20 +78,6 @@ pub struct Token<'a> {
     pub span: Span,
 }
 
-// The words of the grammar, which are no identifiers.
-const WORDS: [(&str, Kind); 10] = [
-    ("true", Kind::True),
-    ("false", Kind::False),
-    ("if", Kind::If),
-    ("then", Kind::Then),
-    ("else", Kind::Else),
-    ("in", Kind::In),
-    ("is", Kind::Is),
-    ("like", Kind::Like),
-    ("has", Kind::Has),
-    ("__cedar", Kind::Reserved),
-];
-
 // The signs; one that begins another stands behind it.
 const SIGNS: [(&str, Kind); 22] = [
     ("||", Kind::OrSign),
@@ -118,13 +105,22 @@ const SIGNS: [(&str, Kind); 22] = [
 ];
 
 /// What a word of letters, digits and underscores is.
-pub(crate) fn word_kind(word: &str) -> Kind {
-    for (text, kind) in WORDS {
-        if word == text {
-            return kind;
-        }
+pub(crate) fn word_kind(word: &str) -> Kind
+    ensures { result ≡ word_kind_of word.now }
+{
+    match word {
+        "true" => Kind::True,
+        "false" => Kind::False,
+        "if" => Kind::If,
+        "then" => Kind::Then,
+        "else" => Kind::Else,
+        "in" => Kind::In,
+        "is" => Kind::Is,
+        "like" => Kind::Like,
+        "has" => Kind::Has,
+        "__cedar" => Kind::Reserved,
+        _ => Kind::Word,
     }
-    Kind::Word
 }
 
 /// The sign that a text begins with, and its length.

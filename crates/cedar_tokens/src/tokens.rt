@@ -1,6 +1,7 @@
 //! The tokens of a text, as they are taken one by one.
-ghost use Rattle.std.specs.Prelude.{◌≡◌, ◌<◌, ◌≤◌, IfSome, length};
-ghost use Rattle.cedar_tokens.specs.Pieces.{tokens_left};
+ghost use Rattle.std.specs.Prelude.{◌≡◌, ◌<◌, ◌≤◌, ◌≢◌, IfOk, IfSome, MatchOption, MatchResult, length};
+ghost use Rattle.cedar_tokens.specs.Told.{IsProblem};
+ghost use Rattle.cedar_tokens.specs.Pieces.{IsPairTaken, IsTaken, IsUntouched, next_of, rest_of, tokens_left};
 
 use crate::refusal::Refusal;
 use crate::token::{Kind, Span, Token};
@@ -16,7 +17,8 @@ pub struct Tokens<'a> {
 impl<'a> Tokens<'a> {
     /// All of them.
     pub fn new(tokens: &'a [Token<'a>]) -> Tokens<'a>
-        ensures { tokens_left result ≡ length tokens.now }
+        ensures left { tokens_left result ≡ length tokens.now }
+        ensures all { rest_of result ≡ tokens.now }
     {
         let at = tokens.last().map_or(0, |last| last.span.stop);
         Tokens {
@@ -33,7 +35,9 @@ impl<'a> Tokens<'a> {
     }
 
     /// The next one, or the end.
-    pub fn first(&self) -> Token<'a> {
+    pub fn first(&self) -> Token<'a>
+        ensures { result ≡ next_of self.now }
+    {
         match self.rest {
             [first, ..] => *first,
             [] => self.end,
@@ -44,6 +48,9 @@ impl<'a> Tokens<'a> {
     pub fn next(&mut self) -> Option<Token<'a>>
         ensures left { tokens_left self.new ≤ tokens_left self.old }
         ensures takes { IfSome result (λ _. tokens_left self.new < tokens_left self.old) }
+        ensures gives { MatchOption result
+            (IsUntouched self.old self.new × (tokens_left self.old ≡ 0))
+            (λ t. IsTaken self.old t self.new) }
     {
         match self.rest {
             [token, rest @ ..] => {
@@ -58,6 +65,10 @@ impl<'a> Tokens<'a> {
     pub fn take_if(&mut self, kind: Kind) -> Option<Token<'a>>
         ensures left { tokens_left self.new ≤ tokens_left self.old }
         ensures takes { IfSome result (λ _. tokens_left self.new < tokens_left self.old) }
+        ensures gives { MatchOption result
+            (IsUntouched self.old self.new)
+            (λ t. (t.kind ≡ kind) × IsTaken self.old t self.new) }
+        ensures refuses { (next_of self.old).kind ≢ kind → result ≡ None }
     {
         if self.first().kind == kind {
             self.next()
@@ -70,6 +81,9 @@ impl<'a> Tokens<'a> {
     pub fn take_pair(&mut self, first: Kind, second: Kind) -> Option<Token<'a>>
         ensures left { tokens_left self.new ≤ tokens_left self.old }
         ensures takes { IfSome result (λ _. tokens_left self.new < tokens_left self.old) }
+        ensures gives { MatchOption result
+            (IsUntouched self.old self.new)
+            (λ t. (t.kind ≡ second) × IsPairTaken self.old first t self.new) }
     {
         match self.rest {
             [a, b, rest @ ..] if a.kind == first && b.kind == second => {
@@ -82,7 +96,10 @@ impl<'a> Tokens<'a> {
 
     /// Takes the next one, which has to be of this kind.
     pub fn expect(&mut self, kind: Kind, problem: &'static str) -> Result<Token<'a>, Refusal>
-        ensures { tokens_left self.new ≤ tokens_left self.old }
+        ensures left { tokens_left self.new ≤ tokens_left self.old }
+        ensures gives { MatchResult result
+            (λ t. (t.kind ≡ kind) × IsTaken self.old t self.new)
+            (λ e. IsProblem (next_of self.old).span problem.now e × IsUntouched self.old self.new) }
     {
         match self.take_if(kind) {
             Some(token) => Ok(token),

@@ -1,11 +1,16 @@
-use Rattle.std.proofs.Common.{length}
+use Rattle.std.proofs.Common.{◌≤◌, length}
 use denote.Text.{Utf8}
 use denote.Shadow.{shadow}
+use Rattle.cedar_tokens.specs.TokenPlaces.{AreTokensBefore}
 use Rattle.cedar_tokens.proofs.scanner.scan.Given as goal
 
--- what is left is a text
+-- what is left is a text, and the tokens before it are found
 abbrev pub invariant-tokens : goal.invariant-tokens
-invariant-tokens l = shadow (Utf8 l.rest)
+invariant-tokens l = record {
+  rest_utf8 : shadow (Utf8 l.rest);
+  shorter : length l.rest ≤ length l.text;
+  so_far : AreTokensBefore l.text l.tokens.items l.rest;
+}
 
 abbrev pub decreases-tokens : goal.decreases-tokens
 decreases-tokens l = length l.rest
