@@ -1,2 +1,3 @@
+pub mod Ropes
 pub mod Phrases
 pub mod PolicyTexts

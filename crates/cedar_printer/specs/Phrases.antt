@@ -11,10 +11,16 @@ use Rattle.cedar_terms.specs.declared.ops.BinaryOp.TheVariants as Binary
 use Rattle.cedar_printer.specs.declared.phrase.Level.{Level}
 use Rattle.cedar_printer.specs.declared.phrase.Level.TheVariants as levels
 use Rattle.cedar_printer.specs.declared.phrase.Phrase.{Phrase}
+use Rattle.cedar_printer.specs.declared.phrase.RopePhrase.{RopePhrase}
+use Rattle.cedar_printer.specs.Ropes.{text_of}
 
 -- a text and its level
 abbrev pub phrase_of : Phrase → Text × Level
 phrase_of p = (string_bytes p.text, p.level)
+
+-- the same of a text in pieces
+abbrev pub rope_phrase : RopePhrase → Text × Level
+rope_phrase p = (text_of p.text, p.level)
 
 -- the levels from the loosest on
 abbrev pub level_number : Level → ℕ
@@ -38,6 +44,10 @@ member t = (t, levels.Member)
 -- two texts with a word or a sign between them
 abbrev pub infix_of : Level → Text → Text → Text → Text × Level
 infix_of own left sign right = (left ++ (32 ∷ (sign ++ (32 ∷ right))), own)
+
+-- a test and its two branches, each of any level
+abbrev pub conditional_text : Text → Text → Text → Text
+conditional_text t a b = codes "if " ++ (t ++ (codes " then " ++ (a ++ (codes " else " ++ b))))
 
 -- a sign and its operand
 abbrev pub prefix_of : Text → Text × Level → Text × Level

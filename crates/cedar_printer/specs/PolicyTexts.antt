@@ -12,13 +12,9 @@ use Rattle.cedar_terms.specs.Patterns.{pattern_text}
 use Rattle.cedar_terms.specs.declared.ops.UnaryOp.{UnaryOp}
 use Rattle.cedar_terms.specs.declared.ops.UnaryOp.TheVariants as Unary
 use Rattle.cedar_terms.specs.declared.pattern.PatternElem.{PatternElem}
-use Rattle.cedar_printer.specs.Phrases.{attribute_text, call_of, field_of, infix_levels, infix_of, literal_level, member, method_of, path_text, prefix_of, row_text, text_at}
+use Rattle.cedar_printer.specs.Phrases.{attribute_text, call_of, conditional_text, field_of, infix_levels, infix_of, literal_level, member, method_of, path_text, prefix_of, row_text, text_at}
 use Rattle.cedar_printer.specs.declared.phrase.Level.{Level}
 use Rattle.cedar_printer.specs.declared.phrase.Level.TheVariants as levels
-
--- a test and its two branches, each of any level
-abbrev pub conditional : Text → Text → Text → Text
-conditional t a b = codes "if " ++ (t ++ (codes " then " ++ (a ++ (codes " else " ++ b))))
 
 -- signs before the operand, and a method
 abbrev pub unary_text : UnaryOp → Text × Level → Text × Level
@@ -42,7 +38,7 @@ policy_text_ops = record {
   var_of = λ v. member (var_text v);
   slot_of = λ s. member (slot_text s);
   unknown_of = λ n t. member (codes "unknown(" ++ (quoted n ++ (41 ∷ [])));
-  if_of = λ t a b. (conditional t.0 a.0 b.0, levels.Conditional);
+  if_of = λ t a b. (conditional_text t.0 a.0 b.0, levels.Conditional);
   and_of = λ p q. infix_of levels.And (text_at levels.And p) (codes "&&") (text_at levels.Relation q);
   or_of = λ p q. infix_of levels.Or (text_at levels.Or p) (codes "||") (text_at levels.And q);
   unary_of = unary_text;

@@ -3,6 +3,8 @@
 
 mod phrase;
 mod printer;
+mod rope;
 
-pub use phrase::{Level, Phrase};
+pub use phrase::{Level, Phrase, RopePhrase};
 pub use printer::{PolicyText, policy_text};
+pub use rope::Rope;

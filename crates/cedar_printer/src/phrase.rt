@@ -7,6 +7,7 @@ ghost use Rattle.cedar_terms.specs.Literals.{bare_literal};
 ghost use Rattle.cedar_printer.specs.Phrases.{
   attribute_text,
   call_of,
+  conditional_text,
   field_of,
   function_of,
   infix_levels,
@@ -23,10 +24,13 @@ ghost use Rattle.cedar_printer.specs.Phrases.{
   path_text,
   phrase_of,
   prefix_of,
+  rope_phrase,
   row_text,
   text_at,
 };
+ghost use Rattle.cedar_printer.specs.Ropes.{text_of};
 
+use crate::rope::Rope;
 use cedar_names::{NonEmpty, is_normalized_ident};
 use cedar_terms::{BinaryOp, Escaped, Literal};
 use std::alloc::{AllocError, Global};
@@ -106,52 +110,102 @@ pub struct Phrase {
     pub level: Level,
 }
 
-impl Phrase {
+/// The text of an expression, in pieces.
+#[derive(Debug, Drop)]
+pub struct RopePhrase {
+    /// The text.
+    pub text: Rope,
+    /// How tightly it binds.
+    pub level: Level,
+}
+
+impl RopePhrase {
     /// A text that never needs brackets.
-    pub fn member(text: String) -> Phrase
-        ensures { phrase_of result ≡ (string_bytes text, Level.Member) }
+    pub fn member(text: Rope) -> RopePhrase
+        ensures { rope_phrase result ≡ (text_of text, Level.Member) }
     {
-        Phrase {
+        RopePhrase {
             text,
             level: Level::Member,
         }
     }
 
-    /// The text where one of at least this level may stand: in brackets if it binds less tightly.
-    pub fn at(self, alloc: Global, least: Level) -> Result<String, AllocError>
-        ensures { IfOk result (λ s. string_bytes s ≡ text_at least (phrase_of self)) }
+    /// A text of one piece that never needs brackets.
+    pub fn of_word(alloc: Global, text: String) -> RopePhrase
+        ensures { rope_phrase result ≡ (string_bytes text, Level.Member) }
     {
-        let Phrase { text, level } = self;
+        RopePhrase::member(Rope::new(alloc, text))
+    }
+
+    /// The text where one of at least this level may stand: in brackets if it binds less tightly.
+    pub fn at(self, alloc: Global, least: Level) -> Result<Rope, AllocError>
+        ensures { IfOk result (λ r. text_of r ≡ text_at least (rope_phrase self)) }
+    {
+        let RopePhrase { text, level } = self;
         if level.number() < least.number() {
-            format!(in alloc; "({text})")
+            text.between(alloc, "(", ")")
         } else {
             Ok(text)
         }
     }
+
+    /// The same, joined.
+    pub fn to_phrase(&self, alloc: Global) -> Result<Phrase, AllocError>
+        ensures { IfOk result (λ p. phrase_of p ≡ rope_phrase self.now) }
+    {
+        let text = self.text.to_text(alloc)?;
+        Ok(Phrase {
+            text,
+            level: self.level,
+        })
+    }
+}
+
+/// A test and its two branches.
+pub fn make_conditional(
+    alloc: Global,
+    test: Rope,
+    yes: Rope,
+    no: Rope,
+) -> Result<RopePhrase, AllocError>
+    ensures { IfOk result (λ p. rope_phrase p
+        ≡ (conditional_text (text_of test) (text_of yes) (text_of no), Level.Conditional)) }
+{
+    let mut text = test.between(alloc, "if ", " then ")?;
+    text.append(yes)?;
+    text.push_str(" else ")?;
+    text.append(no)?;
+    Ok(RopePhrase {
+        text,
+        level: Level::Conditional,
+    })
 }
 
 /// Two texts with a word or a sign between them.
 pub fn make_infix(
-    alloc: Global,
     level: Level,
-    left: String,
+    left: Rope,
     sign: &str,
-    right: String,
-) -> Result<Phrase, AllocError>
+    right: Rope,
+) -> Result<RopePhrase, AllocError>
     ensures { IfOk result (λ p.
-        phrase_of p ≡ infix_of level (string_bytes left) sign.now (string_bytes right)) }
+        rope_phrase p ≡ infix_of level (text_of left) sign.now (text_of right)) }
 {
-    let text = format!(in alloc; "{left} {sign} {right}")?;
-    Ok(Phrase { text, level })
+    let mut text = left;
+    text.push_str(" ")?;
+    text.push_str(sign)?;
+    text.push_str(" ")?;
+    text.append(right)?;
+    Ok(RopePhrase { text, level })
 }
 
 /// A sign and its operand. As the grammar does not mix signs, an operand with one gets brackets.
-pub fn make_prefix(alloc: Global, sign: &str, arg: Phrase) -> Result<Phrase, AllocError>
-    ensures { IfOk result (λ p. phrase_of p ≡ prefix_of sign.now (phrase_of arg)) }
+pub fn make_prefix(alloc: Global, sign: &str, arg: RopePhrase) -> Result<RopePhrase, AllocError>
+    ensures { IfOk result (λ p. rope_phrase p ≡ prefix_of sign.now (rope_phrase arg)) }
 {
-    let arg = arg.at(alloc, Level::Member)?;
-    let text = format!(in alloc; "{sign}{arg}")?;
-    Ok(Phrase {
+    let mut text = Rope::from_str(alloc, sign)?;
+    text.append(arg.at(alloc, Level::Member)?)?;
+    Ok(RopePhrase {
         text,
         level: Level::Unary,
     })
@@ -160,14 +214,18 @@ pub fn make_prefix(alloc: Global, sign: &str, arg: Phrase) -> Result<Phrase, All
 /// A call of a method.
 pub fn make_method(
     alloc: Global,
-    target: Phrase,
+    target: RopePhrase,
     name: &str,
-    args: &str,
-) -> Result<Phrase, AllocError>
-    ensures { IfOk result (λ p. phrase_of p ≡ method_of (phrase_of target) name.now args.now) }
+    args: Rope,
+) -> Result<RopePhrase, AllocError>
+    ensures { IfOk result (λ p.
+        rope_phrase p ≡ method_of (rope_phrase target) name.now (text_of args)) }
 {
-    let target = target.at(alloc, Level::Member)?;
-    Ok(Phrase::member(format!(in alloc; "{target}.{name}({args})")?))
+    let mut text = target.at(alloc, Level::Member)?;
+    text.push_str(".")?;
+    text.push_str(name)?;
+    text.append(args.between(alloc, "(", ")")?)?;
+    Ok(RopePhrase::member(text))
 }
 
 /// What stands behind a record to take an attribute of it: `.a`, or `["a b"]` of no identifier.
@@ -208,34 +266,38 @@ fn make_key(alloc: Global, attr: &str) -> Result<String, AllocError>
 
 /// The texts with commas between them.
 #[tactic(auto, using(crate::proofs::Rows::first_of_row, crate::proofs::Rows::empty_row))]
-pub fn make_row(alloc: Global, phrases: vec::IntoIter<Phrase>) -> Result<String, AllocError>
-    ensures { IfOk result (λ s.
-        string_bytes s ≡ row_text (map phrase_of (into_iter_items phrases))) }
+pub fn make_row(alloc: Global, phrases: vec::IntoIter<RopePhrase>) -> Result<Rope, AllocError>
+    ensures { IfOk result (λ r.
+        text_of r ≡ row_text (map rope_phrase (into_iter_items phrases))) }
 {
     let mut phrases = phrases;
     match phrases.next() {
         Some(first) => push_others(first.text, phrases),
-        None => Ok(String::new(alloc)),
+        None => Ok(Rope::new(alloc, String::new(alloc))),
     }
 }
 
 // A text, and then each of the phrases behind a comma.
-fn push_others(text: String, phrases: vec::IntoIter<Phrase>) -> Result<String, AllocError>
-    ensures { IfOk result (λ s. string_bytes s
-        ≡ string_bytes text ++ others_text (map phrase_of (into_iter_items phrases))) }
+fn push_others(text: Rope, phrases: vec::IntoIter<RopePhrase>) -> Result<Rope, AllocError>
+    ensures { IfOk result (λ r. text_of r
+        ≡ text_of text ++ others_text (map rope_phrase (into_iter_items phrases))) }
 {
     let mut row = text;
     for phrase in phrases {
         row.push_str(", ")?;
-        row.push_str(&phrase.text)?;
+        row.append(phrase.text)?;
     }
     Ok(row)
 }
 
 /// A call of an extension function: the first argument of a method stands before its name.
-pub fn make_call(alloc: Global, name: String, args: Vec<Phrase>) -> Result<Phrase, AllocError>
+pub fn make_call(
+    alloc: Global,
+    name: String,
+    args: Vec<RopePhrase>,
+) -> Result<RopePhrase, AllocError>
     ensures { IfOk result (λ p.
-        phrase_of p ≡ call_of (string_bytes name) (map phrase_of args.items)) }
+        rope_phrase p ≡ call_of (string_bytes name) (map rope_phrase args.items)) }
 {
     if is_method(&name) {
         make_method_call(alloc, &name, args)
@@ -246,17 +308,21 @@ pub fn make_call(alloc: Global, name: String, args: Vec<Phrase>) -> Result<Phras
 
 // The call of a method.
 #[tactic(auto, using(crate::proofs::Methods::first_argument, crate::proofs::Methods::no_argument))]
-fn make_method_call(alloc: Global, name: &str, args: Vec<Phrase>) -> Result<Phrase, AllocError>
+fn make_method_call(
+    alloc: Global,
+    name: &str,
+    args: Vec<RopePhrase>,
+) -> Result<RopePhrase, AllocError>
     ensures { IfOk result (λ p.
-        phrase_of p ≡ method_call_of name.now (map phrase_of args.items)) }
+        rope_phrase p ≡ method_call_of name.now (map rope_phrase args.items)) }
 {
     let mut args = args.into_iter();
     match args.next() {
         Some(target) => {
             let others = make_row(alloc, args)?;
-            make_method(alloc, target, name, &others)
+            make_method(alloc, target, name, others)
         }
-        None => Ok(Phrase::member(format!(in alloc; "{name}()")?)),
+        None => Ok(RopePhrase::of_word(alloc, format!(in alloc; "{name}()")?)),
     }
 }
 
@@ -264,13 +330,14 @@ fn make_method_call(alloc: Global, name: &str, args: Vec<Phrase>) -> Result<Phra
 fn make_function_call(
     alloc: Global,
     name: &str,
-    args: vec::IntoIter<Phrase>,
-) -> Result<Phrase, AllocError>
+    args: vec::IntoIter<RopePhrase>,
+) -> Result<RopePhrase, AllocError>
     ensures { IfOk result (λ p.
-        phrase_of p ≡ function_of name.now (map phrase_of (into_iter_items args))) }
+        rope_phrase p ≡ function_of name.now (map rope_phrase (into_iter_items args))) }
 {
-    let args = make_row(alloc, args)?;
-    Ok(Phrase::member(format!(in alloc; "{name}({args})")?))
+    let mut text = Rope::from_str(alloc, name)?;
+    text.append(make_row(alloc, args)?.between(alloc, "(", ")")?)?;
+    Ok(RopePhrase::member(text))
 }
 
 // Whether it is the name of a method of Cedar's extensions, and not of a function.
@@ -311,9 +378,12 @@ fn is_method_of_numbers(name: &str) -> bool
 }
 
 /// Each key with its value.
-pub fn make_fields(alloc: Global, pairs: Vec<(RcStr, Phrase)>) -> Result<Vec<Phrase>, AllocError>
+pub fn make_fields(
+    alloc: Global,
+    pairs: Vec<(RcStr, RopePhrase)>,
+) -> Result<Vec<RopePhrase>, AllocError>
     ensures { IfOk result (λ fields.
-        map phrase_of fields.items ≡ map field_of (meant_pairs phrase_of pairs.items)) }
+        map rope_phrase fields.items ≡ map field_of (meant_pairs rope_phrase pairs.items)) }
 {
     let mut fields = Vec::with_capacity(alloc, pairs.len())?;
     for (key, value) in pairs {
@@ -323,9 +393,10 @@ pub fn make_fields(alloc: Global, pairs: Vec<(RcStr, Phrase)>) -> Result<Vec<Phr
 }
 
 // A key with its value.
-fn make_field(alloc: Global, key: &str, value: Phrase) -> Result<Phrase, AllocError>
-    ensures { IfOk result (λ p. phrase_of p ≡ field_of (key.now, phrase_of value)) }
+fn make_field(alloc: Global, key: &str, value: RopePhrase) -> Result<RopePhrase, AllocError>
+    ensures { IfOk result (λ p. rope_phrase p ≡ field_of (key.now, rope_phrase value)) }
 {
-    let text = format!(in alloc; "\"{}\": {}", Escaped(key), value.text)?;
-    Ok(Phrase::member(text))
+    let mut text = Rope::new(alloc, format!(in alloc; "\"{}\": ", Escaped(key))?);
+    text.append(value.text)?;
+    Ok(RopePhrase::member(text))
 }

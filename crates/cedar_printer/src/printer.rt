@@ -8,14 +8,15 @@ ghost use Rattle.cedar_exprs.specs.BareExpr.{bare_expr};
 ghost use Rattle.cedar_builders.specs.Errors.{OnDuplicateKey};
 ghost use Rattle.cedar_builders.specs.Keys.{keys_of, meant_pairs, IsRising, HasRepeat};
 ghost use Rattle.cedar_names.specs.PlainNames.{bare_name};
-ghost use Rattle.cedar_printer.specs.Phrases.{phrase_of};
+ghost use Rattle.cedar_printer.specs.Phrases.{phrase_of, rope_phrase};
 ghost use Rattle.cedar_printer.specs.PolicyTexts.{policy_text_ops};
 ghost use Rattle.cedar_printer.specs.declared.phrase.Level.{Level};
 
 use crate::phrase::{
-    Level, Phrase, make_attribute, make_call, make_fields, make_infix, make_method, make_path,
-    make_prefix, make_row,
+    Level, Phrase, RopePhrase, make_attribute, make_call, make_conditional, make_fields,
+    make_infix, make_method, make_path, make_prefix, make_row,
 };
+use crate::rope::Rope;
 use cedar_builders::{
     BuildFault, ExprBuilder, ExprBuilderInfallibleBuild, ExpressionConstructionError,
 };
@@ -35,20 +36,19 @@ pub fn policy_text(alloc: Global, expr: &Expr) -> Result<Phrase, AllocError>
     ensures { IfOk result (λ p.
         fold policy_text_ops empty (bare_expr expr.now) ≡ Ok (phrase_of p)) }
 {
-    expr.into_expr::<PolicyText>(alloc)
+    let phrase = expr.into_expr::<PolicyText>(alloc)?;
+    phrase.to_phrase(alloc)
 }
 
 /// The builder: of the conjunction of `a` and `1 < 2` it makes `a && 1 < 2`, with brackets where
 /// an operand binds less tightly than its place wants. A sign's operand with a sign of its own counts
-/// as such, so that it makes `!(!a)`.
-///
-/// It copies the texts of the children into that of their node. `Sketch` of the crate `cedar_sketch`
-/// shows how a builder joins the pieces once.
+/// as such, so that it makes `!(!a)`. The texts of the children are not copied: their pieces are those
+/// of their node.
 #[derive(Debug, Drop)]
 pub struct PolicyText;
 
 impl ExprBuilder for PolicyText {
-    type Expr = Phrase;
+    type Expr = RopePhrase;
 
     type Data = ();
 
@@ -61,7 +61,7 @@ impl ExprBuilder for PolicyText {
 
     ghost ops = { policy_text_ops };
 
-    ghost meaning_of = { phrase_of };
+    ghost meaning_of = { rope_phrase };
 
     ghost fault_of = { never };
 
@@ -85,56 +85,73 @@ impl ExprBuilder for PolicyText {
         self
     }
 
-    fn val(self, alloc: Global, literal: Literal) -> Result<Phrase, AllocError> {
+    fn val(self, alloc: Global, literal: Literal) -> Result<RopePhrase, AllocError> {
         let level = Level::of_literal(&literal);
-        let text = format!(in alloc; "{literal}")?;
-        Ok(Phrase { text, level })
+        let text = Rope::new(alloc, format!(in alloc; "{literal}")?);
+        Ok(RopePhrase { text, level })
     }
 
-    fn var(self, alloc: Global, var: Var) -> Result<Phrase, AllocError> {
-        Ok(Phrase::member(format!(in alloc; "{var}")?))
+    fn var(self, alloc: Global, var: Var) -> Result<RopePhrase, AllocError> {
+        Ok(RopePhrase::of_word(alloc, format!(in alloc; "{var}")?))
     }
 
-    fn slot(self, alloc: Global, slot: SlotId) -> Result<Phrase, AllocError> {
-        Ok(Phrase::member(format!(in alloc; "{slot}")?))
+    fn slot(self, alloc: Global, slot: SlotId) -> Result<RopePhrase, AllocError> {
+        Ok(RopePhrase::of_word(alloc, format!(in alloc; "{slot}")?))
     }
 
-    fn unknown(self, alloc: Global, unknown: Unknown) -> Result<Phrase, AllocError> {
+    fn unknown(self, alloc: Global, unknown: Unknown) -> Result<RopePhrase, AllocError> {
         let name = Escaped(&unknown.name);
-        Ok(Phrase::member(format!(in alloc; "unknown(\"{name}\")")?))
+        let text = format!(in alloc; "unknown(\"{name}\")")?;
+        Ok(RopePhrase::of_word(alloc, text))
     }
 
     fn ite(
         self,
         alloc: Global,
-        test_expr: Phrase,
-        then_expr: Phrase,
-        else_expr: Phrase,
-    ) -> Result<Phrase, AllocError> {
-        let (test, yes, no) = (test_expr.text, then_expr.text, else_expr.text);
-        Ok(Phrase {
-            text: format!(in alloc; "if {test} then {yes} else {no}")?,
-            level: Level::Conditional,
-        })
+        test_expr: RopePhrase,
+        then_expr: RopePhrase,
+        else_expr: RopePhrase,
+    ) -> Result<RopePhrase, AllocError> {
+        make_conditional(alloc, test_expr.text, then_expr.text, else_expr.text)
     }
 
-    fn and(self, alloc: Global, left: Phrase, right: Phrase) -> Result<Phrase, AllocError> {
+    fn and(
+        self,
+        alloc: Global,
+        left: RopePhrase,
+        right: RopePhrase,
+    ) -> Result<RopePhrase, AllocError> {
         let left = left.at(alloc, Level::And)?;
         let right = right.at(alloc, Level::Relation)?;
-        make_infix(alloc, Level::And, left, "&&", right)
+        make_infix(Level::And, left, "&&", right)
     }
 
-    fn or(self, alloc: Global, left: Phrase, right: Phrase) -> Result<Phrase, AllocError> {
+    fn or(
+        self,
+        alloc: Global,
+        left: RopePhrase,
+        right: RopePhrase,
+    ) -> Result<RopePhrase, AllocError> {
         let left = left.at(alloc, Level::Or)?;
         let right = right.at(alloc, Level::And)?;
-        make_infix(alloc, Level::Or, left, "||", right)
+        make_infix(Level::Or, left, "||", right)
     }
 
-    fn unary_app(self, alloc: Global, op: UnaryOp, arg: Phrase) -> Result<Phrase, AllocError> {
+    fn unary_app(
+        self,
+        alloc: Global,
+        op: UnaryOp,
+        arg: RopePhrase,
+    ) -> Result<RopePhrase, AllocError> {
         match op {
             UnaryOp::Not => make_prefix(alloc, "!", arg),
             UnaryOp::Neg => make_prefix(alloc, "-", arg),
-            UnaryOp::IsEmpty => make_method(alloc, arg, "isEmpty", ""),
+            UnaryOp::IsEmpty => make_method(
+                alloc,
+                arg,
+                "isEmpty",
+                Rope::new(alloc, String::new(alloc)),
+            ),
         }
     }
 
@@ -142,16 +159,16 @@ impl ExprBuilder for PolicyText {
         self,
         alloc: Global,
         op: BinaryOp,
-        arg1: Phrase,
-        arg2: Phrase,
-    ) -> Result<Phrase, AllocError> {
+        arg1: RopePhrase,
+        arg2: RopePhrase,
+    ) -> Result<RopePhrase, AllocError> {
         let sign = format!(in alloc; "{op}")?;
         match Level::of_infix(op) {
             Some((level, left, right)) => {
                 let left = arg1.at(alloc, left)?;
-                make_infix(alloc, level, left, &sign, arg2.at(alloc, right)?)
+                make_infix(level, left, &sign, arg2.at(alloc, right)?)
             }
-            None => make_method(alloc, arg1, &sign, &arg2.text),
+            None => make_method(alloc, arg1, &sign, arg2.text),
         }
     }
 
@@ -159,74 +176,79 @@ impl ExprBuilder for PolicyText {
         self,
         alloc: Global,
         fn_name: Name,
-        args: Vec<Phrase>,
-    ) -> Result<Phrase, BuildFault<Infallible>>
-        ensures { Gives phrase_of never
-            (policy_text_ops.call_of (bare_name fn_name) (map phrase_of args.items)) result }
+        args: Vec<RopePhrase>,
+    ) -> Result<RopePhrase, BuildFault<Infallible>>
+        ensures { Gives rope_phrase never
+            (policy_text_ops.call_of (bare_name fn_name) (map rope_phrase args.items)) result }
     {
         let name = format!(in alloc; "{fn_name}")?;
         Ok(make_call(alloc, name, args)?)
     }
 
-    fn get_attr(self, alloc: Global, expr: Phrase, attr: RcStr) -> Result<Phrase, AllocError> {
-        let record = expr.at(alloc, Level::Member)?;
-        let attr = make_attribute(alloc, &attr)?;
-        Ok(Phrase::member(format!(in alloc; "{record}{attr}")?))
+    fn get_attr(
+        self,
+        alloc: Global,
+        expr: RopePhrase,
+        attr: RcStr,
+    ) -> Result<RopePhrase, AllocError> {
+        let mut text = expr.at(alloc, Level::Member)?;
+        text.push_str(&make_attribute(alloc, &attr)?)?;
+        Ok(RopePhrase::member(text))
     }
 
     fn extended_has_attr(
         self,
         alloc: Global,
-        expr: Phrase,
+        expr: RopePhrase,
         attrs: NonEmpty<RcStr>,
-    ) -> Result<Phrase, AllocError> {
+    ) -> Result<RopePhrase, AllocError> {
         let left = expr.at(alloc, Level::Sum)?;
-        make_infix(
-            alloc,
-            Level::Relation,
-            left,
-            "has",
-            make_path(alloc, &attrs)?,
-        )
+        let path = Rope::new(alloc, make_path(alloc, &attrs)?);
+        make_infix(Level::Relation, left, "has", path)
     }
 
-    fn like(self, alloc: Global, expr: Phrase, pattern: Pattern) -> Result<Phrase, AllocError> {
+    fn like(
+        self,
+        alloc: Global,
+        expr: RopePhrase,
+        pattern: Pattern,
+    ) -> Result<RopePhrase, AllocError> {
         let left = expr.at(alloc, Level::Sum)?;
-        let pattern = format!(in alloc; "\"{pattern}\"")?;
-        make_infix(alloc, Level::Relation, left, "like", pattern)
+        let pattern = Rope::new(alloc, format!(in alloc; "\"{pattern}\"")?);
+        make_infix(Level::Relation, left, "like", pattern)
     }
 
     fn is_entity_type(
         self,
         alloc: Global,
-        expr: Phrase,
+        expr: RopePhrase,
         entity_type: EntityType,
-    ) -> Result<Phrase, AllocError> {
+    ) -> Result<RopePhrase, AllocError> {
         let left = expr.at(alloc, Level::Sum)?;
-        let entity_type = format!(in alloc; "{entity_type}")?;
-        make_infix(alloc, Level::Relation, left, "is", entity_type)
+        let entity_type = Rope::new(alloc, format!(in alloc; "{entity_type}")?);
+        make_infix(Level::Relation, left, "is", entity_type)
     }
 
-    fn set(self, alloc: Global, members: Vec<Phrase>) -> Result<Phrase, AllocError>
+    fn set(self, alloc: Global, members: Vec<RopePhrase>) -> Result<RopePhrase, AllocError>
         ensures { IfOk result (λ p.
-            phrase_of p ≡ policy_text_ops.set_of (map phrase_of members.items)) }
+            rope_phrase p ≡ policy_text_ops.set_of (map rope_phrase members.items)) }
     {
         let members = make_row(alloc, members.into_iter())?;
-        Ok(Phrase::member(format!(in alloc; "[{members}]")?))
+        Ok(RopePhrase::member(members.between(alloc, "[", "]")?))
     }
 
     fn record(
         self,
         alloc: Global,
-        pairs: Vec<(RcStr, Phrase)>,
-    ) -> Result<Phrase, ExpressionConstructionError>
+        pairs: Vec<(RcStr, RopePhrase)>,
+    ) -> Result<RopePhrase, ExpressionConstructionError>
         ensures means { IsRising (keys_of pairs.items) → IfOk result (λ p.
-            phrase_of p ≡ policy_text_ops.record_of (meant_pairs phrase_of pairs.items)) }
+            rope_phrase p ≡ policy_text_ops.record_of (meant_pairs rope_phrase pairs.items)) }
         ensures accepts { IsRising (keys_of pairs.items) → IfErr result (λ e. e ≡ error.Memory) }
         ensures refuses { IfErr result (OnDuplicateKey (λ _. HasRepeat (keys_of pairs.items))) }
     {
         let fields = make_row(alloc, make_fields(alloc, pairs)?.into_iter())?;
-        Ok(Phrase::member(format!(in alloc; "{{{fields}}}")?))
+        Ok(RopePhrase::member(fields.between(alloc, "{", "}")?))
     }
 }
 
