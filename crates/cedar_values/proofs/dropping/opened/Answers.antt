@@ -1,4 +1,4 @@
-use Rattle.std.proofs.Common.{arith, ap, subst}
+use Rattle.std.proofs.Common.{arith, subst}
 use Rattle.cedar_values.specs.Drops.{IsItem}
 use Rattle.cedar_values.proofs.dropping.opened.Goals as goal
 
