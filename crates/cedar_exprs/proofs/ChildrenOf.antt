@@ -1,5 +1,5 @@
 -- The bare trees and the children of expressions with lists of children.
-use Rattle.std.proofs.Common.{◌≡◌, ℕ, Bool, List, [], ◌∷◌, map, length, Global, refl, sym, ap, ◌∙◌, subst, BTreeMap, Vec}
+use Rattle.std.proofs.Common.{◌≡◌, ℕ, Bool, List, [], ◌∷◌, map, length, Result, Ok, Err, Global, refl, sym, ap, ◌∙◌, subst, append-nil, BTreeMap, Vec}
 use Rattle.std.proofs.lemmas.List.{length-map}
 use Rattle.std.proofs.lemmas.List.Folds.{list_all-map}
 use Rattle.std.specs.List.{list_all}
@@ -14,8 +14,11 @@ use Rattle.cedar_terms.specs.declared.unknown.Unknown.{Unknown as UnknownOf}
 use Rattle.cedar_builders.specs.BareExpr.{BareExpr, ExtensionFunctionApp, Set, Record, Is, trees_of}
 use Rattle.cedar_builders.specs.Walks.{members_of, values_of, children}
 use Rattle.cedar_exprs.specs.BareExpr.{bare_expr, bare_exprs, bare_fields, kind_of, unknown_tree}
+use Rattle.cedar_exprs.specs.Machine.{IsAnswer, IsMade}
 use Rattle.cedar_exprs.specs.declared.expr.Expr.{Expr}
 use Rattle.cedar_exprs.specs.declared.expr.KindOf.TheVariants.{ExtensionFunctionApp as CallOf, Set as SetOf, Record as RecordOf, Unknown as OneUnknown, Is as IsOf}
+use Rattle.cedar_exprs.specs.declared.machine.WalkFault.{WalkFault}
+use Rattle.cedar_exprs.specs.declared.machine.WalkFault.TheVariants.{Refused, Memory}
 use Rattle.cedar_exprs.proofs.Records.{bare_at}
 
 -- the bare tree of an expression that is known to be a call, a set or a record
@@ -58,3 +61,16 @@ values-length es = ap length (values_of-fields es) ∙ length-map es (λ e. bare
 -- what holds of a tree with so many children holds of an expression that has the tree
 pub at_tree : {T : Type 0} (P : BareExpr → ℕ → Type 0) (e : Expr T) (b : BareExpr) (n : ℕ) → bare_expr e ≡ b → n ≡ length (children b) → P b n → P (bare_expr e) (length (children (bare_expr e)))
 at_tree P e b n is long h = subst (λ t. P t (length (children t))) (sym is) (subst (P b) long h)
+
+-- an answer is made of no results
+made_of_none : {X R M F : Type 0} (g : X → M) (h : R → F) (IsMadeOf : List M → Result M F → Type 0) (wanted : Result M F) (all : List X) (answer : Result X (WalkFault R))
+    → IsMadeOf [] wanted → IsAnswer g h wanted answer → IsMade g h IsMadeOf 0 all all answer
+made_of_none g h IsMadeOf wanted all (Ok x) made is = ([], sym (append-nil all), refl, subst (IsMadeOf []) is made)
+made_of_none g h IsMadeOf wanted all (Err (Refused r)) made is = ([], sym (append-nil all), refl, subst (IsMadeOf []) is made)
+made_of_none g h IsMadeOf wanted all (Err Memory) made is = tt
+
+-- the answer of a leaf is
+pub leaf_made : {T X R M F : Type 0} (g : X → M) (h : R → F) (IsMadeOf : BareExpr → List M → Result M F → Type 0) (e : Expr T) (b : BareExpr) (wanted : Result M F) (all : List X) (answer : Result X (WalkFault R))
+    → bare_expr e ≡ b → 0 ≡ length (children b) → IsMadeOf b [] wanted → IsAnswer g h wanted answer → IsMade g h (IsMadeOf (bare_expr e)) (length (children (bare_expr e))) all all answer
+leaf_made g h IsMadeOf e b wanted all answer is leaf made answered =
+    at_tree (λ t n. IsMade g h (IsMadeOf t) n all all answer) e b 0 is leaf (made_of_none g h (IsMadeOf b) wanted all answer made answered)

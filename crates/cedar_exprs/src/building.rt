@@ -12,7 +12,7 @@ ghost use Rattle.cedar_builders.specs.Answers.{Gives};
 ghost use Rattle.cedar_builders.specs.Environment.{empty, fold, own};
 ghost use Rattle.cedar_builders.specs.NodeByNode.{OfOne, OfTwo, OfThree, IsBuiltOf, keyed, fold_by_nodes};
 ghost use Rattle.cedar_exprs.specs.BareExpr.{bare_expr, bare_fields, further};
-ghost use Rattle.cedar_exprs.specs.Machine.{IsMade, IsMadeOfLast};
+ghost use Rattle.cedar_exprs.specs.Machine.{IsAnswer, IsMade};
 
 use crate::expr::{Expr, ExprKind};
 use crate::machine::{Walk, WalkFault, run};
@@ -20,8 +20,8 @@ use crate::results::{keyed, take_many, take_three, take_two};
 use cedar_builders::{
     BuildFault, ExprBuilder, ExprBuilderInfallibleBuild, ExpressionConstructionError,
 };
-use cedar_names::{Loc, Name, NonEmpty};
-use cedar_terms::{BinaryOp, EntityType, Literal, Pattern, UnaryOp, Unknown};
+use cedar_names::{Loc, Name, NonEmpty, SlotId};
+use cedar_terms::{BinaryOp, EntityType, Literal, Pattern, UnaryOp, Unknown, Var};
 use std::alloc::{AllocError, Global};
 use std::collections::BTreeMap;
 use std::marker::PhantomData;
@@ -117,24 +117,24 @@ impl<T, B: ExprBuilder> Walk<T> for Building<B> {
     ) -> Result<B::Expr, WalkFault<B::BuildError>> {
         let builder = builder_at::<B>(alloc, node.source_loc())?;
         match node.expr_kind() {
-            ExprKind::Lit(literal) => Ok(build_literal(alloc, builder, literal)?),
-            ExprKind::Var(var) => Ok(builder.var(alloc, *var)?),
-            ExprKind::Slot(slot) => Ok(builder.slot(alloc, *slot)?),
-            ExprKind::Unknown(unknown) => Ok(build_unknown(alloc, builder, unknown)?),
-            ExprKind::If { .. } => Ok(build_if(alloc, builder, done)?),
-            ExprKind::And { .. } => Ok(build_and(alloc, builder, done)?),
-            ExprKind::Or { .. } => Ok(build_or(alloc, builder, done)?),
-            ExprKind::UnaryApp { op, .. } => Ok(build_unary(alloc, builder, *op, done)?),
-            ExprKind::BinaryApp { op, .. } => Ok(build_binary(alloc, builder, *op, done)?),
+            ExprKind::Lit(literal) => build_literal(alloc, builder, literal),
+            ExprKind::Var(var) => build_var(alloc, builder, *var),
+            ExprKind::Slot(slot) => build_slot(alloc, builder, *slot),
+            ExprKind::Unknown(unknown) => build_unknown(alloc, builder, unknown),
+            ExprKind::If { .. } => build_if(alloc, builder, done),
+            ExprKind::And { .. } => build_and(alloc, builder, done),
+            ExprKind::Or { .. } => build_or(alloc, builder, done),
+            ExprKind::UnaryApp { op, .. } => build_unary(alloc, builder, *op, done),
+            ExprKind::BinaryApp { op, .. } => build_binary(alloc, builder, *op, done),
             ExprKind::ExtensionFunctionApp { fn_name, args } => {
                 build_call(alloc, builder, fn_name, args.len(), done)
             }
-            ExprKind::GetAttr { attr, .. } => Ok(build_get(alloc, builder, attr, done)?),
-            ExprKind::HasAttr { attrs, .. } => Ok(build_has(alloc, builder, attrs, done)?),
-            ExprKind::Like { pattern, .. } => Ok(build_like(alloc, builder, pattern, done)?),
-            ExprKind::Set(members) => Ok(build_set(alloc, builder, members.len(), done)?),
-            ExprKind::Record(pairs) => Ok(build_record(alloc, builder, pairs, done)?),
-            ExprKind::Is { entity_type, .. } => Ok(build_is(alloc, builder, entity_type, done)?),
+            ExprKind::GetAttr { attr, .. } => build_get(alloc, builder, attr, done),
+            ExprKind::HasAttr { attrs, .. } => build_has(alloc, builder, attrs, done),
+            ExprKind::Like { pattern, .. } => build_like(alloc, builder, pattern, done),
+            ExprKind::Set(members) => build_set(alloc, builder, members.len(), done),
+            ExprKind::Record(pairs) => build_record(alloc, builder, pairs, done),
+            ExprKind::Is { entity_type, .. } => build_is(alloc, builder, entity_type, done),
         }
     }
 
@@ -153,11 +153,36 @@ fn build_literal<B: ExprBuilder>(
     alloc: Global,
     builder: B,
     literal: &Literal,
-) -> Result<B::Expr, AllocError>
+) -> Result<B::Expr, WalkFault<B::BuildError>>
     requires { B.is_new builder }
-    ensures { IfOk result (λ e. B.meaning_of e ≡ B.ops.lit_of (bare_literal literal.now)) }
+    ensures { IsAnswer B.meaning_of B.fault_of (Ok (B.ops.lit_of (bare_literal literal.now)))
+        result }
 {
-    builder.val(alloc, literal.clone(alloc)?)
+    Ok(builder.val(alloc, literal.clone(alloc)?)?)
+}
+
+#[inline(never)]
+fn build_var<B: ExprBuilder>(
+    alloc: Global,
+    builder: B,
+    var: Var,
+) -> Result<B::Expr, WalkFault<B::BuildError>>
+    requires { B.is_new builder }
+    ensures { IsAnswer B.meaning_of B.fault_of (Ok (B.ops.var_of var)) result }
+{
+    Ok(builder.var(alloc, var)?)
+}
+
+#[inline(never)]
+fn build_slot<B: ExprBuilder>(
+    alloc: Global,
+    builder: B,
+    slot: SlotId,
+) -> Result<B::Expr, WalkFault<B::BuildError>>
+    requires { B.is_new builder }
+    ensures { IsAnswer B.meaning_of B.fault_of (Ok (B.ops.slot_of slot)) result }
+{
+    Ok(builder.slot(alloc, slot)?)
 }
 
 #[inline(never)]
@@ -165,14 +190,13 @@ fn build_unknown<B: ExprBuilder>(
     alloc: Global,
     builder: B,
     unknown: &Unknown,
-) -> Result<B::Expr, AllocError>
+) -> Result<B::Expr, WalkFault<B::BuildError>>
     requires { B.is_new builder }
-    ensures { IfOk result (λ e.
-        B.meaning_of e
-        ≡ B.ops.unknown_of (bare_unknown unknown.now).name
-        (bare_unknown unknown.now).annotation) }
+    ensures { IsAnswer B.meaning_of B.fault_of
+        (Ok (B.ops.unknown_of (bare_unknown unknown.now).name
+        (bare_unknown unknown.now).annotation)) result }
 {
-    builder.unknown(alloc, unknown.clone(alloc)?)
+    Ok(builder.unknown(alloc, unknown.clone(alloc)?)?)
 }
 
 #[inline(never)]
@@ -180,14 +204,14 @@ fn build_if<B: ExprBuilder>(
     alloc: Global,
     builder: B,
     done: &mut Vec<B::Expr>,
-) -> Result<B::Expr, AllocError>
+) -> Result<B::Expr, WalkFault<B::BuildError>>
     requires new { B.is_new builder }
     requires room { 3 ≤ vec_len done.old }
-    ensures { IfOk result
-        (IsMadeOfLast {F = B.Fault} B.meaning_of 3 (OfThree B.ops.if_of) done.old.items done.new.items) }
+    ensures { IsMade B.meaning_of B.fault_of (OfThree B.ops.if_of) 3
+        done.old.items done.new.items result }
 {
     let (test_expr, then_expr, else_expr) = take_three(done);
-    builder.ite(alloc, test_expr, then_expr, else_expr)
+    Ok(builder.ite(alloc, test_expr, then_expr, else_expr)?)
 }
 
 #[inline(never)]
@@ -195,14 +219,14 @@ fn build_and<B: ExprBuilder>(
     alloc: Global,
     builder: B,
     done: &mut Vec<B::Expr>,
-) -> Result<B::Expr, AllocError>
+) -> Result<B::Expr, WalkFault<B::BuildError>>
     requires new { B.is_new builder }
     requires room { 2 ≤ vec_len done.old }
-    ensures { IfOk result
-        (IsMadeOfLast {F = B.Fault} B.meaning_of 2 (OfTwo B.ops.and_of) done.old.items done.new.items) }
+    ensures { IsMade B.meaning_of B.fault_of (OfTwo B.ops.and_of) 2
+        done.old.items done.new.items result }
 {
     let (left, right) = take_two(done);
-    builder.and(alloc, left, right)
+    Ok(builder.and(alloc, left, right)?)
 }
 
 #[inline(never)]
@@ -210,14 +234,14 @@ fn build_or<B: ExprBuilder>(
     alloc: Global,
     builder: B,
     done: &mut Vec<B::Expr>,
-) -> Result<B::Expr, AllocError>
+) -> Result<B::Expr, WalkFault<B::BuildError>>
     requires new { B.is_new builder }
     requires room { 2 ≤ vec_len done.old }
-    ensures { IfOk result
-        (IsMadeOfLast {F = B.Fault} B.meaning_of 2 (OfTwo B.ops.or_of) done.old.items done.new.items) }
+    ensures { IsMade B.meaning_of B.fault_of (OfTwo B.ops.or_of) 2
+        done.old.items done.new.items result }
 {
     let (left, right) = take_two(done);
-    builder.or(alloc, left, right)
+    Ok(builder.or(alloc, left, right)?)
 }
 
 #[inline(never)]
@@ -226,13 +250,13 @@ fn build_unary<B: ExprBuilder>(
     builder: B,
     op: UnaryOp,
     done: &mut Vec<B::Expr>,
-) -> Result<B::Expr, AllocError>
+) -> Result<B::Expr, WalkFault<B::BuildError>>
     requires new { B.is_new builder }
     requires room { 1 ≤ vec_len done.old }
-    ensures { IfOk result
-        (IsMadeOfLast {F = B.Fault} B.meaning_of 1 (OfOne (B.ops.unary_of op)) done.old.items done.new.items) }
+    ensures { IsMade B.meaning_of B.fault_of (OfOne (B.ops.unary_of op)) 1
+        done.old.items done.new.items result }
 {
-    builder.unary_app(alloc, op, done.take_last())
+    Ok(builder.unary_app(alloc, op, done.take_last())?)
 }
 
 #[inline(never)]
@@ -241,14 +265,14 @@ fn build_binary<B: ExprBuilder>(
     builder: B,
     op: BinaryOp,
     done: &mut Vec<B::Expr>,
-) -> Result<B::Expr, AllocError>
+) -> Result<B::Expr, WalkFault<B::BuildError>>
     requires new { B.is_new builder }
     requires room { 2 ≤ vec_len done.old }
-    ensures { IfOk result
-        (IsMadeOfLast {F = B.Fault} B.meaning_of 2 (OfTwo (B.ops.binary_of op)) done.old.items done.new.items) }
+    ensures { IsMade B.meaning_of B.fault_of (OfTwo (B.ops.binary_of op)) 2
+        done.old.items done.new.items result }
 {
     let (arg1, arg2) = take_two(done);
-    builder.binary_app(alloc, op, arg1, arg2)
+    Ok(builder.binary_app(alloc, op, arg1, arg2)?)
 }
 
 #[inline(never)]
@@ -261,7 +285,8 @@ fn build_call<B: ExprBuilder>(
 ) -> Result<B::Expr, WalkFault<B::BuildError>>
     requires new { B.is_new builder }
     requires room { count ≤ vec_len done.old }
-    ensures { IsMade B.meaning_of B.fault_of (λ ms r. r ≡ B.ops.call_of (bare_name fn_name.now) ms) count
+    ensures { IsMade B.meaning_of B.fault_of
+        (λ ms r. r ≡ B.ops.call_of (bare_name fn_name.now) ms) count
         done.old.items done.new.items result }
 {
     let args = take_many(done, count)?;
@@ -278,14 +303,13 @@ fn build_get<B: ExprBuilder>(
     builder: B,
     attr: &RcStr,
     done: &mut Vec<B::Expr>,
-) -> Result<B::Expr, AllocError>
+) -> Result<B::Expr, WalkFault<B::BuildError>>
     requires new { B.is_new builder }
     requires room { 1 ≤ vec_len done.old }
-    ensures { IfOk result
-        (IsMadeOfLast {F = B.Fault} B.meaning_of 1 (OfOne (λ m. B.ops.get_of m (rc_str_bytes attr.now)))
-        done.old.items done.new.items) }
+    ensures { IsMade B.meaning_of B.fault_of (OfOne (λ m. B.ops.get_of m (rc_str_bytes attr.now))) 1
+        done.old.items done.new.items result }
 {
-    builder.get_attr(alloc, done.take_last(), attr.clone()?)
+    Ok(builder.get_attr(alloc, done.take_last(), attr.clone()?)?)
 }
 
 #[inline(never)]
@@ -294,15 +318,14 @@ fn build_has<B: ExprBuilder>(
     builder: B,
     attrs: &NonEmpty<RcStr>,
     done: &mut Vec<B::Expr>,
-) -> Result<B::Expr, AllocError>
+) -> Result<B::Expr, WalkFault<B::BuildError>>
     requires new { B.is_new builder }
     requires room { 1 ≤ vec_len done.old }
-    ensures { IfOk result
-        (IsMadeOfLast {F = B.Fault} B.meaning_of 1
-        (OfOne (λ m. B.ops.has_of m (rc_str_bytes attrs.now.head) (further attrs.now)))
-        done.old.items done.new.items) }
+    ensures { IsMade B.meaning_of B.fault_of
+        (OfOne (λ m. B.ops.has_of m (rc_str_bytes attrs.now.head) (further attrs.now))) 1
+        done.old.items done.new.items result }
 {
-    builder.extended_has_attr(alloc, done.take_last(), attrs.clone(alloc)?)
+    Ok(builder.extended_has_attr(alloc, done.take_last(), attrs.clone(alloc)?)?)
 }
 
 #[inline(never)]
@@ -311,14 +334,13 @@ fn build_like<B: ExprBuilder>(
     builder: B,
     pattern: &Pattern,
     done: &mut Vec<B::Expr>,
-) -> Result<B::Expr, AllocError>
+) -> Result<B::Expr, WalkFault<B::BuildError>>
     requires new { B.is_new builder }
     requires room { 1 ≤ vec_len done.old }
-    ensures { IfOk result
-        (IsMadeOfLast {F = B.Fault} B.meaning_of 1 (OfOne (λ m. B.ops.like_of m pattern.now))
-        done.old.items done.new.items) }
+    ensures { IsMade B.meaning_of B.fault_of (OfOne (λ m. B.ops.like_of m pattern.now)) 1
+        done.old.items done.new.items result }
 {
-    builder.like(alloc, done.take_last(), pattern.clone(alloc)?)
+    Ok(builder.like(alloc, done.take_last(), pattern.clone(alloc)?)?)
 }
 
 #[inline(never)]
@@ -327,15 +349,14 @@ fn build_set<B: ExprBuilder>(
     builder: B,
     count: usize,
     done: &mut Vec<B::Expr>,
-) -> Result<B::Expr, AllocError>
+) -> Result<B::Expr, WalkFault<B::BuildError>>
     requires new { B.is_new builder }
     requires room { count ≤ vec_len done.old }
-    ensures { IfOk result
-        (IsMadeOfLast {F = B.Fault} B.meaning_of count (λ ms r. r ≡ Ok (B.ops.set_of ms))
-        done.old.items done.new.items) }
+    ensures { IsMade B.meaning_of B.fault_of (λ ms r. r ≡ Ok (B.ops.set_of ms)) count
+        done.old.items done.new.items result }
 {
     let members = take_many(done, count)?;
-    builder.set(alloc, members)
+    Ok(builder.set(alloc, members)?)
 }
 
 #[inline(never)]
@@ -344,18 +365,17 @@ fn build_record<B: ExprBuilder, T>(
     builder: B,
     pairs: &BTreeMap<RcStr, Expr<T>>,
     done: &mut Vec<B::Expr>,
-) -> Result<B::Expr, AllocError>
+) -> Result<B::Expr, WalkFault<B::BuildError>>
     requires new { B.is_new builder }
     requires room { length pairs.now.entries ≤ vec_len done.old }
-    ensures { IfOk result
-        (IsMadeOfLast {F = B.Fault} B.meaning_of (length pairs.now.entries)
+    ensures { IsMade B.meaning_of B.fault_of
         (λ ms r. r ≡ Ok (B.ops.record_of (keyed (bare_fields pairs.now.entries) ms)))
-        done.old.items done.new.items) }
+        (length pairs.now.entries) done.old.items done.new.items result }
 {
     let values = take_many(done, pairs.len())?;
     match builder.record(alloc, keyed(alloc, pairs, values)?) {
         Ok(record) => Ok(record),
-        Err(ExpressionConstructionError::Memory) => Err(AllocError),
+        Err(ExpressionConstructionError::Memory) => Err(WalkFault::Memory),
         // The keys of a map rise, and the builder accepts such pairs.
         Err(ExpressionConstructionError::DuplicateKey(_)) => unreachable!(),
     }
@@ -367,13 +387,12 @@ fn build_is<B: ExprBuilder>(
     builder: B,
     entity_type: &EntityType,
     done: &mut Vec<B::Expr>,
-) -> Result<B::Expr, AllocError>
+) -> Result<B::Expr, WalkFault<B::BuildError>>
     requires new { B.is_new builder }
     requires room { 1 ≤ vec_len done.old }
-    ensures { IfOk result
-        (IsMadeOfLast {F = B.Fault} B.meaning_of 1
-        (OfOne (λ m. B.ops.is_of m (bare_entity_type entity_type.now)))
-        done.old.items done.new.items) }
+    ensures { IsMade B.meaning_of B.fault_of
+        (OfOne (λ m. B.ops.is_of m (bare_entity_type entity_type.now))) 1
+        done.old.items done.new.items result }
 {
-    builder.is_entity_type(alloc, done.take_last(), entity_type.clone(alloc)?)
+    Ok(builder.is_entity_type(alloc, done.take_last(), entity_type.clone(alloc)?)?)
 }

@@ -146,7 +146,7 @@ fn push_children<'a, T>(tasks: &mut Vec<Task<'a, T>>, node: &'a Expr<T>) -> Resu
         | ExprKind::GetAttr { expr: child, .. }
         | ExprKind::HasAttr { expr: child, .. }
         | ExprKind::Like { expr: child, .. }
-        | ExprKind::Is { expr: child, .. } => Ok(tasks.push(Task::Visit(child))?),
+        | ExprKind::Is { expr: child, .. } => put(tasks, Task::Visit(child)),
         ExprKind::ExtensionFunctionApp { args: row, .. } | ExprKind::Set(row) => {
             push_row(tasks, row)
         }
@@ -164,8 +164,10 @@ fn push_two<'a, T>(
         bare_tasks tasks.new.items
         ≡ bare_tasks tasks.old.items ++ last_first (first.now ∷ second.now ∷ [])) }
 {
-    tasks.push(Task::Visit(second))?;
-    Ok(tasks.push(Task::Visit(first))?)
+    tasks.reserve(2)?;
+    tasks.push_reserved(Task::Visit(second));
+    tasks.push_reserved(Task::Visit(first));
+    Ok(())
 }
 
 // The same with three children.
@@ -179,7 +181,7 @@ fn push_three<'a, T>(
         bare_tasks tasks.new.items
         ≡ bare_tasks tasks.old.items ++ last_first (first.now ∷ second.now ∷ third.now ∷ [])) }
 {
-    tasks.push(Task::Visit(third))?;
+    put(tasks, Task::Visit(third))?;
     push_two(tasks, first, second)
 }
 
@@ -191,7 +193,7 @@ fn push_row<'a, T>(tasks: &mut Vec<Task<'a, T>>, row: &'a [Expr<T>]) -> Result<(
 {
     let mut left = row.iter();
     'left: while let Some(child) = left.next_back() {
-        tasks.push(Task::Visit(child))?;
+        put(tasks, Task::Visit(child))?;
     }
     Ok(())
 }
@@ -207,7 +209,7 @@ fn push_values<'a, T>(
 {
     let mut values = pairs.values();
     'values: while let Some(value) = values.next_back() {
-        tasks.push(Task::Visit(value))?;
+        put(tasks, Task::Visit(value))?;
     }
     Ok(())
 }

@@ -7,7 +7,7 @@ use std::alloc::{AllocError, Global};
 use std::collections::BTreeMap;
 use std::rc::RcStr;
 
-// Puts a result on top. `push` would move it once more, since its error has the value.
+// Puts an item on top. `push` would move it once more, since its error has the item.
 #[inline(always)]
 pub(crate) fn put<X: Drop>(done: &mut Vec<X>, out: X) -> Result<(), AllocError>
     ensures { IfOk result (λ _. done.new.items ≡ done.old.items ++ out ∷ []) }

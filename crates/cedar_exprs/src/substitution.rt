@@ -151,8 +151,7 @@ impl<S: SubstitutionFunction, V: SubstituteValue> Walk<()> for Substitution<'_, 
             ExprKind::Var(_) => Ok(None),
             ExprKind::Slot(_) => Ok(None),
             ExprKind::Unknown(unknown) => {
-                let expr = replace::<S, V>(alloc, unknown, self.values)?;
-                Ok(Some(Rc::new(alloc, expr)?))
+                Ok(Some(replace::<S, V>(alloc, unknown, self.values)?))
             }
             ExprKind::If {
                 test_expr,
@@ -191,9 +190,9 @@ fn replace<S: SubstitutionFunction, V: SubstituteValue>(
     alloc: Global,
     unknown: &Unknown,
     values: &HashMap<RcStr, V>,
-) -> Result<Expr<()>, WalkFault<S::Refusal>>
+) -> Result<Rc<Expr<()>>, WalkFault<S::Refusal>>
     ensures tree { IfOk result (λ e.
-        bare_expr e
+        bare_expr e.value
         ≡ bound_tree
         (env_of V.bare_type_of V.bare_expr_of values.now
         (rc_str_bytes unknown.now.name))
@@ -207,9 +206,9 @@ fn replace<S: SubstitutionFunction, V: SubstituteValue>(
         Some(value) => {
             S::check(alloc, unknown, value)?;
             restricted_rebuilt();
-            Ok(value.value_expr(alloc)?.into_expr())
+            Ok(Rc::new(alloc, value.value_expr(alloc)?.into_expr())?)
         }
-        None => Ok(Expr::unknown(unknown.clone(alloc)?)),
+        None => Ok(Rc::new(alloc, Expr::unknown(unknown.clone(alloc)?))?),
     }
 }
 

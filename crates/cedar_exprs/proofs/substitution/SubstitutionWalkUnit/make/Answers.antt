@@ -32,13 +32,13 @@ renew_record-requires g c =
     let kids = ap (λ b. length (children b)) (bare_at_map c.args.node.now c.in-Record.pairs m (sym c.expr_kind.ensures ∙ c.in-Record.is) c.deref-in-Record.ensures) ∙ values-length m.entries in
     omega (arith, kids, c.requires)
 
-pub returns-in_ok-new-in-Unknown : goal.returns-in_ok-new-in-Unknown
-returns-in_ok-new-in-Unknown g c =
+pub returns-in_ok-replace-in-Unknown : goal.returns-in_ok-replace-in-Unknown
+returns-in_ok-replace-in-Unknown g c =
     let env = env_of g.V.SubstituteValue.bare_type_of g.V.SubstituteValue.bare_expr_of c.args.self.now.values.now in
-    let r = c.in_ok-new-in-Unknown.field-0 in
+    let r = c.in_ok-replace-in-Unknown.field-0 in
     at_tree (λ b n. Takes n (λ last. IsRenewedOf g.S.SubstitutionFunction.refuses env b (map new_tree last) (Ok (Some (bare_expr r.value)))) c.args.done.now.items c.args.done.now.items)
     c.args.node.now (unknown_tree (bare_unknown c.in-Unknown.unknown)) 0 (bare_at_unknown c.args.node.now c.in-Unknown.unknown (sym c.expr_kind.ensures ∙ c.in-Unknown.is)) refl
-    ([], sym (append-nil c.args.done.now.items), refl, none_refused _ (bare_expr r.value) _ c.in_ok-expr-in-Unknown.ensures.refused (ap bare_expr c.in_ok-new-in-Unknown.ensures.ok ∙ c.in_ok-expr-in-Unknown.ensures.tree))
+    ([], sym (append-nil c.args.done.now.items), refl, none_refused _ (bare_expr r.value) _ c.in_ok-replace-in-Unknown.ensures.refused c.in_ok-replace-in-Unknown.ensures.tree)
 
 pub returns-in_ok-renew_call-in-ExtensionFunctionApp : goal.returns-in_ok-renew_call-in-ExtensionFunctionApp
 returns-in_ok-renew_call-in-ExtensionFunctionApp g c =
