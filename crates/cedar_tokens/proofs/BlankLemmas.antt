@@ -1,9 +1,9 @@
 -- Blanks are skipped one by one.
-use Rattle.std.proofs.Common.{◌≡◌, ℕ, ◌+◌, ◌<◌, ◌≤◌, Bool, true, false, not, eqb, get_or, Option, Some, None, List, [], ◌∷◌, ◌++◌, length, take, drop, refl, sym, ◌∙◌, ap, subst, arith, append_assoc, inl, inr, ⊎_elim}
+use Rattle.std.proofs.Common.{◌≡◌, ℕ, ◌+◌, ◌<◌, ◌≤◌, Bool, true, false, not, eqb, get_or, Some, None, List, [], ◌∷◌, ◌++◌, length, take, drop, refl, sym, ◌∙◌, ap, subst, arith, append_assoc, inl, inr, ⊎_elim}
 use Rattle.std.specs.Prelude.{◌⊎◌, ◌&&◌}
 use Rattle.std.specs.Char.{encode_utf8, is_not_whitespace, is_whitespace}
 use Rattle.std.specs.List.{starts_with}
-use Rattle.std.specs.Str.{IsTrimStart, NoCharPasses, NonePass, encode_utf8_all}
+use Rattle.std.specs.Str.{IsTrimStart, NonePass, encode_utf8_all}
 use Rattle.std.specs.Str.Pattern.{FindsChar, RFindsChar}
 use Rattle.std.proofs.lemmas.Bool.{eqb-true, false≢true}
 use Rattle.std.proofs.lemmas.List.{length-append, take-append-drop}

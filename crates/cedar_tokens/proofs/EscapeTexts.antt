@@ -16,7 +16,7 @@ use Rattle.cedar_terms.specs.Escape.{escape, escape_char, escaped, hexadecimal, 
 use Rattle.cedar_terms.specs.Patterns.{elem_text, pattern_text}
 use Rattle.cedar_terms.specs.declared.pattern.PatternElem.{PatternElem}
 use Rattle.cedar_terms.specs.declared.pattern.PatternElem.TheVariants as elems
-use Rattle.cedar_tokens.specs.Escapes.{ArePieces, IsInsideOfPattern, IsInsideOfText, IsPieceText, Writes, has_scalars, itself, by_letter, by_code, piece_elem}
+use Rattle.cedar_tokens.specs.Escapes.{IsInsideOfPattern, IsInsideOfText, IsPieceText, Writes, has_scalars, itself, by_letter, by_code, piece_elem}
 use Rattle.cedar_tokens.specs.declared.escapes.Piece.{Piece}
 use Rattle.cedar_tokens.specs.declared.escapes.Piece.TheVariants.{Char, Star}
 use Rattle.cedar_tokens.proofs.FirstPieceLemmas.{both}

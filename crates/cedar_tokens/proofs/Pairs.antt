@@ -1,5 +1,5 @@
 -- Lists of two items or more.
-use Rattle.std.proofs.Common.{◌≡◌, ℕ, suc, ◌-◌, ◌≤◌, List, [], ◌∷◌, length, get_or, take, drop, ap, arith, sym, refl, subst}
+use Rattle.std.proofs.Common.{◌≡◌, ◌-◌, ◌≤◌, List, [], ◌∷◌, length, get_or, take, drop, ap, arith, sym}
 use Rattle.std.proofs.lemmas.List.{take_all}
 
 -- the first two, and the others

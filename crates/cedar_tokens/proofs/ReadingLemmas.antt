@@ -1,15 +1,14 @@
 -- The pieces of a text, read one by one.
-use Rattle.std.proofs.Common.{◌≡◌, ℕ, List, [], ◌∷◌, ◌++◌, Option, Some, None, map, refl, sym, ◌∙◌, ap, subst, append_assoc, length, ◌<◌, arith}
+use Rattle.std.proofs.Common.{◌≡◌, ℕ, List, [], ◌∷◌, ◌++◌, Some, None, map, refl, sym, ◌∙◌, ap, subst, append_assoc, length, ◌<◌, arith}
 use Rattle.std.proofs.lemmas.List.{map-append, nil_from_length}
 use Rattle.std.specs.Prelude.{◌↔◌}
 use Rattle.std.specs.Char.{encode_utf8}
 use Rattle.std.specs.Str.{IsUtf8, chars, encode_utf8_all}
-use Rattle.std.specs.Option.{is_some, unwrap_or}
-use Rattle.std.proofs.lemmas.Bool.{false≢true}
+use Rattle.std.specs.Option.{unwrap_or}
 use Rattle.std.proofs.lemmas.Str.{chars-nil, encodes-append, encodes-chars, encodes_same}
 use mathlib.Core.List.{append-nil}
 use Rattle.cedar_terms.specs.declared.pattern.PatternElem.{PatternElem}
-use Rattle.cedar_tokens.specs.Escapes.{ArePieces, IsInsideOfPattern, IsInsideOfText, IsPieceText, piece_elem}
+use Rattle.cedar_tokens.specs.Escapes.{ArePieces, IsInsideOfText, piece_elem}
 use Rattle.cedar_tokens.specs.FirstPieces.{piece_at}
 use Rattle.cedar_tokens.specs.Readings.{IsAnswerOfPattern, IsAnswerOfText, IsPatternSoFar, IsReadUpTo, IsTextSoFar}
 use Rattle.cedar_tokens.specs.declared.escapes.Piece.{Piece}

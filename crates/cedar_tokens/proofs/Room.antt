@@ -1,5 +1,5 @@
 -- Six hexadecimal digits fit 32 bits.
-use Rattle.std.proofs.Common.{◌≡◌, ℕ, suc, zero, ◌+◌, ◌-◌, ◌*◌, ◌^◌, ◌<◌, ◌≤◌, arith, subst, ap, sym, ◌∙◌, sub-one}
+use Rattle.std.proofs.Common.{◌≡◌, ℕ, suc, zero, ◌+◌, ◌-◌, ◌*◌, ◌^◌, ◌<◌, ◌≤◌, arith, subst, ap, sym}
 use Rattle.std.proofs.Math.Nat.{mul-le-mul_right}
 use native.Mathlib.Numerals.{unary_clauses}
 

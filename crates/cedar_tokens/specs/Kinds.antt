@@ -1,5 +1,5 @@
 -- The words of the grammar (Cedar's `grammar.lalrpop`).
-use Rattle.std.specs.Prelude.{ℕ, List, codes, if◌then◌else◌, Option, Some, None}
+use Rattle.std.specs.Prelude.{ℕ, List, codes, if◌then◌else◌}
 use Rattle.std.specs.Str.{bytes_eq}
 use Rattle.cedar_tokens.specs.declared.token.Kind.{Kind}
 use Rattle.cedar_tokens.specs.declared.token.Kind.TheVariants as kinds

@@ -1,4 +1,4 @@
-use Rattle.std.proofs.Common.{◌+◌, ◌-◌, length, arith, rules}
+use Rattle.std.proofs.Common.{◌-◌, length, arith, rules}
 use Rattle.std.proofs.lemmas.Bool.Decides.{nat_tests}
 use Rattle.cedar_tokens.proofs.BlankLemmas.{rest_fits}
 use Rattle.cedar_tokens.proofs.TokenPlacesLemmas.{next_shorter, still_fits, tokens_begin, tokens_end, tokens_go_on}
