@@ -108,7 +108,7 @@ fn own_text(alloc: Global, x: &Keyed) -> Result<String, NoAnswer> {
     )?)
 }
 
-// The call that stands for an extension value.
+/// The call that stands for an extension value.
 pub fn called(alloc: Global, x: &RepresentableExtensionValue<Keyed>) -> Result<String, NoAnswer> {
     let call = x.to_restricted_expr(alloc)?;
     sketch(alloc, call.as_expr())
