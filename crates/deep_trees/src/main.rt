@@ -1,14 +1,17 @@
-//! Chains of expressions, each one inside the next, that are made, substituted, built, shown and
-//! dropped on the usual stack; and chains of values, whose expressions are written and read back.
+//! Chains of expressions, each one inside the next, that are made, substituted, built, shown,
+//! checked and dropped on the usual stack; and chains of values, whose expressions are written and
+//! read back.
 #![tactic(auto)]
 
+mod checks;
 mod values;
 
+use crate::checks::{is_restricted, is_valid};
 use crate::values::{Nest, show_value};
 use cedar_exprs::{Expr, ExprBuilder};
 use cedar_names::{FromNormalizedStr, Name};
 use cedar_sketch::Sketch;
-use cedar_terms::{Literal, Pattern, PatternElem, Unknown};
+use cedar_terms::{Literal, Pattern, PatternElem, Unknown, Var};
 use std::alloc::{AllocError, Global};
 use std::collections::HashMap;
 use std::io;
@@ -51,6 +54,18 @@ fn main(rt: HostRuntime) -> io::Result<()> {
         let text = work(rt.alloc(), chain, levels)?;
         println!(rt; "{name}: {levels} levels, shown in {} bytes", text.len())?;
     }
+    let innermost = [
+        ("unknown in sets", unknown(rt.alloc())?),
+        ("variable in sets", Expr::var(Var::Context)),
+        ("call in sets", make_call(rt.alloc(), unknown(rt.alloc())?)?),
+    ];
+    for (name, expr) in innermost {
+        let found = check(rt.alloc(), expr)?;
+        println!(rt;
+            "{name}: {LEVELS} levels, restricted: {}, valid: {}",
+            found.is_restricted, found.is_valid
+        )?;
+    }
     let nests = [
         (Nest::Set, "set of values", LEVELS),
         (Nest::Record, "record of values", RECORDS),
@@ -77,17 +92,46 @@ fn work(alloc: Global, chain: Chain, levels: usize) -> Result<String, AllocError
     built.into_expr::<Sketch>(alloc)?.to_text(alloc)
 }
 
+// What was found of a chain.
+#[derive(Drop)]
+struct Checked {
+    is_restricted: bool,
+    is_valid: bool,
+}
+
+// The expression inside sets.
+fn check(alloc: Global, innermost: Expr) -> Result<Checked, AllocError> {
+    let expr = make_over(alloc, Chain::Set, LEVELS, innermost)?;
+    Ok(Checked {
+        is_restricted: is_restricted(alloc, expr.clone(alloc)?)?,
+        is_valid: is_valid(alloc, expr)?,
+    })
+}
+
 // Through the struct, whose data type is chosen at the call.
 fn rebuild<T: Copy + Default>(alloc: Global, expr: &Expr<T>) -> Result<Expr<T>, AllocError> {
     expr.into_expr::<ExprBuilder<T>>(alloc)
 }
 
 fn make(alloc: Global, chain: Chain, levels: usize) -> Result<Expr, AllocError> {
-    let mut expr = Expr::unknown(Unknown::new_untyped(RcStr::from_str(alloc, "x")?));
+    make_over(alloc, chain, levels, unknown(alloc)?)
+}
+
+fn make_over(
+    alloc: Global,
+    chain: Chain,
+    levels: usize,
+    innermost: Expr,
+) -> Result<Expr, AllocError> {
+    let mut expr = innermost;
     for _ in 0..levels {
         expr = wrap(alloc, chain, expr)?;
     }
     Ok(expr)
+}
+
+fn unknown(alloc: Global) -> Result<Expr, AllocError> {
+    Ok(Expr::unknown(Unknown::new_untyped(RcStr::from_str(alloc, "x")?)))
 }
 
 fn wrap(alloc: Global, chain: Chain, expr: Expr) -> Result<Expr, AllocError> {
