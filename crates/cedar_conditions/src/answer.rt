@@ -46,7 +46,7 @@ impl fmt::Display for Answer {
 ///
 /// ```rust
 /// fn is_allowed(alloc: Global, bindings: &Bindings) -> Result<bool, AllocError> {
-///     let answer = answer(alloc, "principal == resource.owner", bindings)?;
+///     let answer = evaluate_condition(alloc, "principal == resource.owner", bindings)?;
 ///     Ok(matches!(&answer, Answer::Value(text) if text == "true"))
 /// }
 /// ```

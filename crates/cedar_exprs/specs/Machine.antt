@@ -46,7 +46,3 @@ abbrev pub IsMade : {X R M F : Type 0} → (X → M) → (R → F) → (List M �
 IsMade meaning_of fault_of IsMadeOf n all rest (Ok x) = Takes n (λ last. IsMadeOf (map meaning_of last) (Ok (meaning_of x))) all rest
 IsMade meaning_of fault_of IsMadeOf n all rest (Err (Refused r)) = Takes n (λ last. IsMadeOf (map meaning_of last) (Err (fault_of r))) all rest
 IsMade meaning_of fault_of IsMadeOf n all rest (Err Memory) = ⊤
-
--- an answer is made of the last n results, which are taken off
-abbrev pub IsMadeOfLast : {X M F : Type 0} → (X → M) → ℕ → (List M → Result M F → Type 0) → List X → List X → X → Type 0
-IsMadeOfLast meaning_of n IsMadeOf all rest x = Takes n (λ last. IsMadeOf (map meaning_of last) (Ok (meaning_of x))) all rest
