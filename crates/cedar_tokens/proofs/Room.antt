@@ -19,9 +19,9 @@ room v d m h k =
     omega (arith, le, e, h)
 
 -- one digit more
-pub digit_room : (v d left : ℕ) → (v + 1) * 16 ^ left ≤ 16 ^ 6 → d < 16 → 0 < left → (v * 16 + d + 1) * 16 ^ (left - 1) ≤ 16 ^ 6
-digit_room v d zero h k n = absurd (omega arith)
-digit_room v d (suc m) h k n = let e : suc m - 1 ≡ m = omega arith in subst (λ l. (v * 16 + d + 1) * 16 ^ l ≤ 16777216) (sym e) (room v d m h k)
+pub more : (v d left : ℕ) → (v + 1) * 16 ^ left ≤ 16 ^ 6 → d < 16 → 0 < left → (v * 16 + d + 1) * 16 ^ (left - 1) ≤ 16 ^ 6
+more v d zero h k n = absurd (omega arith)
+more v d (suc m) h k n = let e : suc m - 1 ≡ m = omega arith in subst (λ l. (v * 16 + d + 1) * 16 ^ l ≤ 16777216) (sym e) (room v d m h k)
 
 -- its value
 pub value_room : (v d left : ℕ) → (v + 1) * 16 ^ left ≤ 16 ^ 6 → d < 16 → 0 < left → v * 16 + d < 2 ^ 32

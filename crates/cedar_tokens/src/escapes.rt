@@ -154,7 +154,7 @@ fn code(text: &str) -> Option<(char, &str)>
 }
 
 // The same behind digits that give a value, where so many more may stand.
-#[tactic(auto, using(crate::proofs::Room::digit_room, crate::proofs::Room::value_room), unfolding(crate::specs::FirstPieces::digits_at))]
+#[tactic(auto, using(crate::proofs::Room::more), unfolding(crate::specs::FirstPieces::digits_at))]
 fn digits(text: &str, value: u32, left: u32) -> Option<(char, &str)>
     requires { (value + 1) * 16 ^ left ≤ 16 ^ 6 }
     ensures shorter { IfSome result (λ x. IsShorter x.1.now text.now) }

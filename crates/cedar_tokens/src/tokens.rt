@@ -1,7 +1,14 @@
 //! The tokens of a text, as they are taken one by one.
-ghost use Rattle.std.specs.Prelude.{◌≡◌, ◌<◌, ◌≤◌, ◌≢◌, IfOk, IfSome, MatchOption, MatchResult, length};
+ghost use Rattle.std.specs.Prelude.{◌≡◌, ◌<◌, ◌≤◌, ◌≢◌, IfSome, MatchOption, MatchResult, length};
 ghost use Rattle.cedar_tokens.specs.Told.{IsProblem};
-ghost use Rattle.cedar_tokens.specs.Pieces.{IsPairTaken, IsTaken, IsUntouched, next_of, rest_of, tokens_left};
+ghost use Rattle.cedar_tokens.specs.Pieces.{
+  IsPairTaken,
+  IsTaken,
+  IsUntouched,
+  next_of,
+  rest_of,
+  tokens_left,
+};
 
 use crate::refusal::Refusal;
 use crate::token::{Kind, Span, Token};
