@@ -91,6 +91,38 @@ def crate_names():
     return list(crate_libraries())
 
 
+@dataclass
+class Edit:
+    """A wrong body: its changes, each a file, the old text and the new one."""
+
+    name: str
+    changes: list
+    functions: frozenset = frozenset()
+
+
+def read_edit(path):
+    file, old, changes = "", "", []
+    with open(path) as lines:
+        for line in lines.read().split("\n"):
+            if line.startswith("file: "):
+                file = line.removeprefix("file: ").strip()
+            elif line.startswith("old: "):
+                old = line.removeprefix("old: ")
+            elif line.startswith("new:"):
+                changes.append((file, old, line.removeprefix("new:").removeprefix(" ")))
+    return Edit(os.path.basename(path).removesuffix(".edit"), changes)
+
+
+def edits_of(crate, *folders):
+    """The wrong bodies in these folders of a crate."""
+    found = []
+    for folder in folders:
+        path = os.path.join(CRATES, crate, folder)
+        files = sorted(os.listdir(path)) if os.path.isdir(path) else []
+        found += [read_edit(os.path.join(path, file)) for file in files if file.endswith(".edit")]
+    return found
+
+
 def source_files(crate):
     """Each source file of a crate, by its path below the crate."""
     found = {}
