@@ -39,5 +39,6 @@ pub use cedar_values::{
     BoundedDisplay, BoundedToString, ContainsUnknown, ExtensionValue, NoExtension, NotValue,
     PartialValue, PartialValueToValueError, RepresentableExtensionValue, Set, Value, ValueKind,
     split, substitute_typed_values_into_expr, substitute_values_into_expr,
+    try_into_expr_with_values,
 };
 pub use either;

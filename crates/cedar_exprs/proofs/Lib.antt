@@ -18,3 +18,4 @@ pub mod Counts
 pub mod ShapeWalks
 pub mod RestrictedCalls
 pub mod Branches
+pub mod BoundNodes

@@ -49,11 +49,7 @@ impl<T> Expr<T> {
     ) -> Result<B::Expr, BuildFault<B::BuildError>>
         ensures { Gives B.meaning_of B.fault_of (fold B.ops empty (bare_expr self.now)) result }
     {
-        match run(alloc, &Building::<B> { of: PhantomData }, self) {
-            Ok(built) => Ok(built),
-            Err(WalkFault::Refused(error)) => Err(BuildFault::Build(error)),
-            Err(WalkFault::Memory) => Err(BuildFault::Memory),
-        }
+        build_by(alloc, &Building::<B> { of: PhantomData }, self)
     }
 
     /// What a builder makes of the expression, if none of the builder's calls is refused for a
@@ -85,10 +81,25 @@ impl<T> Expr<T> {
     }
 }
 
+// What a walk builds.
+pub(crate) fn build_by<T, W: Walk<T>>(
+    alloc: Global,
+    walk: &W,
+    expr: &Expr<T>,
+) -> Result<W::Out, BuildFault<W::Refusal>>
+    ensures { Gives W.meaning_of W.fault_of (W.answer walk.now (bare_expr expr.now)) result }
+{
+    match run(alloc, walk, expr) {
+        Ok(built) => Ok(built),
+        Err(WalkFault::Refused(error)) => Err(BuildFault::Build(error)),
+        Err(WalkFault::Memory) => Err(BuildFault::Memory),
+    }
+}
+
 // Each node by a new builder.
 #[derive(Drop)]
-struct Building<B> {
-    of: PhantomData<B>,
+pub(crate) struct Building<B> {
+    pub(crate) of: PhantomData<B>,
 }
 
 impl<T, B: ExprBuilder> Walk<T> for Building<B> {

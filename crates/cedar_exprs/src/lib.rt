@@ -3,6 +3,7 @@
 #![tactic(auto)]
 
 mod below;
+mod bound_building;
 mod builder;
 mod building;
 mod children;

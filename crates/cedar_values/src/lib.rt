@@ -25,5 +25,7 @@ pub use extension_value::{ExtensionValue, NoExtension, RepresentableExtensionVal
 pub use not_value::NotValue;
 pub use partial_value::{ContainsUnknown, PartialValue, PartialValueToValueError, split};
 pub use set::Set;
-pub use substitution::{substitute_typed_values_into_expr, substitute_values_into_expr};
+pub use substitution::{
+    substitute_typed_values_into_expr, substitute_values_into_expr, try_into_expr_with_values,
+};
 pub use value::{Value, ValueKind};

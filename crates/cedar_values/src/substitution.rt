@@ -8,7 +8,7 @@ ghost use Rattle.cedar_values.specs.ValueMaps.{values_env};
 
 use crate::extension_value::ExtensionValue;
 use crate::value::Value;
-use cedar_builders::{BuildFault, LawfulExprBuilder};
+use cedar_builders::{BuildFault, ExprBuilder, LawfulExprBuilder};
 use cedar_exprs::{Expr, RestrictedExpr, SubstituteValue, TypedBuildFault};
 use cedar_terms::{StaticallyTyped, Type};
 use std::alloc::{AllocError, Global};
@@ -33,9 +33,24 @@ impl<X: ExtensionValue + Ord> SubstituteValue for Value<X> {
     }
 }
 
-/// What a builder makes of an expression with values put for its unknowns: what it makes of the
-/// expression itself where each unknown that `values` binds is built from its value's expression,
-/// its first error included.
+/// What a builder makes of an expression with values put for its unknowns, in one walk: an unknown
+/// that `values` binds is built from its value's expression, and any other node as `try_into_expr`
+/// builds it. The first error ends it.
+pub fn try_into_expr_with_values<B: ExprBuilder, X: ExtensionValue + Ord>(
+    alloc: Global,
+    expr: &Expr<()>,
+    values: &HashMap<RcStr, Value<X>>,
+) -> Result<B::Expr, BuildFault<B::BuildError>>
+    ensures { Gives B.meaning_of B.fault_of
+        (fold B.ops (values_env X.type_name X.canonical values.now) (bare_expr expr.now))
+        result }
+{
+    expr.try_into_expr_with::<B, Value<X>>(alloc, values)
+}
+
+/// What a builder makes of an expression after substitution: what it makes of the expression itself
+/// where each unknown that `values` binds is built from its value's expression, its first error
+/// included.
 pub fn substitute_values_into_expr<B: LawfulExprBuilder, X: ExtensionValue + Ord>(
     alloc: Global,
     expr: &Expr<()>,

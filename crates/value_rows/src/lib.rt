@@ -36,7 +36,9 @@ pub fn answer(alloc: Global, call: &str, args: &[Part]) -> Result<String, NoAnsw
         | "tryvalue-placed"
         | "trykind"
         | "notvalue" => conversion::answer(alloc, call, args),
-        "valuesinto" | "typedvaluesinto" => substitution::answer(alloc, call, args),
+        "valuesinto" | "valuesinto-placed" | "valueswith-placed" | "typedvaluesinto" => {
+            substitution::answer(alloc, call, args)
+        }
         "partial" | "partialexpr" | "eqpartial" | "residual" | "split" => {
             partial_values::answer(alloc, call, args)
         }

@@ -1,19 +1,23 @@
 //! What a builder gets where values are put for unknowns.
 use cedar_exprs::{Expr, ExprBuilder, TypedBuildFault};
-use cedar_values::{substitute_typed_values_into_expr, substitute_values_into_expr};
+use cedar_values::{
+    substitute_typed_values_into_expr, substitute_values_into_expr, try_into_expr_with_values,
+};
 use row_parts::{NoAnswer, Part};
-use row_trees::{Keyed, KeyedValue, bindings, expr, sketch};
+use row_trees::{Keyed, KeyedValue, bindings, expr, placed, sketch};
 use std::alloc::Global;
 use std::collections::HashMap;
 use std::rc::RcStr;
 
 type Values = HashMap<RcStr, KeyedValue>;
 
-/// The answer to a call that builds after substitution.
+/// The answer to a call that builds with values put for unknowns.
 pub fn answer(alloc: Global, call: &str, args: &[Part]) -> Result<String, NoAnswer> {
     match args {
         [e, env] => match call {
             "valuesinto" => built(alloc, &expr(alloc, e)?, &bindings(alloc, env)?),
+            "valuesinto-placed" => built_placed(alloc, &expr(alloc, e)?, &bindings(alloc, env)?),
+            "valueswith-placed" => at_once_placed(alloc, &expr(alloc, e)?, &bindings(alloc, env)?),
             "typedvaluesinto" => built_typed(alloc, &expr(alloc, e)?, &bindings(alloc, env)?),
             _ => Err(NoAnswer::OtherCall),
         },
@@ -23,6 +27,14 @@ pub fn answer(alloc: Global, call: &str, args: &[Part]) -> Result<String, NoAnsw
 
 fn built(alloc: Global, e: &Expr, values: &Values) -> Result<String, NoAnswer> {
     sketch(alloc, &by_struct::<()>(alloc, e, values)?)
+}
+
+fn built_placed(alloc: Global, e: &Expr, values: &Values) -> Result<String, NoAnswer> {
+    placed(alloc, &by_struct::<()>(alloc, e, values)?)
+}
+
+fn at_once_placed(alloc: Global, e: &Expr, values: &Values) -> Result<String, NoAnswer> {
+    placed(alloc, &at_once_by_struct::<()>(alloc, e, values)?)
 }
 
 fn built_typed(alloc: Global, e: &Expr, values: &Values) -> Result<String, NoAnswer> {
@@ -40,6 +52,15 @@ fn by_struct<T: Default + Copy>(
     values: &Values,
 ) -> Result<Expr<T>, NoAnswer> {
     let made = substitute_values_into_expr::<ExprBuilder<T>, Keyed>(alloc, e, values);
+    made.ok().ok_or(NoAnswer::Memory)
+}
+
+fn at_once_by_struct<T: Default + Copy>(
+    alloc: Global,
+    e: &Expr,
+    values: &Values,
+) -> Result<Expr<T>, NoAnswer> {
+    let made = try_into_expr_with_values::<ExprBuilder<T>, Keyed>(alloc, e, values);
     made.ok().ok_or(NoAnswer::Memory)
 }
 
