@@ -81,7 +81,7 @@ fn answer_expr(
         return Ok(Answer::Value(policy_text(alloc, &left)?.text));
     }
     match lasting_fault(alloc, &left)? {
-        Some(fault) => answer_fault(alloc, text, fault, bindings),
+        Some(fault) => answer_fault(alloc, text, fault, &left),
         None => Ok(Answer::Left(policy_text(alloc, &left)?.text)),
     }
 }
@@ -102,15 +102,15 @@ fn lasting(fault: Option<&EvalFault>) -> Option<EvalFault> {
     }
 }
 
-// A fault, with its place.
+// A fault that is left, with its place.
 fn answer_fault(
     alloc: Global,
     text: &str,
     fault: EvalFault,
-    bindings: &Bindings,
+    left: &Expr,
 ) -> Result<Answer, AllocError> {
     let words = words(fault);
-    let text = match fault_place(alloc, text, bindings)? {
+    let text = match fault_place(alloc, text, left)? {
         Some(piece) => {
             let (line, column) = (piece.line(), piece.column());
             format!(in alloc; "line {line}, column {column}: {words}\n{piece}")?

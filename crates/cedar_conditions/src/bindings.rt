@@ -19,8 +19,6 @@ pub struct Bindings {
     pub(crate) values: HashMap<RcStr, Value>,
     // What each is read as: one that has a value as the unknown of that name.
     pub(crate) read_as: HashMap<RcStr, Expr>,
-    // What each stands for.
-    pub(crate) exprs: HashMap<RcStr, Expr>,
 }
 
 /// Why a text binds no names.
@@ -72,7 +70,6 @@ impl Bindings {
         Bindings {
             values: HashMap::new(alloc),
             read_as: HashMap::new(alloc),
-            exprs: HashMap::new(alloc),
         }
     }
 
@@ -109,10 +106,9 @@ impl Bindings {
                 put(&mut self.values, name.clone()?, value)?;
                 Expr::unknown(Unknown::new_untyped(name.clone()?))
             }
-            None => expr.clone(alloc)?,
+            None => expr,
         };
-        put(&mut self.read_as, name.clone()?, read_as)?;
-        put(&mut self.exprs, name, expr)
+        put(&mut self.read_as, name, read_as)
     }
 }
 

@@ -16,7 +16,7 @@ use crate::outcome::Outcome;
 use cedar_builders::BuildFault;
 use cedar_exprs::Expr;
 use cedar_values::laws::{maps_bind_plain_values, no_extension_values};
-use cedar_values::{NoExtension, Value, substitute_values_into_expr};
+use cedar_values::{NoExtension, Value, try_into_expr_with_values};
 use evaluations::laws::never_open;
 use std::alloc::Global;
 use std::collections::HashMap;
@@ -41,5 +41,5 @@ pub fn evaluate(
     maps_bind_plain_values::<NoExtension>();
     never_open::<NoExtension>();
     no_extension_values();
-    substitute_values_into_expr::<Evaluator, NoExtension>(alloc, expr, values)
+    try_into_expr_with_values::<Evaluator, NoExtension>(alloc, expr, values)
 }

@@ -11,7 +11,7 @@ use crate::simplifier::Simplifier;
 use cedar_builders::BuildFault;
 use cedar_exprs::Expr;
 use cedar_values::laws::{maps_bind_plain_values, no_extension_values};
-use cedar_values::{NoExtension, Value, substitute_values_into_expr};
+use cedar_values::{NoExtension, Value, try_into_expr_with_values};
 use simplifications::laws::{asks_no_more, known_stays, one_pass, partial_evaluation_is_sound};
 use std::alloc::{AllocError, Global};
 use std::collections::HashMap;
@@ -53,7 +53,7 @@ pub fn simplify(
     partial_evaluation_is_sound::<NoExtension>();
     known_stays::<NoExtension>();
     asks_no_more::<NoExtension>();
-    match substitute_values_into_expr::<Simplifier, NoExtension>(alloc, expr, values) {
+    match try_into_expr_with_values::<Simplifier, NoExtension>(alloc, expr, values) {
         Ok(part) => Ok(part),
         Err(BuildFault::Build(never)) => match never {},
         Err(BuildFault::Memory) => Err(AllocError),

@@ -5,7 +5,7 @@ use Rattle.cedar_evaluator.proofs.closed.evaluate.Goals as goal
 
 pub returns-clause-decided : goal.returns-clause-decided
 returns-clause-decided c closed =
-    let made = c.substitute_values_into_expr in
+    let made = c.try_into_expr_with_values in
     let m = c.args.values.now in
     decided made.result _ made.ensures
     (c.never_open.ensures held_call (plain_env m)
