@@ -47,6 +47,8 @@ impl<T: Drop> From<AllocFailed<T>> for Refusal {
 }
 
 impl From<BuildFault<Infallible>> for Refusal {
+    ghost from_gives = { λ _ e. e ≡ Memory };
+
     fn from(fault: BuildFault<Infallible>) -> Refusal {
         match fault {
             BuildFault::Build(never) => match never {},
