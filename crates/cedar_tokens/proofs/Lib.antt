@@ -4,4 +4,5 @@ pub mod FirstPieceLemmas
 pub mod Pairs
 pub mod ReadingLemmas
 pub mod Room
+pub mod Taken
 pub mod TokenPlacesLemmas

@@ -30,6 +30,16 @@ first_or end (t ∷ ts) = t
 abbrev pub next_of : Tokens → Token
 next_of t = first_or (end_of t) (rest_of t)
 
+-- the first token is of this kind
+abbrev pub BeginsWith : Kind → List Token → Type 0
+BeginsWith kind [] = ⊥
+BeginsWith kind (t ∷ ts) = t.kind ≡ kind
+
+-- the first two tokens are of these kinds
+abbrev pub BeginsWithPair : Kind → Kind → List Token → Type 0
+BeginsWithPair first second [] = ⊥
+BeginsWithPair first second (t ∷ ts) = (t.kind ≡ first) × BeginsWith second ts
+
 -- nothing was taken
 abbrev pub IsUntouched : Tokens → Tokens → Type 0
 IsUntouched old new = (rest_of new ≡ rest_of old) × (end_of new ≡ end_of old)

@@ -1,7 +1,21 @@
 //! The tokens of a text, as they are taken one by one.
-ghost use Rattle.std.specs.Prelude.{◌≡◌, ◌<◌, ◌≤◌, ◌≢◌, IfSome, MatchOption, MatchResult, length};
+ghost use Rattle.std.specs.Prelude.{
+  ◌≡◌,
+  ◌↔◌,
+  ◌<◌,
+  ◌≤◌,
+  ◌≢◌,
+  IfSome,
+  IsOk,
+  IsSome,
+  MatchOption,
+  MatchResult,
+  length,
+};
 ghost use Rattle.cedar_tokens.specs.Told.{IsProblem};
 ghost use Rattle.cedar_tokens.specs.Pieces.{
+  BeginsWith,
+  BeginsWithPair,
   IsPairTaken,
   IsTaken,
   IsUntouched,
@@ -75,6 +89,7 @@ impl<'a> Tokens<'a> {
         ensures gives { MatchOption result
             (IsUntouched self.old self.new)
             (λ t. (t.kind ≡ kind) × IsTaken self.old t self.new) }
+        ensures exact { IsSome result ↔ BeginsWith kind (rest_of self.old) }
         ensures refuses { (next_of self.old).kind ≢ kind → result ≡ None }
     {
         if self.first().kind == kind {
@@ -91,6 +106,7 @@ impl<'a> Tokens<'a> {
         ensures gives { MatchOption result
             (IsUntouched self.old self.new)
             (λ t. (t.kind ≡ second) × IsPairTaken self.old first t self.new) }
+        ensures exact { IsSome result ↔ BeginsWithPair first second (rest_of self.old) }
     {
         match self.rest {
             [a, b, rest @ ..] if a.kind == first && b.kind == second => {
@@ -107,6 +123,7 @@ impl<'a> Tokens<'a> {
         ensures gives { MatchResult result
             (λ t. (t.kind ≡ kind) × IsTaken self.old t self.new)
             (λ e. IsProblem (next_of self.old).span problem.now e × IsUntouched self.old self.new) }
+        ensures exact { IsOk result ↔ BeginsWith kind (rest_of self.old) }
     {
         match self.take_if(kind) {
             Some(token) => Ok(token),
