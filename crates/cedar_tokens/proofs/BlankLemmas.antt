@@ -4,13 +4,12 @@ use Rattle.std.specs.Prelude.{◌⊎◌, ◌&&◌}
 use Rattle.std.specs.Char.{encode_utf8, is_not_whitespace, is_whitespace}
 use Rattle.std.specs.List.{starts_with}
 use Rattle.std.specs.Str.{IsTrimStart, NonePass, encode_utf8_all}
-use Rattle.std.specs.Str.Pattern.{FindsChar, RFindsChar}
+use Rattle.std.specs.Str.Pattern.{FindsChar}
 use Rattle.std.proofs.lemmas.Bool.{eqb-true, false≢true}
 use Rattle.std.proofs.lemmas.List.{length-append, take-append-drop}
 use Rattle.std.proofs.lemmas.Str.Pattern.{drop_at_char}
 use mathlib.Core.List.{append-nil}
 use Rattle.cedar_tokens.specs.Blanks.{BeginsComment, HasBlanks, IsBehindLine, IsBlank, IsInLine, SkipsBlanks, nothing, space, comment, last_comment}
-use Rattle.cedar_tokens.specs.Places.{IsLastLine}
 
 assoc : (xs ys zs : List ℕ) → (xs ++ ys) ++ zs ≡ xs ++ (ys ++ zs)
 assoc xs ys zs = simp append_assoc
@@ -120,21 +119,3 @@ line_found text front later h = (
 
 pub no_line_found : (text later : List ℕ) → FindsChar 10 text None → later ≡ [] → IsBehindLine text later
 no_line_found text later h e = (text, h, inr (refl, e))
-
--- ---- the last line
-
-pub last_found : (text front line : List ℕ)
-    → (i : ℕ) × (j : ℕ) × RFindsChar 10 text (Some (i, j)) × (front ≡ take i text) × (line ≡ drop j text)
-    × (i ≤ j) × (length front ≡ i) × (length line + j ≡ length text)
-    → IsLastLine text line
-last_found text front line h = (
-  subst IsInLine (sym h.4) h.2.0,
-  inr (
-    take h.0 text,
-    sym (take-append-drop h.0 text)
-        ∙ ap (λ t. take h.0 text ++ t) (drop_at_char 10 text h.0 h.1 h.2.1 (omega arith) ∙ ap (λ t. 10 ∷ t) (sym h.4)),
-  ),
-)
-
-pub no_last_found : (text : List ℕ) → RFindsChar 10 text None → IsLastLine text text
-no_last_found text h = (h, inl refl)

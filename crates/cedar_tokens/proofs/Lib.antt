@@ -1,6 +1,7 @@
 pub mod BlankLemmas
 pub mod EscapeTexts
 pub mod FirstPieceLemmas
+pub mod Lines
 pub mod Pairs
 pub mod ReadingLemmas
 pub mod Room

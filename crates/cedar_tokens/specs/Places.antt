@@ -1,11 +1,24 @@
 -- Places in texts.
-use Rattle.std.specs.Prelude.{◌≡◌, ◌⊎◌, ℕ, ◌+◌, ◌==◌, List, ◌∷◌, ◌++◌, count_by, take}
-use Rattle.cedar_tokens.specs.Blanks.{IsInLine}
+use Rattle.std.specs.Prelude.{Bool, ◌≡◌, ℕ, ◌+◌, ◌==◌, List, count_by, length, take}
+use Rattle.std.specs.List.{after_last, before_first}
+use Rattle.std.specs.Str.{chars}
+
+-- a line feed
+abbrev pub is_feed : ℕ → Bool
+is_feed b = b == 10
 
 -- the line of the text in which the byte at this place stands, from 1 on
 abbrev pub line_at : List ℕ → ℕ → ℕ
-line_at text start = count_by (λ b. b == 10) (take start text) + 1
+line_at text start = count_by is_feed (take start text) + 1
 
--- the line is the last one of the text
-abbrev pub IsLastLine : List ℕ → List ℕ → Type 0
-IsLastLine text line = IsInLine line × ((text ≡ line) ⊎ ((front : List ℕ) × (text ≡ front ++ (10 ∷ line))))
+-- what stands before the first line feed of the text: all of it, if it has none
+abbrev pub first_line_of : List ℕ → List ℕ
+first_line_of text = before_first is_feed text
+
+-- what stands behind the last line feed of the text: all of it, if it has none
+abbrev pub last_line_of : List ℕ → List ℕ
+last_line_of text = after_last is_feed text
+
+-- which character of its line begins at this place of the text, from 1 on
+abbrev pub column_at : List ℕ → ℕ → ℕ
+column_at text start = length (chars (last_line_of (take start text))) + 1

@@ -1,7 +1,7 @@
 //! Why a text is not read, and where.
-ghost use Rattle.std.specs.Prelude.{◌≡◌, length, take};
+ghost use Rattle.std.specs.Prelude.{◌≡◌, ◌≤◌, length, take};
 ghost use Rattle.std.specs.Str.{IsCharBoundary, chars};
-ghost use Rattle.cedar_tokens.specs.Places.{IsLastLine, line_at};
+ghost use Rattle.cedar_tokens.specs.Places.{column_at, first_line_of, last_line_of, line_at};
 ghost use Rattle.cedar_tokens.specs.Told.{IsProblemAt};
 ghost use Rattle.cedar_tokens.specs.declared.error.ReadError.TheVariants.{Memory};
 
@@ -109,7 +109,7 @@ impl Excerpt<'_> {
     // What stands before the piece in its line.
     fn line_before(&self) -> &str
         ensures { IsCharBoundary self.now.text.now self.now.start →
-            IsLastLine (take self.now.start self.now.text.now) result.now }
+            result.now ≡ last_line_of (take self.now.start self.now.text.now) }
     {
         let before = self.before();
         last_line(before)
@@ -133,7 +133,10 @@ impl Excerpt<'_> {
     }
 
     /// The character of the line with which it begins, from 1 on.
-    pub fn column(&self) -> usize {
+    pub fn column(&self) -> usize
+        ensures { IsCharBoundary self.now.text.now self.now.start →
+            result ≡ column_at self.now.text.now self.now.start }
+    {
         char_count(self.line_before()).saturating_add(1)
     }
 
@@ -146,13 +149,16 @@ impl Excerpt<'_> {
 
 // How many characters a text has.
 fn char_count(text: &str) -> usize
-    ensures { result ≡ length (chars text.now) }
+    ensures exact { result ≡ length (chars text.now) }
+    ensures bound { result ≤ length text.now }
 {
     text.chars().count()
 }
 
 // The text up to its first line feed.
-fn first_line(text: &str) -> &str {
+fn first_line(text: &str) -> &str
+    ensures { result.now ≡ first_line_of text.now }
+{
     match text.split_once('\n') {
         Some((line, _)) => line,
         None => text,
@@ -161,7 +167,7 @@ fn first_line(text: &str) -> &str {
 
 // The text from behind its last line feed.
 fn last_line(text: &str) -> &str
-    ensures { IsLastLine text.now result.now }
+    ensures { result.now ≡ last_line_of text.now }
 {
     match text.rsplit_once('\n') {
         Some((_, line)) => line,

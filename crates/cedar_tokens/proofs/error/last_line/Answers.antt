@@ -1,4 +1,4 @@
-use Rattle.cedar_tokens.proofs.BlankLemmas.{last_found, no_last_found}
+use Rattle.cedar_tokens.proofs.Lines.{last_found, no_last_found}
 use Rattle.cedar_tokens.proofs.error.last_line.Goals as goal
 
 pub returns-in-Some : goal.returns-in-Some
