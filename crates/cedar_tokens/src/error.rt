@@ -1,6 +1,18 @@
 //! Why a text is not read, and where.
-ghost use Rattle.std.specs.Prelude.{◌≡◌, ◌≤◌, length, take};
+ghost use Rattle.std.specs.Prelude.{◌≡◌, ◌≤◌, Some, length, take};
+ghost use Rattle.std.specs.Fmt.{WritesOnOk};
 ghost use Rattle.std.specs.Str.{IsCharBoundary, chars};
+ghost use Rattle.cedar_tokens.specs.Excerpts.{
+  blank_of,
+  blanks_of,
+  carets_of,
+  excerpt_text,
+  line_after_of,
+  line_before_of,
+  piece_of,
+  text_before_of,
+  width_of,
+};
 ghost use Rattle.cedar_tokens.specs.Places.{column_at, first_line_of, last_line_of, line_at};
 ghost use Rattle.cedar_tokens.specs.Told.{IsProblemAt};
 ghost use Rattle.cedar_tokens.specs.declared.error.ReadError.TheVariants.{Memory};
@@ -97,8 +109,9 @@ pub struct Excerpt<'a> {
 impl Excerpt<'_> {
     // What stands before the piece.
     fn before(&self) -> &str
-        ensures { IsCharBoundary self.now.text.now self.now.start →
+        ensures cut { IsCharBoundary self.now.text.now self.now.start →
             result.now ≡ take self.now.start self.now.text.now }
+        ensures exact { result.now ≡ text_before_of self.now }
     {
         match self.text.split_at_checked(self.start) {
             Some((before, _)) => before,
@@ -108,15 +121,18 @@ impl Excerpt<'_> {
 
     // What stands before the piece in its line.
     fn line_before(&self) -> &str
-        ensures { IsCharBoundary self.now.text.now self.now.start →
+        ensures cut { IsCharBoundary self.now.text.now self.now.start →
             result.now ≡ last_line_of (take self.now.start self.now.text.now) }
+        ensures exact { result.now ≡ line_before_of self.now }
     {
         let before = self.before();
         last_line(before)
     }
 
     // What stands in the piece's line from the piece on.
-    fn line_after(&self) -> &str {
+    fn line_after(&self) -> &str
+        ensures { result.now ≡ line_after_of self.now }
+    {
         match self.text.split_at_checked(self.start) {
             Some((_, after)) => first_line(after),
             None => "",
@@ -140,10 +156,25 @@ impl Excerpt<'_> {
         char_count(self.line_before()).saturating_add(1)
     }
 
+    // The piece, if the text can be cut at both its ends.
+    fn piece(&self) -> &str
+        ensures { result.now ≡ piece_of self.now }
+    {
+        match self.text.split_at_checked(self.stop) {
+            Some((up_to, _)) => match up_to.split_at_checked(self.start) {
+                Some((_, piece)) => piece,
+                None => "",
+            },
+            None => "",
+        }
+    }
+
     // How many carets there are: one for each character of the piece in its line, one at least.
-    fn width(&self) -> usize {
-        let piece = first_line(self.text.get(self.start..self.stop).unwrap_or(""));
-        char_count(piece).max(1)
+    fn width(&self) -> usize
+        ensures { result ≡ width_of self.now }
+    {
+        let piece = self.piece();
+        char_count(first_line(piece)).max(1)
     }
 }
 
@@ -176,6 +207,8 @@ fn last_line(text: &str) -> &str
 }
 
 impl fmt::Display for Excerpt<'_> {
+    ghost output = { λ e. Some (excerpt_text e) };
+
     fn fmt<W: fmt::Write>(&self, f: &mut fmt::Formatter<W>) -> fmt::Result {
         let before = self.line_before();
         let after = self.line_after();
@@ -186,16 +219,27 @@ impl fmt::Display for Excerpt<'_> {
 }
 
 // Writes a blank for each character, a tab for a tab.
-fn write_blanks<W: fmt::Write>(f: &mut fmt::Formatter<W>, text: &str) -> fmt::Result {
+fn write_blanks<W: fmt::Write>(f: &mut fmt::Formatter<W>, text: &str) -> fmt::Result
+    ensures { WritesOnOk W.write_str_gives f.old result (blanks_of text.now) f.new }
+{
     for c in text.chars() {
-        f.write_char(if c == '\t' { '\t' } else { ' ' })?;
+        f.write_char(blank(c))?;
     }
     Ok(())
 }
 
+// The blank that stands below a character.
+fn blank(c: char) -> char
+    ensures { result ≡ blank_of c }
+{
+    if c == '\t' { '\t' } else { ' ' }
+}
+
 // Writes this many carets.
-fn write_carets<W: fmt::Write>(f: &mut fmt::Formatter<W>, count: usize) -> fmt::Result {
-    for _ in 0..count {
+fn write_carets<W: fmt::Write>(f: &mut fmt::Formatter<W>, count: usize) -> fmt::Result
+    ensures { WritesOnOk W.write_str_gives f.old result (carets_of count) f.new }
+{
+    for _caret in 0..count {
         f.write_char('^')?;
     }
     Ok(())
