@@ -6,10 +6,10 @@ use Rattle.std.specs.List.{starts_with}
 use Rattle.std.specs.Str.{IsTrimStart, NonePass, encode_utf8_all}
 use Rattle.std.specs.Str.Pattern.{FindsChar}
 use Rattle.std.proofs.lemmas.Bool.{eqb-true, false≢true}
-use Rattle.std.proofs.lemmas.List.{length-append, take-append-drop}
+use Rattle.std.proofs.lemmas.List.{length-append, nil_from_length, take-append-drop}
+use Rattle.std.proofs.lemmas.Str.{encode_same, len_utf8_bounds, length-encode}
 use Rattle.std.proofs.lemmas.Str.Pattern.{drop_at_char}
-use mathlib.Core.List.{append-nil}
-use Rattle.cedar_tokens.specs.Blanks.{BeginsComment, HasBlanks, IsBehindLine, IsBlank, IsInLine, SkipsBlanks, nothing, space, comment, last_comment}
+use Rattle.cedar_tokens.specs.Blanks.{BeginsComment, HasBlanks, HasNoBlank, HasNoSpace, IsBehindLine, IsInLine, nothing, space, comment, last_comment}
 
 assoc : (xs ys zs : List ℕ) → (xs ++ ys) ++ zs ≡ xs ++ (ys ++ zs)
 assoc xs ys zs = simp append_assoc
@@ -17,18 +17,27 @@ assoc xs ys zs = simp append_assoc
 pub parts_length : (text front back : List ℕ) → text ≡ front ++ back → length text ≡ length front + length back
 parts_length text front back e = ap length e ∙ length-append front back
 
--- ---- the rest is an end of the text
+-- ---- blanks behind blanks
 
-pub none_skipped : (text : List ℕ) → SkipsBlanks text text
-none_skipped text r h = h
+pub rest_fits : {text rest : List ℕ} → HasBlanks text rest → length rest ≤ length text
+rest_fits (nothing text) = omega arith
+rest_fits (space c text rest w h) =
+    let fits = rest_fits h in
+    let l = length-append (encode_utf8 c) text in omega arith
+rest_fits (comment line text rest b i h) =
+    let fits = rest_fits h in
+    let l = length-append line (10 ∷ text) in omega arith
+rest_fits (last_comment line b i) = omega arith
 
-pub gap_of : (text rest : List ℕ) → SkipsBlanks text rest → HasBlanks text rest
-gap_of text rest s = s rest ([], refl, nothing)
+-- behind nothing there is nothing
+none_behind : (rest : List ℕ) → HasBlanks [] rest → rest ≡ []
+none_behind rest h = let fits = rest_fits h in nil_from_length rest (omega arith)
 
-pub rest_fits : (text rest : List ℕ) → SkipsBlanks text rest → length rest ≤ length text
-rest_fits text rest s =
-    let g = gap_of text rest s in
-    let e = parts_length text g.0 rest g.1 in omega arith
+pub blanks_go_on : {text rest : List ℕ} → HasBlanks text rest → (next : List ℕ) → HasBlanks rest next → HasBlanks text next
+blanks_go_on (nothing text) next k = k
+blanks_go_on (space c text rest w h) next k = space c text next w (blanks_go_on h next k)
+blanks_go_on (comment line text rest b i h) next k = comment line text next b i (blanks_go_on h next k)
+blanks_go_on (last_comment line b i) next k = subst (λ r. HasBlanks line r) (sym (none_behind next k)) (last_comment line b i)
 
 -- ---- white space
 
@@ -36,20 +45,17 @@ not_not : (b : Bool) → not b ≡ false → b ≡ true
 not_not true h = refl
 not_not false h = absurd (false≢true (sym h))
 
-spaces_blank : (cs gap : List ℕ) → NonePass is_not_whitespace cs → IsBlank gap → IsBlank (encode_utf8_all cs ++ gap)
-spaces_blank [] gap h k = k
-spaces_blank (c ∷ cs) gap h k =
-    subst IsBlank (sym (assoc (encode_utf8 c) (encode_utf8_all cs) gap))
-    (space c (encode_utf8_all cs ++ gap) (not_not (is_whitespace c) h.0) (spaces_blank cs gap h.1 k))
+spaces_blank : (cs text : List ℕ) → NonePass is_not_whitespace cs → HasBlanks (encode_utf8_all cs ++ text) text
+spaces_blank [] text h = nothing text
+spaces_blank (c ∷ cs) text h =
+    subst (λ t. HasBlanks t text) (sym (assoc (encode_utf8 c) (encode_utf8_all cs) text))
+    (space c (encode_utf8_all cs ++ text) text (not_not (is_whitespace c) h.0) (spaces_blank cs text h.1))
 
-pub spaces_skipped : (text rest : List ℕ) → IsTrimStart text rest → SkipsBlanks text rest
-spaces_skipped text rest h r k =
-    let ws = take h.0 text in
-    let e : text ≡ ws ++ rest = sym (take-append-drop h.0 text) ∙ ap (λ t. ws ++ t) (sym h.1) in (
-      ws ++ k.0,
-      e ∙ (ap (λ t. ws ++ t) k.1 ∙ sym (assoc ws k.0 r)),
-      subst (λ t. IsBlank (t ++ k.0)) h.2.1 (spaces_blank h.2.0 k.0 h.2.2 k.2),
-    )
+pub spaces_skipped : (text rest : List ℕ) → IsTrimStart text rest → HasBlanks text rest
+spaces_skipped text rest h =
+    let e : encode_utf8_all h.2.0 ++ rest ≡ text =
+    ap (λ t. t ++ rest) h.2.1 ∙ (ap (λ t. take h.0 text ++ t) h.1 ∙ take-append-drop h.0 text) in
+    subst (λ t. HasBlanks t rest) e (spaces_blank h.2.0 rest h.2.2)
 
 -- ---- comments
 
@@ -76,20 +82,12 @@ line_begins (x ∷ []) later h = absurd (no_slash 10 47 refl refl (ap (λ t. get
 line_begins (x ∷ y ∷ body) later h =
     (body, ap (λ c. c ∷ y ∷ body) (ap (λ t. get_or t 0 0) h.1) ∙ ap (λ c. 47 ∷ c ∷ body) (ap (λ t. get_or t 1 0) h.1))
 
--- nothing stands behind the last line
-last_skipped : (text gap r : List ℕ) → BeginsComment text → IsInLine text → [] ≡ gap ++ r → HasBlanks text r
-last_skipped text [] [] begins line e = (text, sym (append-nil text), last_comment begins line)
-last_skipped text [] (x ∷ r) begins line e = cc
-last_skipped text (x ∷ gap) r begins line e = cc
-
-line_skipped : (text later : List ℕ) → BeginsComment text → IsBehindLine text later → SkipsBlanks text later
-line_skipped text later begins h r k =
-    ⊎_elim (λ e. (
-      h.0 ++ (10 ∷ k.0),
-      e ∙ (ap (λ t. h.0 ++ (10 ∷ t)) k.1 ∙ sym (assoc h.0 (10 ∷ k.0) r)),
-      comment h.0 k.0 (line_begins h.0 later (subst BeginsComment e begins)) h.1 k.2,
-    ))
-    (λ e. last_skipped text k.0 r begins (subst IsInLine (sym e.0) h.1) (sym e.1 ∙ k.1))
+line_skipped : (text later : List ℕ) → BeginsComment text → IsBehindLine text later → HasBlanks text later
+line_skipped text later begins h =
+    ⊎_elim (λ e.
+    subst (λ t. HasBlanks t later) (sym e)
+    (comment h.0 later later (line_begins h.0 later (subst BeginsComment e begins)) h.1 (nothing later)))
+    (λ e. subst (λ r. HasBlanks text r) (sym e.1) (last_comment text begins (subst IsInLine (sym e.0) h.1)))
     h.2
 
 pub line_shorter : (text later : List ℕ) → 0 < length text → IsBehindLine text later → length later < length text
@@ -102,9 +100,41 @@ pub comment_some : (text : List ℕ) → BeginsComment text → 0 < length text
 comment_some text h = let e : length text ≡ length (47 ∷ 47 ∷ h.0) = ap length h.1 in omega arith
 
 -- a comment and what is blank behind it
-pub comment_skipped : (text rest later next : List ℕ) → SkipsBlanks text rest → BeginsComment rest → IsBehindLine rest later
-    → SkipsBlanks later next → SkipsBlanks text next
-comment_skipped text rest later next before begins behind s r h = before r (line_skipped rest later begins behind r (s r h))
+pub comment_skipped : (text rest later next : List ℕ) → HasBlanks text rest → BeginsComment rest → IsBehindLine rest later
+    → HasBlanks later next → HasBlanks text next
+comment_skipped text rest later next before begins behind s =
+    blanks_go_on before next (blanks_go_on (line_skipped rest later begins behind) next s)
+
+pub slashes_begin : (text : List ℕ) → BeginsComment text → starts_with eqb text (47 ∷ 47 ∷ []) ≡ true
+slashes_begin text h = subst (λ t. starts_with eqb t (47 ∷ 47 ∷ []) ≡ true) (sym h.1) (both_slashes h.0)
+  where
+    both_slashes : (more : List ℕ) → starts_with eqb (47 ∷ 47 ∷ more) (47 ∷ 47 ∷ []) ≡ true
+    both_slashes more = refl
+
+-- ---- no blank is left
+
+space_passes : (c : ℕ) → is_not_whitespace c ≡ true → is_whitespace c ≡ true → ⊥
+space_passes c h k = false≢true (sym (ap not k) ∙ h)
+
+pub no_space_left : (text rest : List ℕ) → IsTrimStart text rest → HasNoSpace rest
+no_space_left text rest h c later w e =
+    let l = length-append (encode_utf8 c) later in
+    let some : 0 < length (encode_utf8 c) = omega (arith, length-encode c, (len_utf8_bounds c).0) in
+    let first = h.3.1 (omega (arith, ap length e)) in
+    let same = encode_same first.0 c h.3.0 later (sym first.2 ∙ e) in
+    space_passes first.0 first.1 (subst (λ d. is_whitespace d ≡ true) (sym same.0) w)
+
+-- a comment that something follows is one
+comment_followed : (line more : List ℕ) → BeginsComment line → BeginsComment (line ++ more)
+comment_followed line more h = (h.0 ++ more, ap (λ t. t ++ more) h.1)
+
+pub no_blank_left : {text rest : List ℕ} → HasBlanks text rest → HasNoSpace text → (BeginsComment text → ⊥) → rest ≡ text
+no_blank_left (nothing text) s k = refl
+no_blank_left (space c text rest w h) s k = absurd (s c text w refl)
+no_blank_left (comment line text rest b i h) s k = absurd (k (comment_followed line (10 ∷ text) b))
+no_blank_left (last_comment line b i) s k = absurd (k b)
+
+-- ---- lines
 
 -- what `split_once` says of a line feed
 pub line_found : (text front later : List ℕ)

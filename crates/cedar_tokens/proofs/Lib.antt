@@ -1,9 +1,11 @@
 pub mod BlankLemmas
 pub mod EscapeTexts
 pub mod FirstPieceLemmas
+pub mod FirstTokenLemmas
 pub mod Lines
 pub mod Pairs
 pub mod ReadingLemmas
 pub mod Room
+pub mod Signs
 pub mod Taken
 pub mod TokenPlacesLemmas

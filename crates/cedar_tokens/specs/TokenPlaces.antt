@@ -1,30 +1,44 @@
 -- Where the tokens of a text stand.
 use Rattle.std.specs.Prelude.{◌≡◌, ℕ, ◌+◌, ◌-◌, ◌<◌, ◌≤◌, List, [], ◌∷◌, ◌++◌, length, ⊤}
-use Rattle.cedar_tokens.specs.Blanks.{IsBlank}
+use Rattle.cedar_tokens.specs.Blanks.{HasBlanks, HasNoBlank}
+use Rattle.cedar_tokens.specs.Grammar.{HasNoToken, IsLongestIn, IsTokenText}
 use Rattle.cedar_tokens.specs.declared.refusal.Refusal.{Refusal}
 use Rattle.cedar_tokens.specs.declared.refusal.Refusal.TheVariants as refusal
 use Rattle.cedar_tokens.specs.declared.token.Token.{Token}
 
--- the token is what the text begins with, and the rest follows it; the text begins at this place
+-- the token is the longest that the text begins with, and the rest follows it; the text begins at this place
 abbrev pub IsTokenAt : ℕ → List ℕ → Token → List ℕ → Type 0
 IsTokenAt at text t rest =
     (t.span.start ≡ at) × (t.span.stop ≡ at + length t.text.now) × (0 < length t.text.now) × (text ≡ t.text.now ++ rest)
+    × IsTokenText t.text.now t.kind × IsLongestIn text t.text.now
 
--- the text is blanks and the tokens, each where its span says; the text begins at this place
-abbrev pub AreTokens : ℕ → List ℕ → List Token → Type 0
-AreTokens at text [] = IsBlank text
-AreTokens at text (t ∷ ts) =
-    (gap : List ℕ) × (later : List ℕ) × (rest : List ℕ)
-    × (text ≡ gap ++ later) × IsBlank gap × IsTokenAt (at + length gap) later t rest × AreTokens t.span.stop rest ts
+-- the text is the tokens, each where its span says, with blanks around them, and then the rest; the text begins at
+-- this place
+abbrev pub AreTokensBefore : ℕ → List ℕ → List Token → List ℕ → Type 0
+AreTokensBefore at text [] rest = HasBlanks text rest
+AreTokensBefore at text (t ∷ ts) rest =
+    (here : List ℕ) × (later : List ℕ) × HasBlanks text here
+    × IsTokenAt (at + (length text - length here)) here t later × AreTokensBefore t.span.stop later ts rest
 
--- the tokens, and then those of the rest, are those of the text
-abbrev pub AreTokensBefore : List ℕ → List Token → List ℕ → Type 0
-AreTokensBefore text ts rest = (us : List Token) → AreTokens (length text - length rest) rest us → AreTokens 0 text (ts ++ us)
+-- the text is the tokens, each where its span says, with blanks around them
+abbrev pub AreTokens : List ℕ → List Token → Type 0
+AreTokens text ts = AreTokensBefore 0 text ts []
 
--- a refusal tells of a piece of the text, which begins at this place
+-- the refusal tells of a piece with which the text begins, which begins at this place
 abbrev pub IsRefusalAt : ℕ → List ℕ → Refusal → Type 0
-IsRefusalAt at text (refusal.Syntax span problem) = (at ≤ span.start) × (span.start ≤ span.stop) × (span.stop ≤ at + length text)
-IsRefusalAt at text refusal.Memory = ⊤
+IsRefusalAt at text (refusal.Syntax span problem) = (span.start ≡ at) × (at ≤ span.stop) × (span.stop ≤ at + length text)
+IsRefusalAt at text refusal.Memory = ⊥
+
+-- no token begins here, and the refusal tells of a piece that begins here
+abbrev pub IsUnread : ℕ → List ℕ → Refusal → Type 0
+IsUnread at text e = HasNoToken text × IsRefusalAt at text e
+
+-- behind tokens and blanks something is left with which no token begins; want of memory says nothing
+abbrev pub IsStuckIn : List ℕ → Refusal → Type 0
+IsStuckIn text (refusal.Syntax span problem) =
+    (ts : List Token) × (rest : List ℕ) × AreTokensBefore 0 text ts rest × (0 < length rest) × HasNoBlank rest
+    × IsUnread (length text - length rest) rest (refusal.Syntax span problem)
+IsStuckIn text refusal.Memory = ⊤
 
 -- it tells of the piece that begins here and is so long
 abbrev pub IsPieceFrom : ℕ → ℕ → Refusal → Type 0

@@ -1,22 +1,52 @@
 //! From texts to tokens.
-ghost use Rattle.std.specs.Prelude.{◌≡◌, ◌+◌, ◌<◌, ◌≤◌, ◌^◌, IsTrue, MatchResult, length, ⊤};
-ghost use Rattle.cedar_tokens.specs.Blanks.{BeginsComment, IsBehindLine, SkipsBlanks};
+ghost use Rattle.std.specs.Prelude.{
+  ◌≡◌,
+  ◌&&◌,
+  ◌==◌,
+  ◌↔◌,
+  ◌+◌,
+  ◌<◌,
+  ◌≤◌,
+  ◌^◌,
+  IfSome,
+  IsTrue,
+  MatchResult,
+  None,
+  Some,
+  false,
+  length,
+  not,
+  ⊤,
+};
+ghost use Rattle.std.specs.List.{prefix_len};
+ghost use Rattle.cedar_tokens.specs.Blanks.{
+  BeginsComment,
+  HasBlanks,
+  HasNoBlank,
+  HasNoSpace,
+  IsBehindLine,
+};
+ghost use Rattle.cedar_tokens.specs.FirstTokens.{full_kind, lexeme_at, quoted_len};
+ghost use Rattle.cedar_tokens.specs.Grammar.{begins_word, goes_on};
 ghost use Rattle.cedar_tokens.specs.TokenPlaces.{
   AreTokens,
   IsPieceFrom,
   IsRefusalAt,
+  IsStuckIn,
   IsTokenAt,
+  IsUnread,
 };
 
 use crate::refusal::Refusal;
 use crate::token::{Kind, Span, Token, sign_at, word_kind};
 use std::alloc::Global;
 
-/// The tokens of a text, with blanks and comments left out.
+/// The tokens of a text, each the longest that begins there; white space and comments are left out.
+/// A text is refused where something is left with which no token begins.
 pub fn scan(alloc: Global, text: &str) -> Result<Vec<Token<'_>>, Refusal>
     ensures { MatchResult result
-        (λ tokens. AreTokens 0 text.now tokens.items)
-        (IsRefusalAt 0 text.now) }
+        (λ tokens. AreTokens text.now tokens.items)
+        (IsStuckIn text.now) }
 {
     let mut tokens = Vec::new(alloc);
     let mut rest = skip_blanks(text);
@@ -31,7 +61,8 @@ pub fn scan(alloc: Global, text: &str) -> Result<Vec<Token<'_>>, Refusal>
 
 // What follows the blanks and comments that a text begins with.
 fn skip_blanks(text: &str) -> &str
-    ensures { SkipsBlanks text.now result.now }
+    ensures skips { HasBlanks text.now result.now }
+    ensures all { HasNoBlank result.now }
 {
     let mut rest = skip_spaces(text);
     'comments: while begins_comment(rest) {
@@ -43,14 +74,15 @@ fn skip_blanks(text: &str) -> &str
 // What follows the white space that a text begins with.
 fn skip_spaces(text: &str) -> &str
     ensures shorter { length result.now ≤ length text.now }
-    ensures skips { SkipsBlanks text.now result.now }
+    ensures skips { HasBlanks text.now result.now }
+    ensures all { HasNoSpace result.now }
 {
     text.trim_start()
 }
 
 // Whether a text begins with a comment.
 fn begins_comment(text: &str) -> bool
-    ensures { IsTrue result → BeginsComment text.now }
+    ensures { IsTrue result ↔ BeginsComment text.now }
 {
     text.starts_with("//")
 }
@@ -70,18 +102,17 @@ fn first_token(text: &str, start: usize) -> Result<(Token<'_>, &str), Refusal>
     requires { start + length text.now < 2 ^ 64 }
     ensures { MatchResult result
         (λ x. IsTokenAt start text.now x.0 x.1.now)
-        (IsRefusalAt start text.now) }
+        (IsUnread start text.now) }
 {
     let (kind, length) = lexeme(text, start)?;
-    match text.split_at_checked(length) {
-        Some((word, later)) if !word.is_empty() => Ok((token(kind, word, start), later)),
-        _ => Err(unknown(text, start)),
-    }
+    let (word, later) = text.split_at(length);
+    Ok((token(kind, word, start), later))
 }
 
 // The token of this text, which begins here.
 fn token(kind: Kind, text: &str, start: usize) -> Token<'_>
     requires { start + length text.now < 2 ^ 64 }
+    ensures kind { result.kind ≡ full_kind kind text.now }
     ensures text { result.text.now ≡ text.now }
     ensures start { result.span.start ≡ start }
     ensures stop { result.span.stop ≡ start + length text.now }
@@ -100,46 +131,70 @@ fn token(kind: Kind, text: &str, start: usize) -> Token<'_>
 
 // The kind and the length of the token that a text begins with. A word of the grammar counts as an
 // identifier here.
+#[tactic(auto, unfolding(crate::specs::FirstTokens::lexeme_at))]
 fn lexeme(text: &str, start: usize) -> Result<(Kind, usize), Refusal>
     requires { start + length text.now < 2 ^ 64 }
-    ensures { MatchResult result (λ _. ⊤) (IsRefusalAt start text.now) }
+    ensures kind { MatchResult result
+        (λ x. lexeme_at text.now ≡ Some x)
+        (λ _. lexeme_at text.now ≡ None) }
+    ensures place { MatchResult result (λ _. ⊤) (IsRefusalAt start text.now) }
 {
-    let bytes = text.as_bytes();
-    match bytes {
+    match text.as_bytes() {
         [b'"', later @ ..] => match quoted_length(later) {
-            Some(length) => Ok((Kind::Quoted, length.saturating_add(1))),
+            Some(length) => Ok((Kind::Quoted, length + 1)),
             None => Err(refusal(start, 1, "this text has no closing quote")),
         },
-        [b'?', later @ ..] => Ok((Kind::Slot, word_length(later).saturating_add(1))),
-        [b'0'..=b'9', later @ ..] => Ok((Kind::Digits, word_length(later).saturating_add(1))),
-        [b'a'..=b'z' | b'A'..=b'Z' | b'_', later @ ..] => {
-            Ok((Kind::Word, word_length(later).saturating_add(1)))
+        [b'?', later @ ..] => Ok((Kind::Slot, word_length(later) + 1)),
+        [first, later @ ..] if first.is_ascii_digit() => {
+            Ok((Kind::Digits, word_length(later) + 1))
         }
+        [first, later @ ..] if starts_word(*first) => Ok((Kind::Word, word_length(later) + 1)),
         _ => sign_at(text).ok_or(unknown(text, start)),
     }
 }
 
+// Whether a word begins with this byte.
+fn starts_word(byte: u8) -> bool
+    ensures { result ≡ begins_word byte }
+{
+    byte.is_ascii_alphabetic() || byte == b'_'
+}
+
+// Whether a word goes on with this byte.
+fn is_in_word(byte: u8) -> bool
+    ensures { result ≡ goes_on byte }
+{
+    byte.is_ascii_alphanumeric() || byte == b'_'
+}
+
 // The length of the letters, digits and underscores at the beginning.
-fn word_length(bytes: &[u8]) -> usize {
-    bytes
-        .iter()
-        .take_while(|byte| byte.is_ascii_alphanumeric() || **byte == b'_')
-        .count()
+fn word_length(bytes: &[u8]) -> usize
+    ensures exact { result ≡ prefix_len goes_on bytes.now }
+    ensures bound { result ≤ length bytes.now }
+{
+    bytes.iter().take_while(|byte| is_in_word(**byte)).count()
 }
 
 // The length up to and with the closing quote, if there is one.
-fn quoted_length(bytes: &[u8]) -> Option<usize> {
+fn quoted_length(bytes: &[u8]) -> Option<usize>
+    ensures exact { result ≡ quoted_len false bytes.now }
+    ensures bound { IfSome result (λ n. n ≤ length bytes.now) }
+{
     let mut is_escaped = false;
     for (at, byte) in bytes.iter().enumerate() {
-        if is_escaped {
-            is_escaped = false;
-        } else if *byte == b'\\' {
-            is_escaped = true;
-        } else if *byte == b'"' {
-            return Some(at.saturating_add(1));
+        if counts_as(*byte, b'"', is_escaped) {
+            return Some(at + 1);
         }
+        is_escaped = counts_as(*byte, b'\\', is_escaped);
     }
     None
+}
+
+// Whether a byte is this one, and no backslash stands before it.
+fn counts_as(byte: u8, wanted: u8, is_escaped: bool) -> bool
+    ensures { result ≡ (not is_escaped && byte == wanted) }
+{
+    !is_escaped && byte == wanted
 }
 
 // A character that no token begins with.

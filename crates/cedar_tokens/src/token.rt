@@ -1,6 +1,7 @@
 //! What a text in Cedar's syntax is made of.
 ghost use Rattle.std.specs.Prelude.{◌≡◌};
-ghost use Rattle.cedar_tokens.specs.Kinds.{word_kind_of};
+ghost use Rattle.cedar_tokens.specs.FirstTokens.{longest_sign, sign_of};
+ghost use Rattle.cedar_tokens.specs.Kinds.{sign_kind_of, word_kind_of};
 
 /// What a token is.
 #[derive(Clone, Copy, PartialEq, Eq)]
@@ -78,32 +79,6 @@ pub struct Token<'a> {
     pub span: Span,
 }
 
-// The signs; one that begins another stands behind it.
-const SIGNS: [(&str, Kind); 22] = [
-    ("||", Kind::OrSign),
-    ("&&", Kind::AndSign),
-    ("==", Kind::Equal),
-    ("!=", Kind::NotEqual),
-    ("<=", Kind::LessEqual),
-    (">=", Kind::GreaterEqual),
-    ("::", Kind::Colons),
-    ("<", Kind::Less),
-    (">", Kind::Greater),
-    ("+", Kind::Plus),
-    ("-", Kind::Minus),
-    ("*", Kind::Times),
-    ("!", Kind::Not),
-    (".", Kind::Dot),
-    (",", Kind::Comma),
-    (":", Kind::Colon),
-    ("(", Kind::OpenRound),
-    (")", Kind::CloseRound),
-    ("[", Kind::OpenSquare),
-    ("]", Kind::CloseSquare),
-    ("{", Kind::OpenCurly),
-    ("}", Kind::CloseCurly),
-];
-
 /// What a word of letters, digits and underscores is.
 pub(crate) fn word_kind(word: &str) -> Kind
     ensures { result ≡ word_kind_of word.now }
@@ -123,12 +98,53 @@ pub(crate) fn word_kind(word: &str) -> Kind
     }
 }
 
-/// The sign that a text begins with, and its length.
-pub(crate) fn sign_at(text: &str) -> Option<(Kind, usize)> {
-    for (sign, kind) in SIGNS {
-        if text.starts_with(sign) {
-            return Some((kind, sign.len()));
-        }
+/// The longest sign that a text begins with, and its length.
+pub(crate) fn sign_at(text: &str) -> Option<(Kind, usize)>
+    ensures { result ≡ longest_sign text.now }
+{
+    match sign_of(text, 2) {
+        Some(sign) => Some(sign),
+        None => sign_of(text, 1),
     }
-    None
+}
+
+// The sign of this length.
+fn sign_of(text: &str, width: usize) -> Option<(Kind, usize)>
+    ensures { result ≡ sign_of width text.now }
+{
+    match text.split_at_checked(width) {
+        Some((sign, _)) => Some((sign_kind(sign)?, width)),
+        None => None,
+    }
+}
+
+// What a sign is.
+fn sign_kind(sign: &str) -> Option<Kind>
+    ensures { result ≡ sign_kind_of sign.now }
+{
+    match sign {
+        "||" => Some(Kind::OrSign),
+        "&&" => Some(Kind::AndSign),
+        "==" => Some(Kind::Equal),
+        "!=" => Some(Kind::NotEqual),
+        "<=" => Some(Kind::LessEqual),
+        ">=" => Some(Kind::GreaterEqual),
+        "::" => Some(Kind::Colons),
+        "<" => Some(Kind::Less),
+        ">" => Some(Kind::Greater),
+        "+" => Some(Kind::Plus),
+        "-" => Some(Kind::Minus),
+        "*" => Some(Kind::Times),
+        "!" => Some(Kind::Not),
+        "." => Some(Kind::Dot),
+        "," => Some(Kind::Comma),
+        ":" => Some(Kind::Colon),
+        "(" => Some(Kind::OpenRound),
+        ")" => Some(Kind::CloseRound),
+        "[" => Some(Kind::OpenSquare),
+        "]" => Some(Kind::CloseSquare),
+        "{" => Some(Kind::OpenCurly),
+        "}" => Some(Kind::CloseCurly),
+        _ => None,
+    }
 }

@@ -1,6 +1,7 @@
-use Rattle.std.proofs.Common.{◌≤◌, length}
 use denote.Text.{Utf8}
 use denote.Shadow.{shadow}
+use Rattle.std.proofs.Common.{◌≤◌, length}
+use Rattle.cedar_tokens.specs.Blanks.{HasNoBlank}
 use Rattle.cedar_tokens.specs.TokenPlaces.{AreTokensBefore}
 use Rattle.cedar_tokens.proofs.scanner.scan.Given as goal
 
@@ -9,7 +10,8 @@ abbrev pub invariant-tokens : goal.invariant-tokens
 invariant-tokens l = record {
   rest_utf8 : shadow (Utf8 l.rest);
   shorter : length l.rest ≤ length l.text;
-  so_far : AreTokensBefore l.text l.tokens.items l.rest;
+  no_blank : HasNoBlank l.rest;
+  so_far : AreTokensBefore 0 l.text l.tokens.items l.rest;
 }
 
 abbrev pub decreases-tokens : goal.decreases-tokens
