@@ -1,7 +1,9 @@
 -- How far texts are read, and which tokens are taken.
-use Rattle.std.specs.Prelude.{◌≡◌, ℕ, List, [], ◌∷◌, ◌<◌, length}
+use Rattle.std.specs.Prelude.{◌≡◌, ℕ, ◌-◌, List, [], ◌∷◌, ◌<◌, length, slice_get}
+use Rattle.std.specs.Option.{option_map_or}
 use Rattle.std.specs.Str.{chars}
 use Rattle.cedar_tokens.specs.declared.token.Kind.{Kind}
+use Rattle.cedar_tokens.specs.declared.token.Kind.TheVariants as kinds
 use Rattle.cedar_tokens.specs.declared.token.Token.{Token}
 use Rattle.cedar_tokens.specs.declared.tokens.Tokens.{Tokens}
 
@@ -20,6 +22,15 @@ tokens_left t = length (rest_of t)
 -- what stands behind the last token
 abbrev pub end_of : Tokens → Token
 end_of t = t.end
+
+-- where the last of the tokens ends
+abbrev pub last_stop : List Token → ℕ
+last_stop ts = option_map_or (λ t. t.span.stop) (slice_get ts (length ts - 1)) 0
+
+-- it is no token, but the place behind the last one
+abbrev pub IsEndBehind : List Token → Token → Type 0
+IsEndBehind ts end =
+    (end.kind ≡ kinds.End) × (end.text.now ≡ []) × (end.span.start ≡ last_stop ts) × (end.span.stop ≡ last_stop ts)
 
 -- the first of the tokens, or what stands behind them
 abbrev pub first_or : Token → List Token → Token

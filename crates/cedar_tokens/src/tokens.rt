@@ -16,9 +16,11 @@ ghost use Rattle.cedar_tokens.specs.Told.{IsProblem};
 ghost use Rattle.cedar_tokens.specs.Pieces.{
   BeginsWith,
   BeginsWithPair,
+  IsEndBehind,
   IsPairTaken,
   IsTaken,
   IsUntouched,
+  end_of,
   next_of,
   rest_of,
   tokens_left,
@@ -40,6 +42,7 @@ impl<'a> Tokens<'a> {
     pub fn new(tokens: &'a [Token<'a>]) -> Tokens<'a>
         ensures left { tokens_left result ≡ length tokens.now }
         ensures all { rest_of result ≡ tokens.now }
+        ensures end { IsEndBehind tokens.now (end_of result) }
     {
         let at = tokens.last().map_or(0, |last| last.span.stop);
         Tokens {
