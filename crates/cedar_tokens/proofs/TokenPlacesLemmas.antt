@@ -1,11 +1,12 @@
 -- Tokens are found one by one.
-use Rattle.std.proofs.Common.{◌≡◌, ℕ, ◌+◌, ◌-◌, ◌<◌, ◌≤◌, List, [], ◌∷◌, ◌++◌, length, sym, subst, arith}
+use Rattle.std.proofs.Common.{◌≡◌, ℕ, ◌+◌, ◌-◌, ◌<◌, ◌≤◌, List, [], ◌∷◌, ◌++◌, length, length-append, sym, ◌∙◌, ap, subst, arith}
+use Rattle.std.specs.Char.{encode_utf8, len_utf8}
+use Rattle.std.specs.Str.{IsUtf8, chars, encode_utf8_all}
 use Rattle.std.proofs.lemmas.List.{nil_from_length}
+use Rattle.std.proofs.lemmas.Str.{encodes-chars, length-encode}
 use Rattle.cedar_tokens.proofs.BlankLemmas.{parts_length, rest_fits}
-use Rattle.cedar_tokens.specs.Blanks.{HasBlanks, HasNoBlank}
-use Rattle.cedar_tokens.specs.TokenPlaces.{AreTokens, AreTokensBefore, IsStuckIn, IsTokenAt, IsUnread}
-use Rattle.cedar_tokens.specs.declared.refusal.Refusal.{Refusal}
-use Rattle.cedar_tokens.specs.declared.refusal.Refusal.TheVariants as refusal
+use Rattle.cedar_tokens.specs.Blanks.{HasBlanks}
+use Rattle.cedar_tokens.specs.TokenPlaces.{AreTokens, AreTokensBefore, IsTokenAt}
 use Rattle.cedar_tokens.specs.declared.token.Token.{Token}
 
 -- what is left is no longer than the text
@@ -47,8 +48,8 @@ next_shorter rest later next at t here s =
 pub tokens_end : (text rest : List ℕ) (ts : List Token) → AreTokensBefore 0 text ts rest → length rest ≡ 0 → AreTokens text ts
 tokens_end text rest ts before none = subst (λ r. AreTokensBefore 0 text ts r) (nil_from_length rest none) before
 
--- no token begins with what is left
-pub tokens_stop : (text rest : List ℕ) (ts : List Token) (e : Refusal) → AreTokensBefore 0 text ts rest → 0 < length rest → HasNoBlank rest
-    → IsUnread (length text - length rest) rest e → IsStuckIn text e
-tokens_stop text rest ts (refusal.Syntax span problem) before some blank h = (ts, rest, before, some, blank, h)
-tokens_stop text rest ts refusal.Memory before some blank h = absurd h.1
+-- the first character is no longer than the text
+pub first_fits : (text cs : List ℕ) (c : ℕ) → IsUtf8 text → chars text ≡ c ∷ cs → len_utf8 c ≤ length text
+first_fits text cs c u e =
+    let l = length-append (encode_utf8 c) (encode_utf8_all cs) in
+    let whole = ap length (sym (ap encode_utf8_all e) ∙ encodes-chars text u) in omega (arith, l, whole, length-encode c)

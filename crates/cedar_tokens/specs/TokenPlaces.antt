@@ -1,5 +1,7 @@
 -- Where the tokens of a text stand.
-use Rattle.std.specs.Prelude.{◌≡◌, ℕ, ◌+◌, ◌-◌, ◌<◌, ◌≤◌, List, [], ◌∷◌, ◌++◌, length, ⊤}
+use Rattle.std.specs.Prelude.{◌≡◌, ◌==◌, codes, if◌then◌else◌, slice_index, ℕ, ◌+◌, ◌-◌, ◌<◌, ◌≤◌, List, [], ◌∷◌, ◌++◌, length, ⊤}
+use Rattle.std.specs.Char.{len_utf8}
+use Rattle.std.specs.Str.{chars}
 use Rattle.cedar_tokens.specs.Blanks.{HasBlanks, HasNoBlank}
 use Rattle.cedar_tokens.specs.Grammar.{HasNoToken, IsLongestIn, IsTokenText}
 use Rattle.cedar_tokens.specs.declared.refusal.Refusal.{Refusal}
@@ -24,14 +26,25 @@ AreTokensBefore at text (t ∷ ts) rest =
 abbrev pub AreTokens : List ℕ → List Token → Type 0
 AreTokens text ts = AreTokensBefore 0 text ts []
 
--- the refusal tells of a piece with which the text begins, which begins at this place
-abbrev pub IsRefusalAt : ℕ → List ℕ → Refusal → Type 0
-IsRefusalAt at text (refusal.Syntax span problem) = (span.start ≡ at) × (at ≤ span.stop) × (span.stop ≤ at + length text)
-IsRefusalAt at text refusal.Memory = ⊥
+-- how many bytes the first of these characters takes
+abbrev pub first_width : List ℕ → ℕ
+first_width [] = 0
+first_width (c ∷ cs) = len_utf8 c
 
--- no token begins here, and the refusal tells of a piece that begins here
+-- the refusal tells this of the first character of the text, which begins at this place
+abbrev pub IsToldAt : ℕ → List ℕ → List ℕ → Refusal → Type 0
+IsToldAt at text told (refusal.Syntax span problem) =
+    (span.start ≡ at) × (span.stop ≡ at + first_width (chars text)) × (span.stop ≤ at + length text) × (problem.now ≡ told)
+IsToldAt at text told refusal.Memory = ⊥
+
+-- what is told where no token begins
+abbrev pub problem_of : List ℕ → List ℕ
+problem_of text =
+    if slice_index text 0 == 34 then codes "this text has no closing quote" else codes "no expression has this character"
+
+-- no token begins here, and the refusal tells so
 abbrev pub IsUnread : ℕ → List ℕ → Refusal → Type 0
-IsUnread at text e = HasNoToken text × IsRefusalAt at text e
+IsUnread at text e = HasNoToken text × IsToldAt at text (problem_of text) e
 
 -- behind tokens and blanks something is left with which no token begins; want of memory says nothing
 abbrev pub IsStuckIn : List ℕ → Refusal → Type 0
@@ -39,8 +52,3 @@ IsStuckIn text (refusal.Syntax span problem) =
     (ts : List Token) × (rest : List ℕ) × AreTokensBefore 0 text ts rest × (0 < length rest) × HasNoBlank rest
     × IsUnread (length text - length rest) rest (refusal.Syntax span problem)
 IsStuckIn text refusal.Memory = ⊤
-
--- it tells of the piece that begins here and is so long
-abbrev pub IsPieceFrom : ℕ → ℕ → Refusal → Type 0
-IsPieceFrom start len (refusal.Syntax span problem) = (span.start ≡ start) × (span.stop ≡ start + len)
-IsPieceFrom start len refusal.Memory = ⊥

@@ -13,12 +13,14 @@ ghost use Rattle.std.specs.Prelude.{
   MatchResult,
   None,
   Some,
+  codes,
   false,
   length,
   not,
   ⊤,
 };
 ghost use Rattle.std.specs.List.{prefix_len};
+ghost use Rattle.std.specs.Str.{chars};
 ghost use Rattle.cedar_tokens.specs.Blanks.{
   BeginsComment,
   HasBlanks,
@@ -26,19 +28,21 @@ ghost use Rattle.cedar_tokens.specs.Blanks.{
   HasNoSpace,
   IsBehindLine,
 };
-ghost use Rattle.cedar_tokens.specs.FirstTokens.{full_kind, lexeme_at, quoted_len};
+ghost use Rattle.cedar_tokens.specs.FirstTokens.{full_kind, lexeme_at, longest_sign, quoted_len};
 ghost use Rattle.cedar_tokens.specs.Grammar.{begins_word, goes_on};
 ghost use Rattle.cedar_tokens.specs.TokenPlaces.{
   AreTokens,
-  IsPieceFrom,
-  IsRefusalAt,
   IsStuckIn,
+  IsToldAt,
   IsTokenAt,
   IsUnread,
+  first_width,
+  problem_of,
 };
 
 use crate::refusal::Refusal;
 use crate::token::{Kind, Span, Token, sign_at, word_kind};
+use cedar_terms::first_char;
 use std::alloc::Global;
 
 /// The tokens of a text, each the longest that begins there; white space and comments are left out.
@@ -137,19 +141,35 @@ fn lexeme(text: &str, start: usize) -> Result<(Kind, usize), Refusal>
     ensures kind { MatchResult result
         (λ x. lexeme_at text.now ≡ Some x)
         (λ _. lexeme_at text.now ≡ None) }
-    ensures place { MatchResult result (λ _. ⊤) (IsRefusalAt start text.now) }
+    ensures told { MatchResult result (λ _. ⊤)
+        (IsToldAt start text.now (problem_of text.now)) }
 {
     match text.as_bytes() {
         [b'"', later @ ..] => match quoted_length(later) {
             Some(length) => Ok((Kind::Quoted, length + 1)),
-            None => Err(refusal(start, 1, "this text has no closing quote")),
+            None => Err(refusal(text, start, "this text has no closing quote")),
         },
         [b'?', later @ ..] => Ok((Kind::Slot, word_length(later) + 1)),
         [first, later @ ..] if first.is_ascii_digit() => {
             Ok((Kind::Digits, word_length(later) + 1))
         }
         [first, later @ ..] if starts_word(*first) => Ok((Kind::Word, word_length(later) + 1)),
-        _ => sign_at(text).ok_or(unknown(text, start)),
+        _ => sign(text, start),
+    }
+}
+
+// The kind and the length of the sign that a text begins with.
+fn sign(text: &str, start: usize) -> Result<(Kind, usize), Refusal>
+    requires { start + length text.now < 2 ^ 64 }
+    ensures kind { MatchResult result
+        (λ x. longest_sign text.now ≡ Some x)
+        (λ _. longest_sign text.now ≡ None) }
+    ensures told { MatchResult result (λ _. ⊤)
+        (IsToldAt start text.now (codes "no expression has this character")) }
+{
+    match sign_at(text) {
+        Some(sign) => Ok(sign),
+        None => Err(refusal(text, start, "no expression has this character")),
     }
 }
 
@@ -197,24 +217,22 @@ fn counts_as(byte: u8, wanted: u8, is_escaped: bool) -> bool
     !is_escaped && byte == wanted
 }
 
-// A character that no token begins with.
-fn unknown(text: &str, start: usize) -> Refusal
+// This problem with the first character of a text.
+fn refusal(text: &str, start: usize, problem: &'static str) -> Refusal
     requires { start + length text.now < 2 ^ 64 }
-    ensures { IsRefusalAt start text.now result }
+    ensures { IsToldAt start text.now problem.now result }
 {
-    let length = text.chars().next().map_or(0, |c| c.len_utf8());
-    refusal(
-        start,
-        length.min(text.len()),
-        "no expression has this character",
-    )
+    let stop = start + first_width(text);
+    Refusal::Syntax(Span { start, stop }, problem)
 }
 
-// A problem with a piece that begins here.
-fn refusal(start: usize, length: usize, problem: &'static str) -> Refusal
-    requires { start + length < 2 ^ 64 }
-    ensures { IsPieceFrom start length result }
+// How many bytes the first character of a text takes.
+fn first_width(text: &str) -> usize
+    ensures exact { result ≡ first_width (chars text.now) }
+    ensures bound { result ≤ length text.now }
 {
-    let stop = start + length;
-    Refusal::Syntax(Span { start, stop }, problem)
+    match first_char(text) {
+        Some((c, _)) => c.len_utf8(),
+        None => 0,
+    }
 }

@@ -6,7 +6,7 @@ use Rattle.cedar_tokens.proofs.scanner.first_token.Goals as goal
 pub returns-in_err-kind : goal.returns-in_err-kind
 returns-in_err-kind c =
     let same : c.from_residual.result ≡ Err c.in_err-kind.field-0.0 = search rules in
-    rw same (no_lexeme c.args.text.now c.in_err-kind.ensures.kind, c.in_err-kind.ensures.place)
+    rw same (no_lexeme c.args.text.now c.in_err-kind.ensures.kind, c.in_err-kind.ensures.told)
 
 pub split_at-requires : goal.split_at-requires
 split_at-requires c = lexeme_cut c.args.text.now c.in_ok-kind.kind c.in_ok-kind.length c.utf8.text c.in_ok-kind.ensures.kind
