@@ -329,20 +329,20 @@ lexeme_first (b ∷ bs) k n e =
 abbrev IsFoundFrom : List ℕ → ℕ → Type 0
 IsFoundFrom text n = (k : Kind) × (m : ℕ) × (lexeme_at text ≡ Some (k, m)) × (n ≤ m)
 
-at_digit : (b : ℕ) (bs : List ℕ) → is_ascii_digit b ≡ true → lexeme_at (b ∷ bs) ≡ Some (kinds.Digits, prefix_len goes_on bs + 1)
+pub at_digit : (b : ℕ) (bs : List ℕ) → is_ascii_digit b ≡ true → lexeme_at (b ∷ bs) ≡ Some (kinds.Digits, prefix_len goes_on bs + 1)
 unfolding lexeme_at
 at_digit b bs h =
     let q : (b == 34) ≡ false = grind (arith, nat_tests) in
     let s : (b == 63) ≡ false = grind (arith, nat_tests) in rw (q, s, h) refl
 
-at_letter : (b : ℕ) (bs : List ℕ) → begins_word b ≡ true → lexeme_at (b ∷ bs) ≡ Some (kinds.Word, prefix_len goes_on bs + 1)
+pub at_letter : (b : ℕ) (bs : List ℕ) → begins_word b ≡ true → lexeme_at (b ∷ bs) ≡ Some (kinds.Word, prefix_len goes_on bs + 1)
 unfolding lexeme_at
 at_letter b bs h =
     let q : (b == 34) ≡ false = grind (arith, nat_tests) in
     let s : (b == 63) ≡ false = grind (arith, nat_tests) in
     let d : is_ascii_digit b ≡ false = grind (arith, nat_tests) in rw (q, s, d, h) refl
 
-at_sign : (b : ℕ) (bs : List ℕ) → begins_sign b ≡ true → lexeme_at (b ∷ bs) ≡ longest_sign (b ∷ bs)
+pub at_sign : (b : ℕ) (bs : List ℕ) → begins_sign b ≡ true → lexeme_at (b ∷ bs) ≡ longest_sign (b ∷ bs)
 unfolding lexeme_at
 at_sign b bs h =
     let q : (b == 34) ≡ false = grind (arith, nat_tests) in
@@ -350,12 +350,12 @@ at_sign b bs h =
     let d : is_ascii_digit b ≡ false = grind (arith, nat_tests) in
     let w : begins_word b ≡ false = grind (arith, nat_tests) in rw (q, s, d, w) refl
 
-at_quote : (inside rest : List ℕ) → IsBetweenQuotes inside
+pub at_quote : (inside rest : List ℕ) → IsBetweenQuotes inside
     → lexeme_at (34 ∷ (inside ++ (34 ∷ rest))) ≡ Some (kinds.Quoted, (length inside + 1) + 1)
 unfolding lexeme_at
 at_quote inside rest h = ap (option_map (λ n. (kinds.Quoted, n + 1))) (closing_found h rest)
 
-at_slot : (bs : List ℕ) → lexeme_at (63 ∷ bs) ≡ Some (kinds.Slot, prefix_len goes_on bs + 1)
+pub at_slot : (bs : List ℕ) → lexeme_at (63 ∷ bs) ≡ Some (kinds.Slot, prefix_len goes_on bs + 1)
 unfolding lexeme_at
 at_slot bs = refl
 

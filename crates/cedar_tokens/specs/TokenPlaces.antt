@@ -26,6 +26,17 @@ AreTokensBefore at text (t ∷ ts) rest =
 abbrev pub AreTokens : List ℕ → List Token → Type 0
 AreTokens text ts = AreTokensBefore 0 text ts []
 
+-- two tokens are the same: their kinds, their texts and their places
+abbrev pub IsSame : Token → Token → Type 0
+IsSame t u = (t.kind ≡ u.kind) × (t.text.now ≡ u.text.now) × (t.span.start ≡ u.span.start) × (t.span.stop ≡ u.span.stop)
+
+-- two lists have the same tokens
+abbrev pub AreSame : List Token → List Token → Type 0
+AreSame [] [] = ⊤
+AreSame [] (u ∷ us) = ⊥
+AreSame (t ∷ ts) [] = ⊥
+AreSame (t ∷ ts) (u ∷ us) = IsSame t u × AreSame ts us
+
 -- how many bytes the first of these characters takes
 abbrev pub first_width : List ℕ → ℕ
 first_width [] = 0

@@ -1,11 +1,23 @@
-//! Laws of what stands between quotes.
-ghost use Rattle.std.specs.Prelude.{ℕ, List, IsTrue};
+//! Laws of tokens, and of what stands between quotes.
+ghost use Rattle.std.specs.Prelude.{◌≡◌, ℕ, List, IsTrue};
 ghost use Rattle.std.specs.Str.{chars, encode_utf8_all, IsUtf8};
 ghost use Rattle.cedar_terms.specs.Escape.{escaped};
 ghost use Rattle.cedar_terms.specs.Patterns.{pattern_text};
 ghost use Rattle.cedar_tokens.specs.Escapes.{IsInsideOfText, IsInsideOfPattern, has_scalars};
+ghost use Rattle.cedar_tokens.specs.TokenPlaces.{AreSame, AreTokens, IsStuckIn};
+ghost use Rattle.cedar_tokens.specs.declared.refusal.Refusal.TheVariants.{Memory};
 
+use crate::refusal::Refusal;
+use crate::token::Token;
 use cedar_terms::PatternElem;
+
+/// A text is cut into tokens in one way, and one that is cut so is refused only for want of memory.
+pub fn tokens_are_unique()
+    ensures same { (text : List ℕ) (ts us : List Token) →
+        AreTokens text ts → AreTokens text us → AreSame ts us }
+    ensures accepted { (text : List ℕ) (ts : List Token) (e : Refusal) →
+        AreTokens text ts → IsStuckIn text e → e ≡ Memory }
+{}
 
 /// What is written between quotes stands for the text, or the pattern, that was written.
 pub fn texts_read_back()
