@@ -1,6 +1,6 @@
 -- Blanks are skipped one by one.
 use Rattle.std.proofs.Common.{◌≡◌, ℕ, ◌+◌, ◌<◌, ◌≤◌, Bool, true, false, not, eqb, get_or, Some, None, List, [], ◌∷◌, ◌++◌, length, take, drop, refl, sym, ◌∙◌, ap, subst, arith, append_assoc, inl, inr, ⊎_elim}
-use Rattle.std.specs.Prelude.{◌⊎◌, ◌&&◌}
+use Rattle.std.specs.Prelude.{◌&&◌}
 use Rattle.std.specs.Char.{encode_utf8, is_not_whitespace, is_whitespace}
 use Rattle.std.specs.List.{starts_with}
 use Rattle.std.specs.Str.{IsTrimStart, NonePass, encode_utf8_all}
@@ -9,7 +9,7 @@ use Rattle.std.proofs.lemmas.Bool.{eqb-true, false≢true}
 use Rattle.std.proofs.lemmas.List.{length-append, nil_from_length, take-append-drop}
 use Rattle.std.proofs.lemmas.Str.{encode_same, len_utf8_bounds, length-encode}
 use Rattle.std.proofs.lemmas.Str.Pattern.{drop_at_char}
-use Rattle.cedar_tokens.specs.Blanks.{BeginsComment, HasBlanks, HasNoBlank, HasNoSpace, IsBehindLine, IsInLine, nothing, space, comment, last_comment}
+use Rattle.cedar_tokens.specs.Blanks.{BeginsComment, HasBlanks, HasNoSpace, IsBehindLine, IsInLine, nothing, space, comment, last_comment}
 
 assoc : (xs ys zs : List ℕ) → (xs ++ ys) ++ zs ≡ xs ++ (ys ++ zs)
 assoc xs ys zs = simp append_assoc
@@ -125,7 +125,7 @@ no_space_left text rest h c later w e =
     space_passes first.0 first.1 (subst (λ d. is_whitespace d ≡ true) (sym same.0) w)
 
 -- a comment that something follows is one
-comment_followed : (line more : List ℕ) → BeginsComment line → BeginsComment (line ++ more)
+pub comment_followed : (line more : List ℕ) → BeginsComment line → BeginsComment (line ++ more)
 comment_followed line more h = (h.0 ++ more, ap (λ t. t ++ more) h.1)
 
 pub no_blank_left : {text rest : List ℕ} → HasBlanks text rest → HasNoSpace text → (BeginsComment text → ⊥) → rest ≡ text

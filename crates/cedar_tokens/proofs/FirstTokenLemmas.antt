@@ -15,7 +15,7 @@ use Rattle.std.proofs.lemmas.Str.{IsCharBoundary-after_ascii}
 use Rattle.std.proofs.Math.Seq.{drop-cons, get_or-append_seam, take-append_seam}
 use Rattle.std.specs.Cmp.Derive.{both_true}
 use Rattle.cedar_tokens.proofs.FirstPieceLemmas.{both}
-use Rattle.cedar_tokens.proofs.Signs.{begins_sign, is_no_word, is_sign, sign_fits, sign_kept}
+use Rattle.cedar_tokens.proofs.Signs.{begins_sign, is_sign, sign_fits, sign_kept}
 use Rattle.cedar_tokens.specs.FirstTokens.{full_kind, lexeme_at, longest_sign, or_else, quoted_len, sign_of}
 use Rattle.cedar_tokens.specs.Grammar.{HasNoToken, IsBetweenQuotes, IsLongestIn, IsTokenText, begins_word, goes_on, nothing, plain, escaped, word, digits, slot, quoted, sign}
 use Rattle.cedar_tokens.specs.Kinds.{sign_kind_of}

@@ -1,7 +1,7 @@
 -- The first line of a text, and the last one.
-use Rattle.std.proofs.Common.{◌≡◌, ◌≢◌, ℕ, ◌+◌, ◌-◌, ◌<◌, ◌≤◌, Bool, true, false, not, Some, None, List, length, length-drop, get_or, take, drop, refl, sym, ◌∙◌, ap, arith}
-use Rattle.std.specs.List.{after_last, suffix_len}
-use Rattle.std.specs.Str.Pattern.{FindsChar, RFindsChar}
+use Rattle.std.proofs.Common.{◌≡◌, ◌≢◌, ℕ, ◌+◌, ◌-◌, ◌<◌, ◌≤◌, true, false, not, Some, None, List, length, length-drop, get_or, take, drop, sym, ◌∙◌, ap, arith}
+use Rattle.std.specs.List.{suffix_len}
+use Rattle.std.specs.Str.Pattern.{RFindsChar}
 use Rattle.std.specs.Str.{NoCharPasses}
 use Rattle.std.proofs.lemmas.Bool.Decides.{nat_tests}
 use Rattle.std.proofs.lemmas.List.{get_or-drop}

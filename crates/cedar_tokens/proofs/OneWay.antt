@@ -1,27 +1,22 @@
 -- A text is cut into tokens in one way.
-use Rattle.std.proofs.Common.{◌≡◌, ◌≢◌, ℕ, ◌+◌, ◌-◌, ◌<◌, ◌≤◌, Bool, true, false, not, Some, List, [], ◌∷◌, ◌++◌, length, length-append, get_or, take, drop, refl, sym, ◌∙◌, ap, subst, arith}
+use Rattle.std.proofs.Common.{◌≡◌, ℕ, ◌+◌, ◌-◌, ◌<◌, Bool, true, false, not, Some, List, [], ◌∷◌, ◌++◌, length, length-append, get_or, refl, sym, ◌∙◌, ap, subst, arith}
 use Rattle.std.specs.Bool.{◌==◌}
 use Rattle.std.specs.Char.{encode_utf8, is_ascii_digit, is_whitespace}
-use Rattle.std.specs.Str.{NoCharPasses}
-use Rattle.std.proofs.lemmas.Bool.{eqb-true, false≢true}
+use Rattle.std.proofs.lemmas.Bool.{false≢true}
 use Rattle.std.proofs.lemmas.Bool.Decides.{nat_tests}
 use Rattle.std.proofs.lemmas.List.{nil_from_length}
 use Rattle.std.proofs.lemmas.Option.{some_pair_parts}
 use Rattle.std.proofs.lemmas.Str.{char_from_byte, encode_same, len_utf8_bounds, length-encode}
 use Rattle.std.proofs.lemmas.Str.Pattern.{NoCharPasses-char}
 use Rattle.std.proofs.Math.Seq.{get_or-append_seam}
-use Rattle.std.proofs.lemmas.Slice.Eq.{bytes_eq-Decides}
-use Rattle.std.specs.List.{list_all}
-use Rattle.std.specs.Prelude.{◌&&◌, Option, if◌then◌else◌, nat_lt, ⊤}
-use Rattle.std.specs.Str.{bytes_eq}
-use Rattle.std.proofs.lemmas.Option.{same_Some}
-use Rattle.cedar_tokens.proofs.BlankLemmas.{no_blank_left, rest_fits}
+use Rattle.std.specs.Prelude.{◌&&◌, nat_lt}
+use Rattle.cedar_tokens.proofs.BlankLemmas.{comment_followed, no_blank_left, rest_fits}
 use Rattle.cedar_tokens.proofs.FirstPieceLemmas.{both}
 use Rattle.cedar_tokens.proofs.FirstTokenLemmas.{at_digit, at_letter, at_quote, at_sign, at_slot, sign_there}
-use Rattle.cedar_tokens.proofs.Signs.{begins_sign, is_no_word, is_sign, sign_fits, sign_kept}
-use Rattle.cedar_tokens.specs.FirstTokens.{full_kind, lexeme_at, longest_sign, or_else, sign_of}
+use Rattle.cedar_tokens.proofs.Signs.{begins_sign, found_passes, is_sign, sign_fits, sign_kept}
+use Rattle.cedar_tokens.specs.FirstTokens.{full_kind, lexeme_at, or_else, sign_of}
 use Rattle.cedar_tokens.specs.Grammar.{HasNoToken, IsTokenText, begins_word, word, digits, slot, quoted, sign}
-use Rattle.cedar_tokens.specs.Kinds.{looked_up, sign_kind_of, signs}
+use Rattle.cedar_tokens.specs.Kinds.{sign_kind_of, signs}
 use Rattle.cedar_tokens.specs.TokenPlaces.{AreSame, AreTokens, AreTokensBefore, IsSame, IsStuckIn, IsTokenAt}
 use Rattle.cedar_tokens.specs.declared.refusal.Refusal.{Refusal}
 use Rattle.cedar_tokens.specs.declared.refusal.Refusal.TheVariants as refusal
@@ -43,9 +38,6 @@ space_is_no_slash text rest s k =
     let c = char_from_byte text rest s.0 s.2 (omega (arith, first)) some in
     let none : is_whitespace 47 ≡ true = subst (λ d. is_whitespace d ≡ true) (c ∙ first) s.1 in
     false≢true none
-
-comment_with : (line more : List ℕ) → BeginsComment line → BeginsComment (line ++ more)
-comment_with line more h = (h.0 ++ more, ap (λ t. t ++ more) h.1)
 
 -- no line feed is in a line
 no_feed_in : (line front more : List ℕ) → IsInLine line → line ≡ front ++ (10 ∷ more) → ⊥
@@ -82,7 +74,7 @@ after_space (nothing text) rest s none =
     absurd (not_here text rest none b (omega (arith, l, length-encode s.0, (len_utf8_bounds s.0).0)))
 after_space (space d text c w h) rest s none = subst (λ t. HasBlanks t c) (encode_same d s.0 text rest s.2).1 h
 after_space (comment line text c b i h) rest s none =
-    absurd (space_is_no_slash (line ++ (10 ∷ text)) rest s (comment_with line (10 ∷ text) b))
+    absurd (space_is_no_slash (line ++ (10 ∷ text)) rest s (comment_followed line (10 ∷ text) b))
 after_space (last_comment line b i) rest s none = absurd (space_is_no_slash line rest s b)
 
 -- the text begins with a comment and its line feed, and then this
@@ -97,7 +89,7 @@ after_line (nothing text) rest s none =
     absurd (not_here text rest none b (omega arith))
 after_line (space d text c w h) rest s none =
     absurd (space_is_no_slash (encode_utf8 d ++ text) text (d, w, refl)
-    (subst BeginsComment (sym s.3) (comment_with s.0 (10 ∷ rest) s.1)))
+    (subst BeginsComment (sym s.3) (comment_followed s.0 (10 ∷ rest) s.1)))
 after_line (comment line text c b i h) rest s none =
     subst (λ t. HasBlanks t c)
     (same_line line s.0 text rest (λ f m. no_feed_in line f m i) (λ f m. no_feed_in s.0 f m s.2) s.3) h
@@ -126,16 +118,6 @@ abbrev opens : List ℕ → Bool
 opens [] = false
 opens (b ∷ bs) = begins_one b
 
-sign_opens : (s : List ℕ) (kind : Kind) (es : List (List ℕ × Kind)) → list_all (λ (e : List ℕ × Kind). opens e.0) es ≡ true
-    → looked_up s es ≡ Some kind → opens s ≡ true
-sign_opens s kind [] h e = cc
-sign_opens s kind (x ∷ es) h e =
-    let hs = both (opens x.0) (list_all (λ (e : List ℕ × Kind). opens e.0) es) h in
-    elim (bytes_eq s x.0) as (λ v. bytes_eq s x.0 ≡ v → (if v then Some x.1 else looked_up s es) ≡ Some kind → opens s ≡ true) [
-      | true ↦ λ q f. let same : s ≡ x.0 = (bytes_eq-Decides s x.0).0 q in subst (λ t. opens t ≡ true) (sym same) hs.0
-      | false ↦ λ q f. sign_opens s kind es hs.1 f
-    ] refl e
-
 letter_opens : (b : ℕ) → begins_word b ≡ true → begins_one b ≡ true
 letter_opens b h = grind (arith, nat_tests)
 
@@ -147,7 +129,7 @@ token_opens (word b bs h all) = letter_opens b h
 token_opens (digits b bs h all) = digit_opens b h
 token_opens (slot bs all) = refl
 token_opens (quoted inside h) = refl
-token_opens (sign s kind e) = sign_opens s kind signs refl e
+token_opens (sign s kind e) = found_passes (λ x. opens x.0) s kind signs refl e
 
 -- no blank begins so
 no_blank_opens : (v rest : List ℕ) → opens v ≡ true → HasNoBlank (v ++ rest)

@@ -1,7 +1,7 @@
 -- What the table of signs says of each sign.
-use Rattle.std.proofs.Common.{◌≡◌, ℕ, ◌+◌, ◌<◌, ◌≤◌, Bool, true, false, not, Some, None, List, [], ◌∷◌, ◌++◌, length, get_or, refl, sym, ◌∙◌, ap, subst, arith, nat_lt}
+use Rattle.std.proofs.Common.{◌≡◌, ℕ, Bool, true, false, not, Some, List, [], ◌∷◌, refl, sym, subst, nat_lt}
 use Rattle.std.specs.Bool.{◌==◌}
-use Rattle.std.specs.Prelude.{◌&&◌, Option, if◌then◌else◌}
+use Rattle.std.specs.Prelude.{◌&&◌, if◌then◌else◌}
 use Rattle.std.specs.Char.{is_ascii_digit}
 use Rattle.std.specs.List.{list_all}
 use Rattle.std.specs.Str.{bytes_eq}
@@ -30,22 +30,22 @@ is_sign (a ∷ []) = begins_sign a
 is_sign (a ∷ b ∷ []) = begins_sign a && nat_lt b 128
 is_sign (a ∷ b ∷ c ∷ s) = false
 
-found_fits : (s : List ℕ) (kind : Kind) (es : List (List ℕ × Kind)) → list_all (λ (e : List ℕ × Kind). is_sign e.0 && is_no_word e.1) es ≡ true
-    → looked_up s es ≡ Some kind → (is_sign s ≡ true) × (is_no_word kind ≡ true)
-found_fits s kind [] h e = cc
-found_fits s kind (x ∷ es) h e =
-    let hs = both (is_sign x.0 && is_no_word x.1) (list_all (λ (e : List ℕ × Kind). is_sign e.0 && is_no_word e.1) es) h in
-    let hx = both (is_sign x.0) (is_no_word x.1) hs.0 in
-    elim (bytes_eq s x.0) as (λ v. bytes_eq s x.0 ≡ v → (if v then Some x.1 else looked_up s es) ≡ Some kind → (is_sign s ≡ true) × (is_no_word kind ≡ true)) [
+-- what passes in each row of a table does for what is looked up
+pub found_passes : (p : List ℕ × Kind → Bool) (s : List ℕ) (kind : Kind) (es : List (List ℕ × Kind)) → list_all p es ≡ true
+    → looked_up s es ≡ Some kind → p (s, kind) ≡ true
+found_passes p s kind [] h e = cc
+found_passes p s kind (x ∷ es) h e =
+    let hs = both (p x) (list_all p es) h in
+    elim (bytes_eq s x.0) as (λ v. bytes_eq s x.0 ≡ v → (if v then Some x.1 else looked_up s es) ≡ Some kind → p (s, kind) ≡ true) [
       | true ↦ λ q f.
           let same : s ≡ x.0 = (bytes_eq-Decides s x.0).0 q in
           let k : x.1 ≡ kind = same_Some x.1 kind f in
-          (subst (λ t. is_sign t ≡ true) (sym same) hx.0, subst (λ k. is_no_word k ≡ true) k hx.1)
-      | false ↦ λ q f. found_fits s kind es hs.1 f
+          subst (λ t. p (t, kind) ≡ true) (sym same) (subst (λ k. p (x.0, k) ≡ true) k hs.0)
+      | false ↦ λ q f. found_passes p s kind es hs.1 f
     ] refl e
 
 pub sign_fits : (s : List ℕ) (kind : Kind) → sign_kind_of s ≡ Some kind → (is_sign s ≡ true) × (is_no_word kind ≡ true)
-sign_fits s kind e = found_fits s kind signs refl e
+sign_fits s kind e = both (is_sign s) (is_no_word kind) (found_passes (λ x. is_sign x.0 && is_no_word x.1) s kind signs refl e)
 
 pub sign_kept : (kind : Kind) (s : List ℕ) → is_no_word kind ≡ true → full_kind kind s ≡ kind
 sign_kept kinds.Word s h = absurd (false≢true h)

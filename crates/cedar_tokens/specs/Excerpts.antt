@@ -1,5 +1,5 @@
 -- How a piece of a text is shown to who wrote it.
-use Rattle.std.specs.Prelude.{Bool, ◌&&◌, ◌||◌, ℕ, ◌-◌, ◌==◌, nat_lt, List, [], ◌++◌, codes, drop, if◌then◌else◌, length, map, max, replicate, slice_index, take}
+use Rattle.std.specs.Prelude.{Bool, ◌&&◌, ◌||◌, ℕ, ◌==◌, nat_lt, List, [], ◌++◌, codes, drop, if◌then◌else◌, length, map, max, replicate, slice_index, take}
 use Rattle.std.specs.Fmt.{is_char_start}
 use Rattle.std.specs.Str.{chars}
 use Rattle.cedar_tokens.specs.Places.{first_line_of, last_line_of}

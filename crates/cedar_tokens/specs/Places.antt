@@ -1,5 +1,5 @@
 -- Places in texts.
-use Rattle.std.specs.Prelude.{Bool, ◌≡◌, ℕ, ◌+◌, ◌==◌, List, count_by, length, take}
+use Rattle.std.specs.Prelude.{Bool, ℕ, ◌+◌, ◌==◌, List, count_by, length, take}
 use Rattle.std.specs.List.{after_last, before_first}
 use Rattle.std.specs.Str.{chars}
 

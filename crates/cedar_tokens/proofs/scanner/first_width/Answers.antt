@@ -1,4 +1,4 @@
-use Rattle.std.proofs.Common.{ap, arith}
+use Rattle.std.proofs.Common.{arith}
 use Rattle.std.specs.Str.{chars}
 use Rattle.cedar_tokens.proofs.TokenPlacesLemmas.{first_fits}
 use Rattle.cedar_tokens.proofs.scanner.first_width.Goals as goal
