@@ -8,11 +8,11 @@ ghost use Rattle.cedar_tokens.specs.Kinds.{sign_kind_of, word_kind_of};
 pub enum Kind {
     /// An identifier that is no word of the grammar.
     Word,
-    /// Decimal digits.
+    /// A decimal digit, with the letters, digits and underscores that follow.
     Digits,
     /// A text between double quotes, which the token has too.
     Quoted,
-    /// `?principal` or `?resource`.
+    /// A question mark, with the letters, digits and underscores that follow.
     Slot,
     True,
     False,
