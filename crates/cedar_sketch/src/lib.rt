@@ -1,18 +1,19 @@
 //! The texts of expressions, in prefix form: `Sketch`, a builder of texts.
 #![tactic(auto)]
 
-ghost use Rattle.std.specs.Prelude.{◌≡◌, ◌∷◌, ◌++◌, [], List, ℕ, IfOk, IfErr, OnOk, None, map, string_bytes, ⊤};
+ghost use Rattle.std.specs.Prelude.{◌≡◌, ◌∷◌, ◌++◌, [], List, ℕ, IfOk, IfErr, OnOk, None, map, string_bytes, IsTrue};
 ghost use Rattle.std.specs.Rc.{rc_str_bytes};
 ghost use Rattle.cedar_names.specs.PlainNames.{bare_name};
 ghost use Rattle.cedar_names.specs.Names.{name_text};
 ghost use Rattle.cedar_terms.specs.Escape.{quoted};
+ghost use Rattle.cedar_terms.specs.Ops.{binary_op_text, unary_op_text};
 ghost use Rattle.cedar_terms.specs.Unknowns.{bare_annotation};
 ghost use Rattle.cedar_builders.specs.Errors.{OnDuplicateKey};
 ghost use Rattle.cedar_builders.specs.Answers.{Gives};
 ghost use Rattle.cedar_builders.specs.Keys.{keys_of, meant_pairs, IsRising, HasRepeat};
 ghost use Rattle.cedar_builders.specs.declared.expression_construction_errors.ExpressionConstructionError.TheVariants as error;
 ghost use Rattle.cedar_builders.specs.Answers.{never};
-ghost use Rattle.cedar_sketch.specs.SketchTexts.{annotation_texts, joined, list_text, pair_text, quoted_pattern, sketch_ops, spaced_text, text_of};
+ghost use Rattle.cedar_sketch.specs.SketchTexts.{annotation_texts, form_text, joined, pair_text, quoted_pattern, sketch_ops, spaced_text, text_of};
 
 use cedar_builders::{
     BuildFault, ExprBuilder, ExprBuilderInfallibleBuild, ExpressionConstructionError,
@@ -28,9 +29,9 @@ use std::rc::RcStr;
 /// An S-expression: a leaf as it is, or a list as a text in pieces, which are joined once, when it
 /// is written.
 ///
-/// A list writes leaves and short lists behind its last piece, and takes over the pieces of a long
-/// one as they stand. So a tree of any shape and depth is made in time proportional to its nodes,
-/// and is dropped piece by piece.
+/// A list goes on with the pieces of its first part. It writes leaves and short lists behind its last
+/// piece, and takes over the pieces of a long one as they stand. So a tree of any shape and depth is
+/// made in time proportional to its nodes, and is dropped piece by piece.
 #[derive(Debug, Drop)]
 pub struct SExpression {
     form: Form,
@@ -49,12 +50,14 @@ impl SExpression {
     pub fn to_text(&self, alloc: Global) -> Result<String, AllocError>
         ensures { IfOk result (λ s. string_bytes s ≡ text_of self.now) }
     {
+        let mut text = String::with_capacity(alloc, SHORT)?;
         match &self.form {
-            Form::Literal(literal) => format!(in alloc; "{literal}"),
-            Form::Var(var) => format!(in alloc; "{var}"),
-            Form::Slot(slot) => format!(in alloc; "{slot}"),
-            Form::List(list) => list.join(alloc),
+            Form::Literal(literal) => write!(text, "{literal}")?,
+            Form::Var(var) => write!(text, "{var}")?,
+            Form::Slot(slot) => write!(text, "{slot}")?,
+            Form::List(list) => list.write_to(&mut text)?,
         }
+        Ok(text)
     }
 }
 
@@ -67,52 +70,87 @@ struct Pieces {
 }
 
 // What a piece has room for at first; what is no longer is copied into the list around it.
-const SHORT: usize = 64;
+const SHORT: usize = 128;
 
 impl Pieces {
-    // The beginning of a list: the bracket and a word.
-    fn open(alloc: Global, word: &str) -> Result<Pieces, AllocError>
-        ensures { IfOk result (λ list. joined list ≡ 40 ∷ word.now) }
+    // The beginning of a list without a part: the bracket and a word.
+    #[inline(always)]
+    fn open(alloc: Global, opening: &str) -> Result<Pieces, AllocError>
+        ensures { IfOk result (λ list. joined list ≡ opening.now) }
     {
         let mut last = String::with_capacity(alloc, SHORT)?;
-        last.push('(')?;
-        last.push_str(word)?;
+        last.push_str(opening)?;
         Ok(Pieces {
             before: LinkedList::new(alloc),
             last,
         })
     }
 
-    // The beginning of a list: the bracket, a word and a part.
-    fn open_with(alloc: Global, word: &str, part: SExpression) -> Result<Pieces, AllocError>
-        ensures { IfOk result (λ list. joined list ≡ 40 ∷ (word.now ++ 32 ∷ text_of part)) }
+    // The beginning of a list with a part: the bracket, a word and a space, and the part. It goes on
+    // with the pieces of a part that is a list.
+    #[inline(always)]
+    fn open_with(alloc: Global, opening: &str, part: SExpression) -> Result<Pieces, AllocError>
+        ensures { IfOk result (λ list. joined list ≡ opening.now ++ text_of part) }
     {
-        let mut list = Pieces::open(alloc, word)?;
-        list.push(part)?;
-        Ok(list)
+        match part.form {
+            Form::List(mut list) => {
+                list.put_before(alloc, opening)?;
+                Ok(list)
+            }
+            leaf => {
+                let mut list = Pieces::open(alloc, opening)?;
+                list.add(leaf)?;
+                Ok(list)
+            }
+        }
+    }
+
+    // Whether the text is one piece, and short.
+    fn is_short(&self) -> bool
+        ensures { IsTrue result → self.now.before ≡ [] }
+    {
+        self.before.is_empty() && self.last.len() <= SHORT
+    }
+
+    // Puts a text before all pieces.
+    fn put_before(&mut self, alloc: Global, text: &str) -> Result<(), AllocError>
+        ensures { OnOk result (joined self.new ≡ text.now ++ joined self.old) }
+    {
+        if self.is_short() {
+            return self.last.insert_str(0, text);
+        }
+        self.before.push_front(String::from_str(alloc, text)?)?;
+        Ok(())
     }
 
     // Puts a part behind a space.
     fn push(&mut self, part: SExpression) -> Result<(), AllocError>
         ensures { OnOk result (joined self.new ≡ joined self.old ++ 32 ∷ text_of part) }
     {
-        match part.form {
-            Form::Literal(literal) => write!(self.last, " {literal}"),
-            Form::Var(var) => write!(self.last, " {var}"),
-            Form::Slot(slot) => write!(self.last, " {slot}"),
-            Form::List(list) => self.push_list(list),
+        self.last.push(' ')?;
+        self.add(part.form)
+    }
+
+    // Puts a leaf or a list at the end.
+    fn add(&mut self, form: Form) -> Result<(), AllocError>
+        ensures { OnOk result (joined self.new ≡ joined self.old ++ form_text form) }
+    {
+        match form {
+            Form::Literal(literal) => write!(self.last, "{literal}"),
+            Form::Var(var) => write!(self.last, "{var}"),
+            Form::Slot(slot) => write!(self.last, "{slot}"),
+            Form::List(list) => self.add_list(list),
         }
     }
 
-    // Puts a list behind a space.
-    fn push_list(&mut self, list: Pieces) -> Result<(), AllocError>
-        ensures { OnOk result (joined self.new ≡ joined self.old ++ 32 ∷ joined list) }
+    // Puts a list at the end.
+    fn add_list(&mut self, list: Pieces) -> Result<(), AllocError>
+        ensures { OnOk result (joined self.new ≡ joined self.old ++ joined list) }
     {
-        self.last.push(' ')?;
-        let Pieces { mut before, last } = list;
-        if before.is_empty() && last.len() <= SHORT {
-            return self.last.push_str(&last);
+        if list.is_short() {
+            return self.last.push_str(&list.last);
         }
+        let Pieces { mut before, last } = list;
         self.before.push_back(mem::replace(&mut self.last, last))?;
         self.before.append(&mut before)
     }
@@ -219,6 +257,7 @@ impl Pieces {
     }
 
     // The list, with the bracket behind its last part.
+    #[inline(always)]
     fn close(mut self) -> Result<SExpression, AllocError>
         ensures { IfOk result (λ e. text_of e ≡ joined self ++ 41 ∷ []) }
     {
@@ -228,32 +267,62 @@ impl Pieces {
         })
     }
 
-    // All pieces, one after the other.
-    fn join(&self, alloc: Global) -> Result<String, AllocError>
-        ensures { IfOk result (λ s. string_bytes s ≡ joined self.now) }
+    // Writes all pieces, one after the other.
+    fn write_to(&self, text: &mut String) -> Result<(), AllocError>
+        ensures { OnOk result (string_bytes text.new ≡ string_bytes text.old ++ joined self.now) }
     {
-        let mut text = String::new(alloc);
         for piece in &self.before {
             text.push_str(piece)?;
         }
-        text.push_str(&self.last)?;
-        Ok(text)
+        text.push_str(&self.last)
     }
 }
 
-// Makes the list of a word and two parts.
+// Makes the list of an opening and two parts.
+#[inline(always)]
 fn list_of_two(
     alloc: Global,
-    word: &str,
+    opening: &str,
     first: SExpression,
     second: SExpression,
 ) -> Result<SExpression, AllocError>
     ensures { IfOk result (λ e.
-        text_of e ≡ list_text word.now (text_of first ∷ text_of second ∷ [])) }
+        text_of e ≡ opening.now ++ (text_of first ++ 32 ∷ (text_of second ++ 41 ∷ []))) }
 {
-    let mut list = Pieces::open_with(alloc, word, first)?;
+    let mut list = Pieces::open_with(alloc, opening, first)?;
     list.push(second)?;
     list.close()
+}
+
+// The bracket, an operator and a space.
+fn unary_opening(op: UnaryOp) -> &'static str
+    ensures { result.now ≡ 40 ∷ (unary_op_text op ++ 32 ∷ []) }
+{
+    match op {
+        UnaryOp::Not => "(! ",
+        UnaryOp::Neg => "(- ",
+        UnaryOp::IsEmpty => "(isEmpty ",
+    }
+}
+
+// The bracket, an operator and a space.
+fn binary_opening(op: BinaryOp) -> &'static str
+    ensures { result.now ≡ 40 ∷ (binary_op_text op ++ 32 ∷ []) }
+{
+    match op {
+        BinaryOp::Eq => "(== ",
+        BinaryOp::Less => "(< ",
+        BinaryOp::LessEq => "(<= ",
+        BinaryOp::Add => "(+ ",
+        BinaryOp::Sub => "(- ",
+        BinaryOp::Mul => "(* ",
+        BinaryOp::In => "(in ",
+        BinaryOp::Contains => "(contains ",
+        BinaryOp::ContainsAll => "(containsAll ",
+        BinaryOp::ContainsAny => "(containsAny ",
+        BinaryOp::GetTag => "(getTag ",
+        BinaryOp::HasTag => "(hasTag ",
+    }
 }
 
 /// The builder of texts: what it makes of `1 < 2 && true` is `(and (< 1 2) true)`.
@@ -318,7 +387,7 @@ impl ExprBuilder for Sketch {
     }
 
     fn unknown(self, alloc: Global, unknown: Unknown) -> Result<SExpression, AllocError> {
-        let mut list = Pieces::open(alloc, "unknown")?;
+        let mut list = Pieces::open(alloc, "(unknown")?;
         list.push_text(&unknown.name)?;
         list.push_annotation(&unknown.type_annotation)?;
         list.close()
@@ -331,7 +400,7 @@ impl ExprBuilder for Sketch {
         then_expr: SExpression,
         else_expr: SExpression,
     ) -> Result<SExpression, AllocError> {
-        let mut list = Pieces::open_with(alloc, "if", test_expr)?;
+        let mut list = Pieces::open_with(alloc, "(if ", test_expr)?;
         list.push(then_expr)?;
         list.push(else_expr)?;
         list.close()
@@ -343,7 +412,7 @@ impl ExprBuilder for Sketch {
         left: SExpression,
         right: SExpression,
     ) -> Result<SExpression, AllocError> {
-        list_of_two(alloc, "and", left, right)
+        list_of_two(alloc, "(and ", left, right)
     }
 
     fn or(
@@ -352,7 +421,7 @@ impl ExprBuilder for Sketch {
         left: SExpression,
         right: SExpression,
     ) -> Result<SExpression, AllocError> {
-        list_of_two(alloc, "or", left, right)
+        list_of_two(alloc, "(or ", left, right)
     }
 
     fn unary_app(
@@ -361,7 +430,7 @@ impl ExprBuilder for Sketch {
         op: UnaryOp,
         arg: SExpression,
     ) -> Result<SExpression, AllocError> {
-        Pieces::open_with(alloc, &op.to_string(alloc)?, arg)?.close()
+        Pieces::open_with(alloc, unary_opening(op), arg)?.close()
     }
 
     fn binary_app(
@@ -371,7 +440,7 @@ impl ExprBuilder for Sketch {
         arg1: SExpression,
         arg2: SExpression,
     ) -> Result<SExpression, AllocError> {
-        list_of_two(alloc, &op.to_string(alloc)?, arg1, arg2)
+        list_of_two(alloc, binary_opening(op), arg1, arg2)
     }
 
     fn call_extension_fn(
@@ -384,7 +453,7 @@ impl ExprBuilder for Sketch {
             (sketch_ops.call_of (bare_name fn_name) (map text_of args.items))
             result }
     {
-        let mut list = Pieces::open(alloc, "call")?;
+        let mut list = Pieces::open(alloc, "(call")?;
         list.push_name(&fn_name)?;
         list.push_all(args)?;
         Ok(list.close()?)
@@ -396,7 +465,7 @@ impl ExprBuilder for Sketch {
         expr: SExpression,
         attr: RcStr,
     ) -> Result<SExpression, AllocError> {
-        let mut list = Pieces::open_with(alloc, "get", expr)?;
+        let mut list = Pieces::open_with(alloc, "(get ", expr)?;
         list.push_attribute(&attr)?;
         list.close()
     }
@@ -407,7 +476,7 @@ impl ExprBuilder for Sketch {
         expr: SExpression,
         attrs: NonEmpty<RcStr>,
     ) -> Result<SExpression, AllocError> {
-        let mut list = Pieces::open_with(alloc, "has", expr)?;
+        let mut list = Pieces::open_with(alloc, "(has ", expr)?;
         list.push_attribute(&attrs.head)?;
         list.push_attributes(&attrs.tail)?;
         list.close()
@@ -419,7 +488,7 @@ impl ExprBuilder for Sketch {
         expr: SExpression,
         pattern: Pattern,
     ) -> Result<SExpression, AllocError> {
-        let mut list = Pieces::open_with(alloc, "like", expr)?;
+        let mut list = Pieces::open_with(alloc, "(like ", expr)?;
         list.push_pattern(&pattern)?;
         list.close()
     }
@@ -430,7 +499,7 @@ impl ExprBuilder for Sketch {
         expr: SExpression,
         entity_type: EntityType,
     ) -> Result<SExpression, AllocError> {
-        let mut list = Pieces::open_with(alloc, "is", expr)?;
+        let mut list = Pieces::open_with(alloc, "(is ", expr)?;
         list.push_name(entity_type.name())?;
         list.close()
     }
@@ -438,7 +507,7 @@ impl ExprBuilder for Sketch {
     fn set(self, alloc: Global, members: Vec<SExpression>) -> Result<SExpression, AllocError>
         ensures { IfOk result (λ e. text_of e ≡ sketch_ops.set_of (map text_of members.items)) }
     {
-        let mut list = Pieces::open(alloc, "set")?;
+        let mut list = Pieces::open(alloc, "(set")?;
         list.push_all(members)?;
         list.close()
     }
@@ -453,7 +522,7 @@ impl ExprBuilder for Sketch {
         ensures accepts { IsRising (keys_of pairs.items) → IfErr result (λ e. e ≡ error.Memory) }
         ensures refuses { IfErr result (OnDuplicateKey (λ _. HasRepeat (keys_of pairs.items))) }
     {
-        let mut list = Pieces::open(alloc, "record")?;
+        let mut list = Pieces::open(alloc, "(record")?;
         list.push_pairs(pairs)?;
         Ok(list.close()?)
     }
