@@ -91,16 +91,22 @@ impl<'a> Command<'a> {
     pub fn parse(alloc: Global, text: &'a str) -> Result<Command<'a>, Refusal>
         ensures { IfErr result (λ e. (e ≡ Refusal.BadLine) ⊎ (e ≡ Refusal.Memory)) }
     {
-        match text.split_once(' ') {
-            None => parse_alone(alloc, text),
-            Some(("string", rest)) => Ok(Command::String(rest)),
-            Some(("like", rest)) => Ok(Command::Like(parse_pattern(alloc, rest)?)),
-            Some((first, rest)) => match rest.split_once(' ') {
-                None if !rest.is_empty() => parse_with_one(alloc, first, rest),
-                _ => parse_each(alloc, text),
-            },
+        let Some((first, rest)) = text.split_once(' ') else {
+            return parse_alone(alloc, text);
+        };
+        // As bytes, words are told apart without a call for each.
+        match first.as_bytes() {
+            b"string" => Ok(Command::String(rest)),
+            b"like" => Ok(Command::Like(parse_pattern(alloc, rest)?)),
+            _ if is_word(rest) => parse_with_one(alloc, first, rest),
+            _ => parse_each(alloc, text),
         }
     }
+}
+
+// Whether a text is a word: it is not empty, and has no space.
+fn is_word(text: &str) -> bool {
+    !text.is_empty() && !text.as_bytes().contains(&b' ')
 }
 
 // The command that the words of a line spell, three or more.
@@ -136,23 +142,23 @@ fn parse_alone<'a>(alloc: Global, word: &str) -> Result<Command<'a>, Refusal>
     ensures spelled { IfOk result (λ command. Spells command (word.now ∷ [])) }
     ensures refused { IfErr result (λ e. (e ≡ Refusal.BadLine) ⊎ (e ≡ Refusal.Memory)) }
 {
-    match word {
-        "string" => Ok(Command::String("")),
-        "if" => Ok(Command::If),
-        "and" => Ok(Command::And),
-        "or" => Ok(Command::Or),
-        "raw-and" => Ok(Command::RawAnd),
-        "raw-or" => Ok(Command::RawOr),
-        "!" => Ok(Command::Unary(UnaryOp::Not)),
-        "neg" => Ok(Command::Unary(UnaryOp::Neg)),
-        "isEmpty" => Ok(Command::Unary(UnaryOp::IsEmpty)),
-        "like" => Ok(Command::Like(Pattern::from_vec(alloc, Vec::new(alloc))?)),
-        "record" => Ok(Command::Record(Vec::new(alloc))),
-        "substitute" => Ok(Command::Substitute),
-        "typed" => Ok(Command::Typed),
-        "show" => Ok(Command::Show),
-        "eval" => Ok(Command::Eval),
-        "simplify" => Ok(Command::Simplify),
+    match word.as_bytes() {
+        b"string" => Ok(Command::String("")),
+        b"if" => Ok(Command::If),
+        b"and" => Ok(Command::And),
+        b"or" => Ok(Command::Or),
+        b"raw-and" => Ok(Command::RawAnd),
+        b"raw-or" => Ok(Command::RawOr),
+        b"!" => Ok(Command::Unary(UnaryOp::Not)),
+        b"neg" => Ok(Command::Unary(UnaryOp::Neg)),
+        b"isEmpty" => Ok(Command::Unary(UnaryOp::IsEmpty)),
+        b"like" => Ok(Command::Like(Pattern::from_vec(alloc, Vec::new(alloc))?)),
+        b"record" => Ok(Command::Record(Vec::new(alloc))),
+        b"substitute" => Ok(Command::Substitute),
+        b"typed" => Ok(Command::Typed),
+        b"show" => Ok(Command::Show),
+        b"eval" => Ok(Command::Eval),
+        b"simplify" => Ok(Command::Simplify),
         _ => Ok(Command::Binary(parse_binary_op(word)?)),
     }
 }
@@ -162,19 +168,19 @@ fn parse_with_one<'a>(alloc: Global, first: &str, word: &'a str) -> Result<Comma
     ensures spelled { IfOk result (λ command. Spells command (first.now ∷ word.now ∷ [])) }
     ensures refused { IfErr result (λ e. (e ≡ Refusal.BadLine) ⊎ (e ≡ Refusal.Memory)) }
 {
-    match first {
-        "bool" => Ok(Command::Bool(parse_bool(word)?)),
-        "long" => Ok(Command::Long(parse_long(word)?)),
-        "var" => Ok(Command::Var(parse_var(word)?)),
-        "slot" => Ok(Command::Slot(parse_slot(word)?)),
-        "unknown" => Ok(Command::Unknown(word, None)),
-        "get" => Ok(Command::Get(word)),
-        "has" => Ok(Command::Has(word)),
-        "is" => Ok(Command::Is(EntityType::from(parse_name(alloc, word)?))),
-        "set" => Ok(Command::Set(parse_count(word)?)),
-        "record" => Ok(Command::Record(vec![in alloc; word]?)),
-        "exthas" => Ok(Command::ExtHas(NonEmpty::new(word, Vec::new(alloc)))),
-        "bind" => Ok(Command::Bind(word)),
+    match first.as_bytes() {
+        b"bool" => Ok(Command::Bool(parse_bool(word)?)),
+        b"long" => Ok(Command::Long(parse_long(word)?)),
+        b"var" => Ok(Command::Var(parse_var(word)?)),
+        b"slot" => Ok(Command::Slot(parse_slot(word)?)),
+        b"unknown" => Ok(Command::Unknown(word, None)),
+        b"get" => Ok(Command::Get(word)),
+        b"has" => Ok(Command::Has(word)),
+        b"is" => Ok(Command::Is(EntityType::from(parse_name(alloc, word)?))),
+        b"set" => Ok(Command::Set(parse_count(word)?)),
+        b"record" => Ok(Command::Record(vec![in alloc; word]?)),
+        b"exthas" => Ok(Command::ExtHas(NonEmpty::new(word, Vec::new(alloc)))),
+        b"bind" => Ok(Command::Bind(word)),
         _ => Err(Refusal::BadLine),
     }
 }

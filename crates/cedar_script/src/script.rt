@@ -1,5 +1,5 @@
 //! The run of a script, from a reader to a writer.
-ghost use Rattle.std.specs.Prelude.{◌≡◌, ◌∷◌, [], ◌++◌, IfOk, IfErr, IfSome, OnOk};
+ghost use Rattle.std.specs.Prelude.{◌≡◌, ◌∷◌, [], ◌++◌, IfOk, IfErr, IfSome, OnOk, string_bytes};
 ghost use Rattle.std.specs.Io.KnownBytes.{Appends, IsAtEnd};
 ghost use Rattle.cedar_script.specs.Faults.{status_of, IsFaultAt, IsInputFault};
 
@@ -67,7 +67,7 @@ pub fn run<R: Read, W: Write>(alloc: Global, reader: &mut R, writer: &mut W) -> 
         number = number.saturating_add(1);
         match work_line(alloc, &mut state, line) {
             Ok(None) => {}
-            Ok(Some(shown)) => write_line(writer, &shown).map_err(|_| RunFault::Output)?,
+            Ok(Some(shown)) => write_line(writer, shown)?,
             Err(refusal) => return Err(RunFault::at_line(alloc, number, refusal)),
         }
     }
@@ -99,11 +99,18 @@ fn work_line(alloc: Global, state: &mut State, line: &[u8]) -> Result<Option<Str
 }
 
 // Writes a text and a line feed, at once.
-fn write_line<W: Write>(writer: &mut W, text: &str) -> io::Result<()>
+fn write_line<W: Write>(writer: &mut W, mut text: String) -> Result<(), RunFault>
     ensures { OnOk result
-        (Appends (W.contents writer.old) (W.contents writer.new) (text.now ++ 10 ∷ [])) }
+        (Appends (W.contents writer.old) (W.contents writer.new) (string_bytes text ++ 10 ∷ [])) }
 {
-    writer.write_all(text.as_bytes())?;
-    writer.write_all(b"\n")?;
+    text.push('\n').map_err(|_| RunFault::Memory)?;
+    write_now(writer, text.as_bytes()).map_err(|_| RunFault::Output)
+}
+
+// Writes all bytes, so that the writer keeps none back.
+fn write_now<W: Write>(writer: &mut W, bytes: &[u8]) -> io::Result<()>
+    ensures { OnOk result (Appends (W.contents writer.old) (W.contents writer.new) bytes.now) }
+{
+    writer.write_all(bytes)?;
     writer.flush()
 }

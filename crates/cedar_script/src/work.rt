@@ -35,6 +35,7 @@ use cedar_terms::{Literal, Type, Unknown};
 use cedar_values::{NoExtension, Value};
 use std::alloc::{AllocError, Global};
 use std::collections::HashMap;
+use std::mem;
 use std::rc::{Rc, RcStr};
 
 /// What a command shows, if it shows something, or why its line is refused.
@@ -140,7 +141,7 @@ impl State {
 
     // Takes this many expressions, and gives the lowest first.
     #[tactic(auto, using(crate::proofs::Stacks::past_index, crate::proofs::Stacks::before_index))]
-    fn pop_many(&mut self, count: usize) -> Result<Vec<Expr>, Refusal>
+    fn pop_many(&mut self, alloc: Global, count: usize) -> Result<Vec<Expr>, Refusal>
         ensures popped { IfOk result (λ exprs.
             exprs.items ≡ reverse (take count (stack_of self.old))) }
         ensures below { OnOk result (stack_of self.new ≡ drop count (stack_of self.old)) }
@@ -150,6 +151,8 @@ impl State {
         ensures too_few { IsErrOf result Refusal.TooFewExpressions ↔ (depth self.old < count) }
     {
         match self.stack.len().checked_sub(count) {
+            // The whole stack, as it lies.
+            Some(0) => Ok(mem::replace(&mut self.stack, Vec::new(alloc))),
             Some(kept) => Ok(self.stack.split_off(kept)?),
             None => Err(Refusal::TooFewExpressions),
         }
@@ -216,7 +219,7 @@ impl State {
         ensures depth { OnOk result (depth self.new + count ≡ depth self.old + 1) }
         ensures too_few { IsErrOf result Refusal.TooFewExpressions ↔ (depth self.old < count) }
     {
-        let args = self.pop_many(count)?;
+        let args = self.pop_many(alloc, count)?;
         self.push(Expr::call_extension_fn(alloc, name, args)?)
     }
 
@@ -230,7 +233,7 @@ impl State {
         ensures depth { OnOk result (depth self.new + count ≡ depth self.old + 1) }
         ensures too_few { IsErrOf result Refusal.TooFewExpressions ↔ (depth self.old < count) }
     {
-        let members = self.pop_many(count)?;
+        let members = self.pop_many(alloc, count)?;
         self.push(Expr::set(alloc, members)?)
     }
 
@@ -245,7 +248,7 @@ impl State {
         ensures too_few { IsErrOf result Refusal.TooFewExpressions
             ↔ (depth self.old < vec_len keys.entry) }
     {
-        let values = self.pop_many(keys.len())?;
+        let values = self.pop_many(alloc, keys.len())?;
         self.push(build_record(alloc, keys, values)?)
     }
 

@@ -145,18 +145,16 @@ fn readers_that_fail_end_the_run(rt: HostRuntime) {
     }
 }
 
-// Each text that is shown is written, then its line feed, and then there is a flush.
+// Each text that is shown is written with its line feed, and then there is a flush.
 #[test]
 fn writers_that_fail_end_the_run(rt: HostRuntime) {
     let table = [
         // All that is given is taken.
         (9, 0, "", "2 output fault"),
-        (9, 1, "1", "2 output fault"),
+        (9, 1, "1\n", "2 output fault"),
         (9, 2, "1\n", "2 output fault"),
-        (9, 3, "1\n", "2 output fault"),
-        (9, 4, "1\n\"ab\"", "2 output fault"),
-        (9, 5, "1\n\"ab\"\n", "2 output fault"),
-        (9, 6, "1\n\"ab\"\n", "1 line 5: bad line"),
+        (9, 3, "1\n\"ab\"\n", "2 output fault"),
+        (9, 4, "1\n\"ab\"\n", "1 line 5: bad line"),
         // A byte is taken at a time.
         (1, 0, "", "2 output fault"),
         (1, 1, "1", "2 output fault"),
