@@ -1,6 +1,7 @@
 //! What follows an operand: attributes, methods, `has`, `like` and `is`.
-ghost use Rattle.std.specs.Prelude.{◌≤◌};
+ghost use Rattle.std.specs.Prelude.{◌≤◌, MatchResult, max};
 ghost use Rattle.cedar_tokens.specs.Pieces.{tokens_left};
+ghost use Rattle.cedar_reader.specs.Refused.{GoesOn, IsBefore, IsWithin, open_start, stop_of};
 
 use crate::groups::RowKind;
 use crate::held::{Held, Operation, Step};
@@ -14,7 +15,11 @@ use std::rc::RcStr;
 impl Reader<'_> {
     /// An attribute behind a dot, or a method.
     pub(crate) fn dot(&mut self, held: Held, tokens: &mut Tokens<'_>) -> Step
-        ensures { tokens_left tokens.new ≤ tokens_left tokens.old }
+        requires { IsBefore (max (open_start self.old) held.span.start) tokens.old }
+        ensures left { tokens_left tokens.new ≤ tokens_left tokens.old }
+        ensures goes_on { MatchResult result
+            (GoesOn tokens.old tokens.new self.new)
+            (IsWithin (stop_of tokens.old)) }
     {
         let alloc = self.nodes.alloc;
         let name = tokens.expect(Kind::Word, "an identifier is wanted here")?;
@@ -29,7 +34,11 @@ impl Reader<'_> {
 
     /// An attribute in square brackets.
     pub(crate) fn bracket(&mut self, held: Held, tokens: &mut Tokens<'_>) -> Step
-        ensures { tokens_left tokens.new ≤ tokens_left tokens.old }
+        requires { IsBefore (max (open_start self.old) held.span.start) tokens.old }
+        ensures left { tokens_left tokens.new ≤ tokens_left tokens.old }
+        ensures goes_on { MatchResult result
+            (GoesOn tokens.old tokens.new self.new)
+            (IsWithin (stop_of tokens.old)) }
     {
         let token = tokens.expect(Kind::Quoted, "an attribute in quotes is wanted here")?;
         let attr = text_of(self.nodes.alloc, token)?;
@@ -39,7 +48,11 @@ impl Reader<'_> {
 
     /// The attributes behind `has`, with dots between.
     pub(crate) fn has(&mut self, left: Held, tokens: &mut Tokens<'_>) -> Step
-        ensures { tokens_left tokens.new ≤ tokens_left tokens.old }
+        requires { IsBefore (max (open_start self.old) left.span.start) tokens.old }
+        ensures left { tokens_left tokens.new ≤ tokens_left tokens.old }
+        ensures goes_on { MatchResult result
+            (GoesOn tokens.old tokens.new self.new)
+            (IsWithin (stop_of tokens.old)) }
     {
         let alloc = self.nodes.alloc;
         let (head, mut stop) = key(alloc, tokens)?;
@@ -54,7 +67,11 @@ impl Reader<'_> {
 
     /// The pattern behind `like`.
     pub(crate) fn like(&mut self, left: Held, tokens: &mut Tokens<'_>) -> Step
-        ensures { tokens_left tokens.new ≤ tokens_left tokens.old }
+        requires { IsBefore (max (open_start self.old) left.span.start) tokens.old }
+        ensures left { tokens_left tokens.new ≤ tokens_left tokens.old }
+        ensures goes_on { MatchResult result
+            (GoesOn tokens.old tokens.new self.new)
+            (IsWithin (stop_of tokens.old)) }
     {
         let token = tokens.expect(Kind::Quoted, "a pattern in quotes is wanted here")?;
         match read_pattern(self.nodes.alloc, inside(token))? {
@@ -68,7 +85,11 @@ impl Reader<'_> {
 
     /// The type behind `is`, and maybe `in`.
     pub(crate) fn is(&mut self, left: Held, tokens: &mut Tokens<'_>) -> Step
-        ensures { tokens_left tokens.new ≤ tokens_left tokens.old }
+        requires { IsBefore (max (open_start self.old) left.span.start) tokens.old }
+        ensures left { tokens_left tokens.new ≤ tokens_left tokens.old }
+        ensures goes_on { MatchResult result
+            (GoesOn tokens.old tokens.new self.new)
+            (IsWithin (stop_of tokens.old)) }
     {
         let alloc = self.nodes.alloc;
         let first = tokens.expect(Kind::Word, "the type of an entity is wanted here")?;

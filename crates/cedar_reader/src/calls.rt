@@ -1,4 +1,7 @@
 //! Calls of functions and methods.
+ghost use Rattle.std.specs.Prelude.{IfErr};
+ghost use Rattle.cedar_reader.specs.Refused.{IsAbout};
+
 use crate::leaves::name_of;
 use crate::nodes::Nodes;
 use cedar_builders::ExprBuilder as _;
@@ -17,7 +20,9 @@ impl Nodes<'_> {
         name: Name,
         args: Vec<Expr>,
         span: Span,
-    ) -> Result<Expr, Refusal> {
+    ) -> Result<Expr, Refusal>
+        ensures { IfErr result (IsAbout span) }
+    {
         match unknown_name(&name, &args)? {
             Some(name) => Ok(self.unknown(name, span)?),
             None => Ok(self.at(span)?.call_extension_fn(self.alloc, name, args)?),
@@ -39,7 +44,9 @@ impl Nodes<'_> {
         method: &str,
         args: Vec<Expr>,
         span: Span,
-    ) -> Result<Expr, Refusal> {
+    ) -> Result<Expr, Refusal>
+        ensures { IfErr result (IsAbout span) }
+    {
         if method == "isEmpty" {
             return self.is_empty(args, span);
         }
@@ -50,7 +57,9 @@ impl Nodes<'_> {
     }
 
     // Whether a set is empty.
-    fn is_empty(&self, mut args: Vec<Expr>, span: Span) -> Result<Expr, Refusal> {
+    fn is_empty(&self, mut args: Vec<Expr>, span: Span) -> Result<Expr, Refusal>
+        ensures { IfErr result (IsAbout span) }
+    {
         match (args.pop(), args.pop()) {
             (Some(arg), None) => {
                 Ok(self.at(span)?.unary_app(self.alloc, UnaryOp::IsEmpty, arg)?)
@@ -60,12 +69,9 @@ impl Nodes<'_> {
     }
 
     // An operator of two arguments that is written as a method.
-    fn binary_method(
-        &self,
-        op: BinaryOp,
-        mut args: Vec<Expr>,
-        span: Span,
-    ) -> Result<Expr, Refusal> {
+    fn binary_method(&self, op: BinaryOp, mut args: Vec<Expr>, span: Span) -> Result<Expr, Refusal>
+        ensures { IfErr result (IsAbout span) }
+    {
         match (args.pop(), args.pop(), args.pop()) {
             (Some(last), Some(first), None) => {
                 Ok(self.at(span)?.binary_app(self.alloc, op, first, last)?)
@@ -75,7 +81,9 @@ impl Nodes<'_> {
     }
 
     // A method of an extension.
-    fn extension_method(&self, method: &str, args: Vec<Expr>, span: Span) -> Result<Expr, Refusal> {
+    fn extension_method(&self, method: &str, args: Vec<Expr>, span: Span) -> Result<Expr, Refusal>
+        ensures { IfErr result (IsAbout span) }
+    {
         let name = name_of(self.alloc, method, span)?;
         Ok(self.at(span)?.call_extension_fn(self.alloc, name, args)?)
     }

@@ -1,6 +1,18 @@
 //! Brackets, conditionals, sets, records and calls.
-ghost use Rattle.std.specs.Prelude.{◌≤◌};
+ghost use Rattle.std.specs.Prelude.{◌≡◌, ◌≤◌, IfErr, MatchResult, max};
 ghost use Rattle.cedar_tokens.specs.Pieces.{tokens_left};
+ghost use Rattle.cedar_tokens.specs.declared.refusal.Refusal.TheVariants.{Memory};
+ghost use Rattle.cedar_reader.specs.Refused.{
+  GoesOn,
+  IsAbout,
+  IsBefore,
+  IsFirst,
+  IsUpTo,
+  IsWithin,
+  group_start,
+  open_start,
+  stop_of,
+};
 
 use crate::held::{Held, Operation, Step};
 use crate::leaves::key;
@@ -91,7 +103,12 @@ impl Reader<'_> {
         token: Token<'_>,
         tokens: &mut Tokens<'_>,
     ) -> Step
-        ensures { tokens_left tokens.new ≤ tokens_left tokens.old }
+        requires opened { open_start self.old ≤ token.span.start }
+        requires first { IsFirst (group_start group) token tokens.old }
+        ensures left { tokens_left tokens.new ≤ tokens_left tokens.old }
+        ensures goes_on { MatchResult result
+            (GoesOn tokens.old tokens.new self.new)
+            (IsWithin (stop_of tokens.old)) }
     {
         if !group.takes(token.kind) {
             return Err(Refusal::Syntax(token.span, group.wanted()));
@@ -131,7 +148,12 @@ impl Reader<'_> {
     }
 
     // What stands behind `else` ends with what is around it, so it is no group.
-    fn otherwise(&mut self, start: usize, test: Expr, then: Expr) -> Step {
+    #[tactic(auto, using(crate::proofs::Greatest::greatest_push))]
+    fn otherwise(&mut self, start: usize, test: Expr, then: Expr) -> Step
+        ensures { MatchResult result
+            (IsUpTo (max (open_start self.old) start) self.new)
+            (λ e. e ≡ Memory) }
+    {
         self.operations.push(Operation::Else(start, test, then))?;
         Ok(None)
     }
@@ -144,7 +166,11 @@ impl Reader<'_> {
         start: usize,
         tokens: &mut Tokens<'_>,
     ) -> Step
-        ensures { tokens_left tokens.new ≤ tokens_left tokens.old }
+        requires { IsBefore (max (open_start self.old) start) tokens.old }
+        ensures left { tokens_left tokens.new ≤ tokens_left tokens.old }
+        ensures goes_on { MatchResult result
+            (GoesOn tokens.old tokens.new self.new)
+            (IsWithin (stop_of tokens.old)) }
     {
         match tokens.take_if(kind.closing()) {
             Some(Token { span, .. }) => {
@@ -156,7 +182,11 @@ impl Reader<'_> {
     }
 
     // A whole row.
-    fn row(&mut self, kind: RowKind, items: Vec<Expr>, span: Span) -> Step {
+    fn row(&mut self, kind: RowKind, items: Vec<Expr>, span: Span) -> Step
+        ensures { MatchResult result
+            (IsUpTo (max (open_start self.old) span.start) self.new)
+            (IsAbout span) }
+    {
         let expr = match kind {
             RowKind::Set => self.nodes.set(items, span)?,
             RowKind::Function(name) => self.nodes.function_call(name, items, span)?,
@@ -172,7 +202,11 @@ impl Reader<'_> {
         start: usize,
         tokens: &mut Tokens<'_>,
     ) -> Step
-        ensures { tokens_left tokens.new ≤ tokens_left tokens.old }
+        requires { IsBefore (max (open_start self.old) start) tokens.old }
+        ensures left { tokens_left tokens.new ≤ tokens_left tokens.old }
+        ensures goes_on { MatchResult result
+            (GoesOn tokens.old tokens.new self.new)
+            (IsWithin (stop_of tokens.old)) }
     {
         if let Some(Token { span, .. }) = tokens.take_if(Kind::CloseCurly) {
             let stop = span.stop;
@@ -184,14 +218,20 @@ impl Reader<'_> {
     }
 
     // A whole record.
-    fn record(&mut self, pairs: Vec<(RcStr, Expr)>, span: Span) -> Step {
+    fn record(&mut self, pairs: Vec<(RcStr, Expr)>, span: Span) -> Step
+        ensures { MatchResult result
+            (IsUpTo (max (open_start self.old) span.start) self.new)
+            (IsAbout span) }
+    {
         let expr = self.nodes.record(pairs, span)?;
         Ok(Some(Held::member(expr, span)))
     }
 }
 
 // The items with one more.
-fn pushed<T: Drop>(mut items: Vec<T>, item: T) -> Result<Vec<T>, Refusal> {
+fn pushed<T: Drop>(mut items: Vec<T>, item: T) -> Result<Vec<T>, Refusal>
+    ensures { IfErr result (λ e. e ≡ Memory) }
+{
     items.push(item)?;
     Ok(items)
 }

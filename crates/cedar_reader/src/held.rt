@@ -1,5 +1,6 @@
 //! Operands, and the operations that wait for one.
 ghost use Rattle.std.specs.Prelude.{◌≡◌};
+ghost use Rattle.cedar_reader.specs.Refused.{start_of};
 
 use crate::infix::Infix;
 use cedar_exprs::Expr;
@@ -18,7 +19,8 @@ pub(crate) struct Held {
 impl Held {
     /// An expression that never needs brackets.
     pub(crate) fn member(expr: Expr, span: Span) -> Held
-        ensures { result.expr ≡ expr }
+        ensures expr { result.expr ≡ expr }
+        ensures span { result.span ≡ span }
     {
         Held {
             expr,
@@ -29,7 +31,8 @@ impl Held {
 
     /// A comparison.
     pub(crate) fn relation(expr: Expr, span: Span) -> Held
-        ensures { result.expr ≡ expr }
+        ensures expr { result.expr ≡ expr }
+        ensures span { result.span ≡ span }
     {
         Held {
             expr,
@@ -67,7 +70,9 @@ impl Operation {
     }
 
     /// Where it begins.
-    pub(crate) fn start(&self) -> usize {
+    pub(crate) fn start(&self) -> usize
+        ensures { result ≡ start_of self.now }
+    {
         match self {
             Operation::Prefix(_, start, _) => *start,
             Operation::Infix(_, left) => left.span.start,

@@ -1,6 +1,17 @@
 //! Literals, names and slots.
-ghost use Rattle.std.specs.Prelude.{◌≤◌};
+ghost use Rattle.std.specs.Prelude.{◌≡◌, ◌≤◌, IfErr, MatchResult};
 ghost use Rattle.cedar_tokens.specs.Pieces.{tokens_left};
+ghost use Rattle.cedar_tokens.specs.declared.refusal.Refusal.TheVariants.{Memory};
+ghost use Rattle.cedar_reader.specs.Refused.{
+  IsAbout,
+  IsBefore,
+  IsFirst,
+  IsLeft,
+  IsPath,
+  IsWithin,
+  next_start,
+  stop_of,
+};
 
 use crate::nodes::Nodes;
 use cedar_exprs::{Expr, ExprKind};
@@ -17,7 +28,12 @@ impl Nodes<'_> {
         path: Path,
         tokens: &mut Tokens<'_>,
     ) -> Result<(Expr, Span), Refusal>
-        ensures { tokens_left tokens.new ≤ tokens_left tokens.old }
+        requires piece { path.span.start ≤ path.span.stop }
+        requires before { IsBefore path.span.stop tokens.old }
+        ensures left { tokens_left tokens.new ≤ tokens_left tokens.old }
+        ensures goes_on { MatchResult result
+            (λ x. (x.1.start ≡ path.span.start) × IsLeft path.span.stop tokens.old tokens.new)
+            (IsWithin (stop_of tokens.old)) }
     {
         let id = tokens.expect(Kind::Quoted, "an identifier or a text is wanted here")?;
         let ty = EntityType::from(path.name(self.alloc)?);
@@ -28,7 +44,9 @@ impl Nodes<'_> {
     }
 
     /// A variable of the request.
-    pub(crate) fn variable(&self, path: &Path) -> Result<Expr, Refusal> {
+    pub(crate) fn variable(&self, path: &Path) -> Result<Expr, Refusal>
+        ensures { IfErr result (IsAbout path.now.span) }
+    {
         let var = match path.text.as_str() {
             "principal" => Var::Principal,
             "action" => Var::Action,
@@ -43,7 +61,9 @@ impl Nodes<'_> {
     }
 
     /// A slot.
-    pub(crate) fn slot(&self, token: Token<'_>) -> Result<Expr, Refusal> {
+    pub(crate) fn slot(&self, token: Token<'_>) -> Result<Expr, Refusal>
+        ensures { IfErr result (IsAbout token.entry.span) }
+    {
         let slot = match token.text {
             "?principal" => SlotId::Principal,
             "?resource" => SlotId::Resource,
@@ -54,7 +74,9 @@ impl Nodes<'_> {
 }
 
 /// The integer of these digits, below 0 where a minus stands before them.
-pub(crate) fn integer(digits: Token<'_>, is_negative: bool) -> Result<Literal, Refusal> {
+pub(crate) fn integer(digits: Token<'_>, is_negative: bool) -> Result<Literal, Refusal>
+    ensures { IfErr result (IsAbout digits.entry.span) }
+{
     let size = digits.text.parse::<u64>().ok();
     match size.and_then(|size| signed(size, is_negative)) {
         Some(integer) => Ok(Literal::Long(integer)),
@@ -72,7 +94,9 @@ fn signed(size: u64, is_negative: bool) -> Option<i64> {
 }
 
 /// The text that a token between quotes stands for.
-pub(crate) fn text_of(alloc: Global, token: Token<'_>) -> Result<RcStr, Refusal> {
+pub(crate) fn text_of(alloc: Global, token: Token<'_>) -> Result<RcStr, Refusal>
+    ensures { IfErr result (IsAbout token.entry.span) }
+{
     match read_text(alloc, inside(token))? {
         Some(text) => Ok(RcStr::from_str(alloc, &text)?),
         None => Err(Refusal::Syntax(token.span, "this text has an escape that there is not")),
@@ -87,7 +111,11 @@ pub(crate) fn inside<'a>(token: Token<'a>) -> &'a str {
 
 /// The key of a field or of `has`, which may stand in quotes, and where it ends.
 pub(crate) fn key(alloc: Global, tokens: &mut Tokens<'_>) -> Result<(RcStr, usize), Refusal>
-    ensures { tokens_left tokens.new ≤ tokens_left tokens.old }
+    requires { IsBefore 0 tokens.old }
+    ensures left { tokens_left tokens.new ≤ tokens_left tokens.old }
+    ensures goes_on { MatchResult result
+        (λ _. IsLeft (next_start tokens.old) tokens.old tokens.new)
+        (IsWithin (stop_of tokens.old)) }
 {
     match tokens.take_if(Kind::Quoted) {
         Some(token) => Ok((text_of(alloc, token)?, token.span.stop)),
@@ -113,7 +141,11 @@ impl Path {
         first: Token<'_>,
         tokens: &mut Tokens<'_>,
     ) -> Result<Path, Refusal>
-        ensures { tokens_left tokens.new ≤ tokens_left tokens.old }
+        requires { IsFirst 0 first tokens.old }
+        ensures left { tokens_left tokens.new ≤ tokens_left tokens.old }
+        ensures goes_on { MatchResult result
+            (λ p. IsPath first.entry.span.start p.span tokens.old tokens.new)
+            (λ e. e ≡ Memory) }
     {
         let mut text = String::from_str(alloc, first.text)?;
         let mut span = first.span;
@@ -126,13 +158,17 @@ impl Path {
     }
 
     /// The name that it is.
-    pub(crate) fn name(&self, alloc: Global) -> Result<Name, Refusal> {
+    pub(crate) fn name(&self, alloc: Global) -> Result<Name, Refusal>
+        ensures { IfErr result (IsAbout self.now.span) }
+    {
         name_of(alloc, &self.text, self.span)
     }
 }
 
 /// The name of this text, which stands here.
-pub(crate) fn name_of(alloc: Global, text: &str, span: Span) -> Result<Name, Refusal> {
+pub(crate) fn name_of(alloc: Global, text: &str, span: Span) -> Result<Name, Refusal>
+    ensures { IfErr result (IsAbout span) }
+{
     match Name::from_normalized_str(alloc, text) {
         Ok(name) => Ok(name),
         Err(ParseErrors::Memory) => Err(Refusal::Memory),

@@ -1,10 +1,11 @@
 //! Expressions with their places in a text.
-ghost use Rattle.std.specs.Prelude.{◌≡◌, IfOk};
+ghost use Rattle.std.specs.Prelude.{◌≡◌, IfErr, IfOk};
 ghost use Rattle.std.specs.Rc.{rc_str_bytes};
 ghost use Rattle.cedar_builders.specs.BareExpr.{And, BinaryApp, GetAttr, HasAttr, Is, Like, Or, Set};
 ghost use Rattle.cedar_exprs.specs.BareExpr.{bare_expr, bare_expr_kind, bare_exprs, further};
 ghost use Rattle.cedar_terms.specs.Entities.{bare_entity_type};
 ghost use Rattle.cedar_reader.specs.Operations.{infix_tree, operation_tree};
+ghost use Rattle.cedar_reader.specs.Refused.{IsAbout, start_of};
 
 use crate::held::{Held, Operation};
 use crate::infix::Infix;
@@ -58,8 +59,9 @@ impl Nodes<'_> {
 
     /// The operation with its last operand.
     pub(crate) fn apply(&self, operation: Operation, last: Held) -> Result<Held, AllocError>
-        ensures { IfOk result (λ h.
+        ensures tree { IfOk result (λ h.
             bare_expr h.expr ≡ operation_tree operation (bare_expr last.expr)) }
+        ensures start { IfOk result (λ h. h.span.start ≡ start_of operation) }
     {
         let level = operation.level();
         let span = Span {
@@ -125,8 +127,9 @@ impl Nodes<'_> {
 
     /// An attribute of an operand, which ends here.
     pub(crate) fn get(&self, held: Held, attr: RcStr, stop: usize) -> Result<Held, AllocError>
-        ensures { IfOk result (λ h.
+        ensures tree { IfOk result (λ h.
             bare_expr h.expr ≡ GetAttr (bare_expr held.expr) (rc_str_bytes attr)) }
+        ensures start { IfOk result (λ h. h.span.start ≡ held.span.start) }
     {
         let span = held.span.up_to(stop);
         let expr = self.at(span)?.get_attr(self.alloc, held.expr, attr)?;
@@ -140,8 +143,9 @@ impl Nodes<'_> {
         attrs: NonEmpty<RcStr>,
         stop: usize,
     ) -> Result<Held, AllocError>
-        ensures { IfOk result (λ h. bare_expr h.expr
+        ensures tree { IfOk result (λ h. bare_expr h.expr
             ≡ HasAttr (bare_expr held.expr) (rc_str_bytes attrs.head) (further attrs)) }
+        ensures start { IfOk result (λ h. h.span.start ≡ held.span.start) }
     {
         let span = held.span.up_to(stop);
         let expr = self
@@ -152,7 +156,8 @@ impl Nodes<'_> {
 
     /// The test by a pattern, which ends here.
     pub(crate) fn like(&self, held: Held, pattern: Pattern, stop: usize) -> Result<Held, AllocError>
-        ensures { IfOk result (λ h. bare_expr h.expr ≡ Like (bare_expr held.expr) pattern) }
+        ensures tree { IfOk result (λ h. bare_expr h.expr ≡ Like (bare_expr held.expr) pattern) }
+        ensures start { IfOk result (λ h. h.span.start ≡ held.span.start) }
     {
         let span = held.span.up_to(stop);
         let expr = self.at(span)?.like(self.alloc, held.expr, pattern)?;
@@ -161,8 +166,9 @@ impl Nodes<'_> {
 
     /// The test for a type of entities, which ends here.
     pub(crate) fn is(&self, held: Held, ty: EntityType, stop: usize) -> Result<Held, AllocError>
-        ensures { IfOk result (λ h.
+        ensures tree { IfOk result (λ h.
             bare_expr h.expr ≡ Is (bare_expr held.expr) (bare_entity_type ty)) }
+        ensures start { IfOk result (λ h. h.span.start ≡ held.span.start) }
     {
         let span = held.span.up_to(stop);
         let expr = self.at(span)?.is_entity_type(self.alloc, held.expr, ty)?;
@@ -171,13 +177,16 @@ impl Nodes<'_> {
 
     /// A set.
     pub(crate) fn set(&self, members: Vec<Expr>, span: Span) -> Result<Expr, Refusal>
-        ensures { IfOk result (λ e. bare_expr e ≡ Set (bare_exprs members.items)) }
+        ensures tree { IfOk result (λ e. bare_expr e ≡ Set (bare_exprs members.items)) }
+        ensures refused { IfErr result (IsAbout span) }
     {
         Ok(self.at(span)?.set(self.alloc, members)?)
     }
 
     /// A record, which has each key once.
-    pub(crate) fn record(&self, pairs: Vec<(RcStr, Expr)>, span: Span) -> Result<Expr, Refusal> {
+    pub(crate) fn record(&self, pairs: Vec<(RcStr, Expr)>, span: Span) -> Result<Expr, Refusal>
+        ensures { IfErr result (IsAbout span) }
+    {
         match self.at(span)?.record(self.alloc, pairs) {
             Ok(expr) => Ok(expr),
             Err(ExpressionConstructionError::Memory) => Err(Refusal::Memory),

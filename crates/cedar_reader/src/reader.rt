@@ -1,6 +1,19 @@
 //! From tokens to expressions.
-ghost use Rattle.std.specs.Prelude.{◌<◌, ◌≤◌, IfSome, length};
+ghost use Rattle.std.specs.Prelude.{◌≡◌, ◌<◌, ◌≤◌, IfErr, IfSome, MatchResult, Some, length, max};
 ghost use Rattle.cedar_tokens.specs.Pieces.{tokens_left};
+ghost use Rattle.cedar_tokens.specs.declared.refusal.Refusal.TheVariants.{Memory};
+ghost use Rattle.cedar_reader.specs.Refused.{
+  GoesOn,
+  IsAbout,
+  IsFirst,
+  IsToldIn,
+  IsUpTo,
+  IsWithin,
+  held_start,
+  open_start,
+  start_of,
+  stop_of,
+};
 
 use crate::groups::{Group, GroupKind, RowKind};
 use crate::held::{Held, Operation, Step};
@@ -27,7 +40,9 @@ use std::rc::RcStr;
 /// It takes any name for that of a function or a method, `unknown("x")` for an unknown, and refuses
 /// only what is no expression: what is outside the grammar, an integer outside 64 bits, and a key
 /// that stands twice in a record. `true && false` stays as it stands. No depth of the text ends it.
-pub fn read_expr(alloc: Global, text: &str) -> Result<Expr, ReadError> {
+pub fn read_expr(alloc: Global, text: &str) -> Result<Expr, ReadError>
+    ensures { IfErr result (IsToldIn text.now) }
+{
     read_with_values(alloc, text, &HashMap::new(alloc))
 }
 
@@ -37,14 +52,18 @@ pub fn read_with_values(
     alloc: Global,
     text: &str,
     values: &HashMap<RcStr, Expr>,
-) -> Result<Expr, ReadError> {
+) -> Result<Expr, ReadError>
+    ensures { IfErr result (IsToldIn text.now) }
+{
     match read(alloc, text, values) {
         Ok(expr) => Ok(expr),
         Err(refusal) => Err(refusal.in_text(text)),
     }
 }
 
-fn read(alloc: Global, text: &str, values: &HashMap<RcStr, Expr>) -> Result<Expr, Refusal> {
+fn read(alloc: Global, text: &str, values: &HashMap<RcStr, Expr>) -> Result<Expr, Refusal>
+    ensures { IfErr result (IsWithin (length text.now)) }
+{
     let found = scan(alloc, text)?;
     let mut tokens = Tokens::new(&found);
     let mut reader = Reader {
@@ -76,7 +95,11 @@ impl Reader<'_> {
     // Goes on with a token, and maybe more. What stands before them is an operand, or nothing where
     // one is wanted; so is the answer.
     fn step(&mut self, held: Option<Held>, token: Token<'_>, tokens: &mut Tokens<'_>) -> Step
-        ensures { tokens_left tokens.new ≤ tokens_left tokens.old }
+        requires { IsFirst (max (open_start self.old) (held_start held)) token tokens.old }
+        ensures left { tokens_left tokens.new ≤ tokens_left tokens.old }
+        ensures goes_on { MatchResult result
+            (GoesOn tokens.old tokens.new self.new)
+            (IsWithin (stop_of tokens.old)) }
     {
         match held {
             Some(held) => self.follow(held, token, tokens),
@@ -86,7 +109,11 @@ impl Reader<'_> {
 
     // The first token of an operand.
     fn operand(&mut self, token: Token<'_>, tokens: &mut Tokens<'_>) -> Step
-        ensures { tokens_left tokens.new ≤ tokens_left tokens.old }
+        requires { IsFirst (open_start self.old) token tokens.old }
+        ensures left { tokens_left tokens.new ≤ tokens_left tokens.old }
+        ensures goes_on { MatchResult result
+            (GoesOn tokens.old tokens.new self.new)
+            (IsWithin (stop_of tokens.old)) }
     {
         let Token { kind, span, .. } = token;
         let alloc = self.nodes.alloc;
@@ -107,14 +134,22 @@ impl Reader<'_> {
         }
     }
 
-    fn literal(&mut self, literal: Literal, token: Token<'_>) -> Step {
+    fn literal(&mut self, literal: Literal, token: Token<'_>) -> Step
+        ensures { MatchResult result
+            (IsUpTo (max (open_start self.old) token.entry.span.start) self.new)
+            (λ e. e ≡ Memory) }
+    {
         let expr = self.nodes.node(ExprKind::Lit(literal), token.span)?;
         Ok(Some(Held::member(expr, token.span)))
     }
 
     // An integer. A minus before its digits is part of it, unless they are a part of what the minus
     // stands before.
-    fn number(&mut self, digits: Token<'_>, next: Kind) -> Step {
+    fn number(&mut self, digits: Token<'_>, next: Kind) -> Step
+        ensures { MatchResult result
+            (IsUpTo (max (open_start self.old) digits.entry.span.start) self.new)
+            (IsAbout digits.entry.span) }
+    {
         let sign = match next {
             Kind::Dot | Kind::OpenSquare => None,
             _ => self.pop_minus(),
@@ -127,7 +162,11 @@ impl Reader<'_> {
     }
 
     // Takes the last operation, if it is a minus, and says where that stands.
-    fn pop_minus(&mut self) -> Option<usize> {
+    #[tactic(auto, using(crate::proofs::Greatest::greatest_push))]
+    fn pop_minus(&mut self) -> Option<usize>
+        ensures opened { open_start self.new ≤ open_start self.old }
+        ensures start { IfSome result (λ start. start ≤ open_start self.old) }
+    {
         match self.operations.last() {
             Some(Operation::Prefix(UnaryOp::Neg, start, _)) => {
                 let start = *start;
@@ -140,7 +179,11 @@ impl Reader<'_> {
 
     // An entity, the call of a function, or a variable.
     fn name(&mut self, first: Token<'_>, tokens: &mut Tokens<'_>) -> Step
-        ensures { tokens_left tokens.new ≤ tokens_left tokens.old }
+        requires { IsFirst (open_start self.old) first tokens.old }
+        ensures left { tokens_left tokens.new ≤ tokens_left tokens.old }
+        ensures goes_on { MatchResult result
+            (GoesOn tokens.old tokens.new self.new)
+            (IsWithin (stop_of tokens.old)) }
     {
         let alloc = self.nodes.alloc;
         let path = Path::read(alloc, first, tokens)?;
@@ -156,7 +199,12 @@ impl Reader<'_> {
     }
 
     // A sign before its operand, of which the grammar has four at most in a row.
-    fn prefix(&mut self, op: UnaryOp, token: Token<'_>) -> Step {
+    #[tactic(auto, using(crate::proofs::Greatest::greatest_push))]
+    fn prefix(&mut self, op: UnaryOp, token: Token<'_>) -> Step
+        ensures { MatchResult result
+            (IsUpTo (max (open_start self.old) token.entry.span.start) self.new)
+            (IsAbout token.entry.span) }
+    {
         let before = self.signs();
         if before > 3 {
             return Err(Refusal::Syntax(token.span, "this is the fifth sign in a row"));
@@ -175,7 +223,11 @@ impl Reader<'_> {
     }
 
     // `if`, which is no operand of an operator.
-    fn conditional(&mut self, token: Token<'_>) -> Step {
+    fn conditional(&mut self, token: Token<'_>) -> Step
+        ensures { MatchResult result
+            (IsUpTo (max (open_start self.old) token.entry.span.start) self.new)
+            (IsAbout token.entry.span) }
+    {
         match self.operations.last() {
             None | Some(Operation::Else(_, _, _)) => self.open(GroupKind::If, token.span.start),
             _ => Err(Refusal::Syntax(token.span, "an `if` behind an operator needs brackets")),
@@ -184,7 +236,11 @@ impl Reader<'_> {
 
     // A token behind an operand.
     fn follow(&mut self, held: Held, token: Token<'_>, tokens: &mut Tokens<'_>) -> Step
-        ensures { tokens_left tokens.new ≤ tokens_left tokens.old }
+        requires { IsFirst (max (open_start self.old) held.span.start) token tokens.old }
+        ensures left { tokens_left tokens.new ≤ tokens_left tokens.old }
+        ensures goes_on { MatchResult result
+            (GoesOn tokens.old tokens.new self.new)
+            (IsWithin (stop_of tokens.old)) }
     {
         match token.kind {
             Kind::Dot => self.dot(member(held, token)?, tokens),
@@ -199,7 +255,11 @@ impl Reader<'_> {
 
     // `has`, `like` or `is` behind an operand.
     fn test(&mut self, held: Held, token: Token<'_>, tokens: &mut Tokens<'_>) -> Step
-        ensures { tokens_left tokens.new ≤ tokens_left tokens.old }
+        requires { IsFirst (max (open_start self.old) held.span.start) token tokens.old }
+        ensures left { tokens_left tokens.new ≤ tokens_left tokens.old }
+        ensures goes_on { MatchResult result
+            (GoesOn tokens.old tokens.new self.new)
+            (IsWithin (stop_of tokens.old)) }
     {
         let left = self.left(held, Level::Relation, Level::Sum, token)?;
         match token.kind {
@@ -210,7 +270,12 @@ impl Reader<'_> {
     }
 
     // An operator behind an operand.
-    fn infix(&mut self, infix: Infix, held: Held, token: Token<'_>) -> Step {
+    #[tactic(auto, using(crate::proofs::Greatest::greatest_push))]
+    fn infix(&mut self, infix: Infix, held: Held, token: Token<'_>) -> Step
+        ensures { MatchResult result
+            (IsUpTo (max (open_start self.old) held.span.start) self.new)
+            (IsAbout token.entry.span) }
+    {
         let (own, least) = infix.levels();
         let left = self.left(held, own, least, token)?;
         self.operations.push(Operation::Infix(infix, left))?;
@@ -225,7 +290,11 @@ impl Reader<'_> {
         own: Level,
         least: Level,
         token: Token<'_>,
-    ) -> Result<Held, Refusal> {
+    ) -> Result<Held, Refusal>
+        ensures { MatchResult result
+            (λ h. IsUpTo (max (open_start self.old) held.span.start) self.new (Some h))
+            (IsAbout token.entry.span) }
+    {
         let held = self.apply_down_to(own, held)?;
         if held.level.number() < least.number() {
             return Err(Refusal::Syntax(token.span, "what stands before this needs brackets"));
@@ -234,7 +303,11 @@ impl Reader<'_> {
     }
 
     // Applies the operations that bind at least this tightly.
-    fn apply_down_to(&mut self, least: Level, last: Held) -> Result<Held, Refusal> {
+    fn apply_down_to(&mut self, least: Level, last: Held) -> Result<Held, Refusal>
+        ensures { MatchResult result
+            (λ h. IsUpTo (max (open_start self.old) last.span.start) self.new (Some h))
+            (λ e. e ≡ Memory) }
+    {
         let mut held = last;
         'operations: while let Some(operation) = self.pop_operation(least) {
             held = self.nodes.apply(operation, held)?;
@@ -243,9 +316,12 @@ impl Reader<'_> {
     }
 
     // Takes the last operation, if it binds at least this tightly.
+    #[tactic(auto, using(crate::proofs::Greatest::greatest_push))]
     fn pop_operation(&mut self, least: Level) -> Option<Operation>
-        ensures { IfSome result (λ _.
+        ensures fewer { IfSome result (λ _.
             length self.new.operations.items < length self.old.operations.items) }
+        ensures opened { open_start self.new ≤ open_start self.old }
+        ensures start { IfSome result (λ o. start_of o ≤ open_start self.old) }
     {
         let level = self.operations.last()?.level();
         if level.number() < least.number() {
@@ -256,7 +332,11 @@ impl Reader<'_> {
 
     // A token that goes on with no operand: it goes on with the group around it, or ends that.
     fn close(&mut self, last: Held, token: Token<'_>, tokens: &mut Tokens<'_>) -> Step
-        ensures { tokens_left tokens.new ≤ tokens_left tokens.old }
+        requires { IsFirst (max (open_start self.old) last.span.start) token tokens.old }
+        ensures left { tokens_left tokens.new ≤ tokens_left tokens.old }
+        ensures goes_on { MatchResult result
+            (GoesOn tokens.old tokens.new self.new)
+            (IsWithin (stop_of tokens.old)) }
     {
         let held = self.apply_down_to(Level::Conditional, last)?;
         match self.groups.pop() {
@@ -266,7 +346,9 @@ impl Reader<'_> {
     }
 
     // The end of the text.
-    fn end(&mut self, held: Option<Held>, end: Token<'_>) -> Result<Expr, Refusal> {
+    fn end(&mut self, held: Option<Held>, end: Token<'_>) -> Result<Expr, Refusal>
+        ensures { IfErr result (IsAbout end.entry.span) }
+    {
         let Some(last) = held else {
             return Err(Refusal::Syntax(end.span, "an expression is wanted here"));
         };
@@ -278,7 +360,12 @@ impl Reader<'_> {
     }
 
     /// Opens a group with an operand. Within it none of the operations waits that are there.
-    pub(crate) fn open(&mut self, kind: GroupKind, start: usize) -> Step {
+    #[tactic(auto, using(crate::proofs::Greatest::greatest_push))]
+    pub(crate) fn open(&mut self, kind: GroupKind, start: usize) -> Step
+        ensures { MatchResult result
+            (IsUpTo (max (open_start self.old) start) self.new)
+            (λ e. e ≡ Memory) }
+    {
         let operations = mem::replace(&mut self.operations, Vec::new(self.nodes.alloc));
         self.groups.push(Group {
             kind,
@@ -290,7 +377,9 @@ impl Reader<'_> {
 }
 
 // What `.` or `[` stands behind.
-fn member(held: Held, token: Token<'_>) -> Result<Held, Refusal> {
+fn member(held: Held, token: Token<'_>) -> Result<Held, Refusal>
+    ensures { MatchResult result (λ h. h.span ≡ held.span) (IsAbout token.entry.span) }
+{
     match held.level {
         Level::Member => Ok(held),
         _ => Err(Refusal::Syntax(token.span, "what stands before this needs brackets")),

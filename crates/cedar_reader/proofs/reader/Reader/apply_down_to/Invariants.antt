@@ -1,5 +1,13 @@
-use Rattle.std.proofs.Common.{length}
+use Rattle.std.proofs.Common.{◌≤◌, length, max}
+use Rattle.cedar_reader.specs.Refused.{open_start}
 use Rattle.cedar_reader.proofs.reader.Reader.apply_down_to.Given as goal
+
+-- nothing begins later than before
+abbrev pub invariant-operations : goal.invariant-operations
+invariant-operations l = record {
+  opened : open_start l.self ≤ open_start l.initial.self;
+  read : l.held.span.start ≤ max (open_start l.initial.self) l.initial.held.span.start;
+}
 
 abbrev pub decreases-operations : goal.decreases-operations
 decreases-operations l = length l.self.operations.items
