@@ -1,12 +1,13 @@
 //! How `and` and `or` are made.
 ghost use Rattle.cedar_builders.specs.Answers.{Means};
-ghost use Rattle.cedar_builders.specs.BareExpr.{BareExpr};
+ghost use Rattle.cedar_builders.specs.BareExpr.{BareExpr, And, Or};
 ghost use Rattle.cedar_builders.specs.Trees.{tree_ops};
 ghost use Rattle.cedar_exprs.specs.BareExpr.{bare_expr};
 
 use cedar_builders::ExprBuilder as _;
-use cedar_exprs::{Expr, ExprBuilder};
+use cedar_exprs::{Expr, ExprBuilder, ExprKind};
 use std::alloc::{AllocError, Global};
+use std::rc::Rc;
 
 /// How conjunctions and disjunctions are made.
 pub trait Connectives {
@@ -58,5 +59,38 @@ impl Connectives for Simplifying {
         right: Expr<()>,
     ) -> Result<Expr<()>, AllocError> {
         builder.or(alloc, left, right)
+    }
+}
+
+/// Each node as it stands.
+pub enum AsTheyStand {}
+
+impl Connectives for AsTheyStand {
+    ghost and_of = { And };
+
+    ghost or_of = { Or };
+
+    fn and(
+        builder: ExprBuilder<()>,
+        alloc: Global,
+        left: Expr<()>,
+        right: Expr<()>,
+    ) -> Result<Expr<()>, AllocError> {
+        Ok(builder.with_expr_kind(ExprKind::And {
+            left: Rc::new(alloc, left)?,
+            right: Rc::new(alloc, right)?,
+        }))
+    }
+
+    fn or(
+        builder: ExprBuilder<()>,
+        alloc: Global,
+        left: Expr<()>,
+        right: Expr<()>,
+    ) -> Result<Expr<()>, AllocError> {
+        Ok(builder.with_expr_kind(ExprKind::Or {
+            left: Rc::new(alloc, left)?,
+            right: Rc::new(alloc, right)?,
+        }))
     }
 }

@@ -6,6 +6,6 @@ mod connectives;
 mod refusal;
 mod refusing;
 
-pub use crate::connectives::{Connectives, Simplifying};
+pub use crate::connectives::{AsTheyStand, Connectives, Simplifying};
 pub use crate::refusal::{Counted, Nothing, Numbered, Refusal};
 pub use crate::refusing::{RefuseAt, RefuseCount, Refused, Refusing};

@@ -3,6 +3,4 @@
 #![tactic(auto)]
 
 #[cfg(test)]
-mod raw;
-#[cfg(test)]
 mod tests;

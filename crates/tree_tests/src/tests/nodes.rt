@@ -1,5 +1,4 @@
 //! Nodes as they stand, what they share, and errors side by side.
-use crate::raw::Raw;
 use crate::tests::{is_equal, long, made, shared};
 use cedar_builders::ExprBuilder as _;
 use cedar_exprs::{Expr, ExprBuilder, ExprKind, ExprValidationError};
@@ -7,6 +6,10 @@ use cedar_names::Name;
 use cedar_terms::Literal;
 use std::process::Abort;
 use std::rc::Rc;
+use test_support::{AsTheyStand, Nothing, Refusing};
+
+// Makes each node as it stands. It is no lawful builder.
+type Raw = Refusing<Nothing, AsTheyStand>;
 
 fn boolean(b: bool) -> Expr<()> {
     Expr::val(Literal::Bool(b))
