@@ -1,2 +1,2 @@
-pub mod Refused
+pub mod Chosen
 pub mod Recording

@@ -1,15 +1,13 @@
 //! What builders make of an expression, before substitution and after.
-use crate::refusing::Refusing;
+use crate::chosen::{Chosen, bit};
 use crate::substitution::{clash_text, refusal_of, substituted, substituted_typed};
-use cedar_builders::BuildFault;
 use cedar_exprs::{Expr, ExprBuilder, TypedBuildFault};
-use cedar_names::Name;
-use cedar_sketch::SExpression;
 use row_parts::{NoAnswer, Part};
 use row_trees::{KeyedValue, bindings, placed, sketch};
 use std::alloc::{AllocError, Global};
 use std::collections::HashMap;
 use std::rc::RcStr;
+use test_support::{AsTheyStand, Refused, Refusing};
 
 /// The tree that the struct makes again.
 pub fn rebuild(alloc: Global, e: &Expr) -> Result<String, NoAnswer> {
@@ -27,54 +25,35 @@ pub fn rebuilt<T: Default + Copy>(alloc: Global, e: &Expr<T>) -> Result<Expr<T>,
     e.into_expr::<ExprBuilder<T>>(alloc)
 }
 
-/// What a sketch makes that refuses these functions.
+/// What a builder makes that refuses these functions, and makes each node as it stands.
 pub fn build(alloc: Global, names: &[Part], e: &Expr) -> Result<String, NoAnswer> {
-    match mask(names)? {
-        0 => built::<0>(alloc, e),
-        1 => built::<1>(alloc, e),
-        2 => built::<2>(alloc, e),
-        4 => built::<4>(alloc, e),
-        5 => built::<5>(alloc, e),
-        8 => built::<8>(alloc, e),
-        16 => built::<16>(alloc, e),
-        24 => built::<24>(alloc, e),
-        63 => built::<63>(alloc, e),
-        _ => Err(NoAnswer::NotTaken),
-    }
+    answer(alloc, names, &Asked::Built(e))
 }
 
-fn built<const MASK: u8>(alloc: Global, e: &Expr) -> Result<String, NoAnswer> {
-    outcome(alloc, e.try_into_expr::<Refusing<MASK>>(alloc))
-}
-
-fn outcome(alloc: Global, made: Result<SExpression, BuildFault<Name>>) -> Result<String, NoAnswer> {
-    match made {
-        Ok(made) => made_text(alloc, &made),
-        Err(fault) => fault_text(alloc, &fault),
-    }
-}
-
-fn fault_text(alloc: Global, fault: &BuildFault<Name>) -> Result<String, NoAnswer> {
-    match fault {
-        BuildFault::Build(name) => refusal_text(alloc, name),
-        BuildFault::Memory => Err(NoAnswer::Memory),
-    }
-}
-
-fn made_text(alloc: Global, made: &SExpression) -> Result<String, NoAnswer> {
-    Ok(format!(in alloc; "ok {}", made.to_text(alloc)?)?)
-}
-
-fn refusal_text(alloc: Global, name: &Name) -> Result<String, NoAnswer> {
-    Ok(format!(in alloc; "refused {name}")?)
-}
-
-/// What it makes after substitution: of the one call and of the two in turn.
+/// What a lawful one makes after substitution: of the one call and of the two in turn. No `and` or
+/// `or` of two Booleans is left then, so the other makes the same.
 pub fn subst_build(alloc: Global, names: &Part, e: &Expr, env: &Part) -> Result<String, NoAnswer> {
     let names = names.list()?;
-    let at_once = at_once(alloc, mask(names)?, e, &bindings(alloc, env)?)?;
+    let values = bindings(alloc, env)?;
+    let at_once = answer(alloc, names, &Asked::Substituted(e, &values))?;
     let in_turn = build(alloc, names, &substituted(alloc, e, env)?)?;
     agreed(at_once, in_turn.as_str())
+}
+
+/// What a lawful one makes after typed substitution: of the one call and of the two in turn.
+pub fn typed_build(alloc: Global, names: &Part, e: &Expr, env: &Part) -> Result<String, NoAnswer> {
+    let names = names.list()?;
+    let values = bindings(alloc, env)?;
+    let at_once = answer(alloc, names, &Asked::Typed(e, &values))?;
+    let in_turn = typed_in_turn(alloc, names, e, env)?;
+    agreed(at_once, in_turn.as_str())
+}
+
+fn typed_in_turn(alloc: Global, names: &[Part], e: &Expr, env: &Part) -> Result<String, NoAnswer> {
+    match substituted_typed(alloc, e, env)? {
+        Ok(e) => build(alloc, names, &e),
+        Err(error) => refusal_of(alloc, &error),
+    }
 }
 
 fn agreed(at_once: String, in_turn: &str) -> Result<String, NoAnswer> {
@@ -87,104 +66,80 @@ fn agreed(at_once: String, in_turn: &str) -> Result<String, NoAnswer> {
 
 type Values = HashMap<RcStr, KeyedValue>;
 
-fn at_once(alloc: Global, mask: u8, e: &Expr, values: &Values) -> Result<String, NoAnswer> {
-    match mask {
-        0 => substituted_by::<0>(alloc, e, values),
-        1 => substituted_by::<1>(alloc, e, values),
-        2 => substituted_by::<2>(alloc, e, values),
-        4 => substituted_by::<4>(alloc, e, values),
-        5 => substituted_by::<5>(alloc, e, values),
-        8 => substituted_by::<8>(alloc, e, values),
-        16 => substituted_by::<16>(alloc, e, values),
-        24 => substituted_by::<24>(alloc, e, values),
-        63 => substituted_by::<63>(alloc, e, values),
+// What is asked of a builder.
+#[derive(Drop)]
+enum Asked<'a> {
+    Built(&'a Expr),
+    Substituted(&'a Expr, &'a Values),
+    Typed(&'a Expr, &'a Values),
+}
+
+// A type stands here for each choice of functions that rows make.
+fn answer(alloc: Global, names: &[Part], asked: &Asked<'_>) -> Result<String, NoAnswer> {
+    match bits(names)? {
+        0 => answered::<0>(alloc, asked),
+        1 => answered::<1>(alloc, asked),
+        2 => answered::<2>(alloc, asked),
+        4 => answered::<4>(alloc, asked),
+        5 => answered::<5>(alloc, asked),
+        8 => answered::<8>(alloc, asked),
+        16 => answered::<16>(alloc, asked),
+        24 => answered::<24>(alloc, asked),
+        63 => answered::<63>(alloc, asked),
         _ => Err(NoAnswer::NotTaken),
     }
 }
 
-fn substituted_by<const MASK: u8>(
+fn answered<const BITS: u8>(alloc: Global, asked: &Asked<'_>) -> Result<String, NoAnswer> {
+    match asked {
+        Asked::Built(e) => outcome(alloc, built::<BITS>(alloc, e)),
+        Asked::Substituted(e, values) => outcome(alloc, substituted_by::<BITS>(alloc, e, values)),
+        Asked::Typed(e, values) => outcome(alloc, typed_by::<BITS>(alloc, e, values)),
+    }
+}
+
+fn built<const BITS: u8>(alloc: Global, e: &Expr) -> Result<Expr, TypedBuildFault<Refused>> {
+    Ok(e.try_into_expr::<Refusing<Chosen<BITS>, AsTheyStand>>(alloc)?)
+}
+
+fn substituted_by<const BITS: u8>(
     alloc: Global,
     e: &Expr,
     values: &Values,
-) -> Result<String, NoAnswer> {
-    outcome(
-        alloc,
-        e.substitute_into_expr::<Refusing<MASK>, KeyedValue>(alloc, values),
-    )
+) -> Result<Expr, TypedBuildFault<Refused>> {
+    Ok(e.substitute_into_expr::<Refusing<Chosen<BITS>>, KeyedValue>(alloc, values)?)
 }
 
-/// What it makes after typed substitution: of the one call and of the two in turn.
-pub fn typed_build(alloc: Global, names: &Part, e: &Expr, env: &Part) -> Result<String, NoAnswer> {
-    let names = names.list()?;
-    let at_once = typed_at_once(alloc, mask(names)?, e, &bindings(alloc, env)?)?;
-    let in_turn = typed_in_turn(alloc, names, e, env)?;
-    agreed(at_once, in_turn.as_str())
-}
-
-fn typed_in_turn(alloc: Global, names: &[Part], e: &Expr, env: &Part) -> Result<String, NoAnswer> {
-    match substituted_typed(alloc, e, env)? {
-        Ok(e) => build(alloc, names, &e),
-        Err(error) => refusal_of(alloc, &error),
-    }
-}
-
-fn typed_at_once(alloc: Global, mask: u8, e: &Expr, values: &Values) -> Result<String, NoAnswer> {
-    match mask {
-        0 => typed_by::<0>(alloc, e, values),
-        1 => typed_by::<1>(alloc, e, values),
-        2 => typed_by::<2>(alloc, e, values),
-        4 => typed_by::<4>(alloc, e, values),
-        5 => typed_by::<5>(alloc, e, values),
-        8 => typed_by::<8>(alloc, e, values),
-        16 => typed_by::<16>(alloc, e, values),
-        24 => typed_by::<24>(alloc, e, values),
-        63 => typed_by::<63>(alloc, e, values),
-        _ => Err(NoAnswer::NotTaken),
-    }
-}
-
-fn typed_by<const MASK: u8>(alloc: Global, e: &Expr, values: &Values) -> Result<String, NoAnswer> {
-    typed_outcome(
-        alloc,
-        e.substitute_typed_into_expr::<Refusing<MASK>, KeyedValue>(alloc, values),
-    )
-}
-
-fn typed_outcome(
+fn typed_by<const BITS: u8>(
     alloc: Global,
-    made: Result<SExpression, TypedBuildFault<Name>>,
+    e: &Expr,
+    values: &Values,
+) -> Result<Expr, TypedBuildFault<Refused>> {
+    e.substitute_typed_into_expr::<Refusing<Chosen<BITS>>, KeyedValue>(alloc, values)
+}
+
+fn outcome(
+    alloc: Global,
+    made: Result<Expr, TypedBuildFault<Refused>>,
 ) -> Result<String, NoAnswer> {
     match made {
-        Ok(made) => made_text(alloc, &made),
-        Err(fault) => typed_fault_text(alloc, &fault),
+        Ok(made) => Ok(format!(in alloc; "ok {}", sketch(alloc, &made)?)?),
+        Err(fault) => fault_text(alloc, &fault),
     }
 }
 
-fn typed_fault_text(alloc: Global, fault: &TypedBuildFault<Name>) -> Result<String, NoAnswer> {
+fn fault_text(alloc: Global, fault: &TypedBuildFault<Refused>) -> Result<String, NoAnswer> {
     match fault {
         TypedBuildFault::TypeError { expected, actual } => clash_text(alloc, expected, actual),
-        TypedBuildFault::Build(name) => refusal_text(alloc, name),
+        TypedBuildFault::Build(refused) => Ok(format!(in alloc; "refused {}", refused.name)?),
         TypedBuildFault::Memory => Err(NoAnswer::Memory),
     }
 }
 
-// The functions that are refused, a bit each.
-fn mask(names: &[Part]) -> Result<u8, NoAnswer> {
-    let mut mask = 0u8;
+fn bits(names: &[Part]) -> Result<u8, NoAnswer> {
+    let mut bits = 0u8;
     for name in names {
-        mask |= bit(name.word()?);
+        bits |= bit(name.word()?);
     }
-    Ok(mask)
-}
-
-fn bit(name: &str) -> u8 {
-    match name {
-        "f" => 1,
-        "ip" => 2,
-        "A::B" => 4,
-        "lng" => 8,
-        "noret" => 16,
-        "isIpv4" => 32,
-        _ => 128,
-    }
+    Ok(bits)
 }

@@ -3,13 +3,13 @@
 
 mod arguments;
 mod building;
+mod chosen;
 mod constructors;
 mod copies;
 mod data;
 mod errors;
 mod queries;
 mod recorder;
-mod refusing;
 mod restricted;
 mod shapes;
 mod struct_calls;
