@@ -2,7 +2,7 @@
 use crate::chosen::{Chosen, bit};
 use crate::substitution::{clash_text, refusal_of, substituted, substituted_typed};
 use cedar_exprs::{Expr, ExprBuilder, TypedBuildFault};
-use row_parts::{NoAnswer, Part};
+use row_parts::{NoAnswer, Part, ok};
 use row_trees::{KeyedValue, bindings, placed, sketch};
 use std::alloc::{AllocError, Global};
 use std::collections::HashMap;
@@ -123,7 +123,7 @@ fn outcome(
     made: Result<Expr, TypedBuildFault<Refused>>,
 ) -> Result<String, NoAnswer> {
     match made {
-        Ok(made) => Ok(format!(in alloc; "ok {}", sketch(alloc, &made)?)?),
+        Ok(made) => ok(alloc, &sketch(alloc, &made)?),
         Err(fault) => fault_text(alloc, &fault),
     }
 }

@@ -3,7 +3,7 @@ use crate::arguments::{entity_type, function, leaf_of, members, pairs, shared, v
 use cedar_builders::ExpressionConstructionError;
 use cedar_exprs::{Expr, ExprKind};
 use cedar_terms::BinaryOp;
-use row_parts::{NoAnswer, Part, pattern, shared_text};
+use row_parts::{NoAnswer, Part, ok, pattern, shared_text};
 use row_trees::{attributes, binary, expr, sketch, unary};
 use std::alloc::Global;
 
@@ -15,7 +15,7 @@ pub fn make(alloc: Global, call: &[Part]) -> Result<String, NoAnswer> {
 /// The record of pairs, or why there is none.
 pub fn record(alloc: Global, parts: &[Part]) -> Result<String, NoAnswer> {
     match Expr::record(alloc, pairs::<()>(alloc, parts)?) {
-        Ok(record) => Ok(format!(in alloc; "ok {}", sketch(alloc, &record)?)?),
+        Ok(record) => ok(alloc, &sketch(alloc, &record)?),
         Err(ExpressionConstructionError::Memory) => Err(NoAnswer::Memory),
         Err(e) => duplicate(alloc, &e),
     }
@@ -138,38 +138,27 @@ fn is_entity_type(alloc: Global, e: Expr, ty: &Part) -> Result<Expr, NoAnswer> {
 
 fn connected(alloc: Global, f: &str, a: Expr, b: &Part) -> Result<Expr, NoAnswer> {
     let b = expr(alloc, b)?;
-    match f {
-        "and" => Ok(Expr::and(alloc, a, b)?),
-        "or" => Ok(Expr::or(alloc, a, b)?),
-        "noteq" => Ok(Expr::noteq(alloc, a, b)?),
-        "greater" => Ok(Expr::greater(alloc, a, b)?),
-        "greatereq" => Ok(Expr::greatereq(alloc, a, b)?),
-        "is_in" => Ok(Expr::is_in(alloc, a, b)?),
-        _ => operated(alloc, f, a, b),
-    }
-}
-
-fn operated(alloc: Global, f: &str, a: Expr, b: Expr) -> Result<Expr, NoAnswer> {
-    match f {
-        "is_eq" => Ok(Expr::is_eq(alloc, a, b)?),
-        "less" => Ok(Expr::less(alloc, a, b)?),
-        "lesseq" => Ok(Expr::lesseq(alloc, a, b)?),
-        "add" => Ok(Expr::add(alloc, a, b)?),
-        "sub" => Ok(Expr::sub(alloc, a, b)?),
-        "mul" => Ok(Expr::mul(alloc, a, b)?),
-        _ => contained(alloc, f, a, b),
-    }
-}
-
-fn contained(alloc: Global, f: &str, a: Expr, b: Expr) -> Result<Expr, NoAnswer> {
-    match f {
-        "contains" => Ok(Expr::contains(alloc, a, b)?),
-        "contains_all" => Ok(Expr::contains_all(alloc, a, b)?),
-        "contains_any" => Ok(Expr::contains_any(alloc, a, b)?),
-        "get_tag" => Ok(Expr::get_tag(alloc, a, b)?),
-        "has_tag" => Ok(Expr::has_tag(alloc, a, b)?),
-        _ => Err(NoAnswer::NotTaken),
-    }
+    let made = match f {
+        "and" => Expr::and(alloc, a, b),
+        "or" => Expr::or(alloc, a, b),
+        "is_eq" => Expr::is_eq(alloc, a, b),
+        "noteq" => Expr::noteq(alloc, a, b),
+        "greater" => Expr::greater(alloc, a, b),
+        "greatereq" => Expr::greatereq(alloc, a, b),
+        "less" => Expr::less(alloc, a, b),
+        "lesseq" => Expr::lesseq(alloc, a, b),
+        "add" => Expr::add(alloc, a, b),
+        "sub" => Expr::sub(alloc, a, b),
+        "mul" => Expr::mul(alloc, a, b),
+        "is_in" => Expr::is_in(alloc, a, b),
+        "contains" => Expr::contains(alloc, a, b),
+        "contains_all" => Expr::contains_all(alloc, a, b),
+        "contains_any" => Expr::contains_any(alloc, a, b),
+        "get_tag" => Expr::get_tag(alloc, a, b),
+        "has_tag" => Expr::has_tag(alloc, a, b),
+        _ => return Err(NoAnswer::NotTaken),
+    };
+    Ok(made?)
 }
 
 fn of_three(alloc: Global, f: &str, a: &Part, b: &Part, c: &Part) -> Result<Expr, NoAnswer> {

@@ -4,6 +4,7 @@ use cedar_exprs::{Expr, ExprBuilder, ExprKind, ExprShapeOnly};
 use row_parts::{NoAnswer, Part, hash, maybe_place};
 use row_trees::placed;
 use std::alloc::Global;
+use std::hash::Hash;
 
 /// Each position of a copy with its place. The copies of its kind and of its shape agree with it,
 /// and so does the node that its parts make.
@@ -11,30 +12,26 @@ pub fn copy(alloc: Global, e: &Expr) -> Result<String, NoAnswer> {
     is_kind(alloc, e.expr_kind())?;
     is_shape(alloc, e)?;
     let copy = e.clone(alloc)?;
-    is_same(&copy, e)?;
+    is_same(&copy, e, "an expression and its copy")?;
     whole(alloc, &put_together(copy), e)
 }
 
 fn whole(alloc: Global, copy: &Expr, e: &Expr) -> Result<String, NoAnswer> {
-    is_same(copy, e)?;
+    is_same(copy, e, "an expression and its copy")?;
     placed(alloc, copy)
 }
 
-fn is_same(a: &Expr, b: &Expr) -> Result<(), NoAnswer> {
-    if a == b && hash(a) == hash(b) {
+fn is_same<T: Eq + Hash>(copy: &T, original: &T, what: &'static str) -> Result<(), NoAnswer> {
+    if *copy == *original && hash(copy) == hash(original) {
         Ok(())
     } else {
-        Err(NoAnswer::Disagree("an expression and its copy"))
+        Err(NoAnswer::Disagree(what))
     }
 }
 
 fn is_kind(alloc: Global, kind: &ExprKind) -> Result<(), NoAnswer> {
     let copy = kind.clone(alloc)?;
-    if copy == *kind && hash(&copy) == hash(kind) {
-        Ok(())
-    } else {
-        Err(NoAnswer::Disagree("a kind and its copy"))
-    }
+    is_same(&copy, kind, "a kind and its copy")
 }
 
 // The copy of a shape that is lent is that of one that is owned.

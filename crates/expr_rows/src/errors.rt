@@ -16,9 +16,13 @@ pub fn validation_text(alloc: Global, e: &ExprValidationError) -> Result<String,
 
 /// The text of an error of substitution, which a copy has too.
 pub fn substitution_text(alloc: Global, e: &SubstitutionError) -> Result<String, NoAnswer> {
+    let copy = e.clone(alloc)?;
+    shown_alike(alloc, e, &copy)
+}
+
+fn shown_alike<E: Display>(alloc: Global, e: &E, copy: &E) -> Result<String, NoAnswer> {
     let text = shown(alloc, e)?;
-    let of_copy = shown(alloc, &e.clone(alloc)?)?;
-    if of_copy.as_str() == text.as_str() {
+    if shown(alloc, copy)?.as_str() == text.as_str() {
         Ok(text)
     } else {
         Err(NoAnswer::Disagree("the copy of an error"))

@@ -1,14 +1,14 @@
 //! Restricted expressions.
 use crate::arguments::function;
 use cedar_exprs::{Expr, RestrictedExpr, RestrictedExprError};
-use row_parts::{NoAnswer, Part, place};
+use row_parts::{NoAnswer, Part, ok, place};
 use row_trees::{expr, placed, sketch};
 use std::alloc::Global;
 
 /// The expression where it is restricted, else where it is not.
 pub fn restricted(alloc: Global, e: Expr) -> Result<String, NoAnswer> {
     match RestrictedExpr::new(alloc, e) {
-        Ok(e) => Ok(format!(in alloc; "ok {}", sketch(alloc, e.as_expr())?)?),
+        Ok(e) => ok(alloc, &sketch(alloc, e.as_expr())?),
         Err(error) => refusal(alloc, &error),
     }
 }
@@ -25,7 +25,7 @@ fn refusal(alloc: Global, error: &RestrictedExprError) -> Result<String, NoAnswe
 /// Each position with its place where it is restricted, else the error's text.
 pub fn restricted_placed(alloc: Global, e: Expr) -> Result<String, NoAnswer> {
     match RestrictedExpr::new(alloc, e) {
-        Ok(e) => Ok(format!(in alloc; "ok {}", placed(alloc, &Expr::from(e))?)?),
+        Ok(e) => ok(alloc, &placed(alloc, &Expr::from(e))?),
         Err(RestrictedExprError::Memory) => Err(NoAnswer::Memory),
         Err(e) => Ok(format!(in alloc; "{e}")?),
     }

@@ -248,76 +248,27 @@ fn connected<T: Data>(
     b: &Part,
 ) -> Result<Expr<T>, NoAnswer> {
     let (a, b) = (T::read(alloc, a)?, T::read(alloc, b)?);
-    match f {
-        "and" | "or" => joined(alloc, builder, f, a, b),
-        "is_eq" | "noteq" | "greater" | "greatereq" | "less" | "lesseq" => {
-            compared(alloc, builder, f, a, b)
-        }
-        "add" | "sub" | "mul" => calculated(alloc, builder, f, a, b),
-        _ => contained(alloc, builder, f, a, b),
-    }
-}
-
-fn joined<T: Data>(
-    alloc: Global,
-    builder: ExprBuilder<T>,
-    f: &str,
-    a: Expr<T>,
-    b: Expr<T>,
-) -> Result<Expr<T>, NoAnswer> {
-    match f {
-        "and" => Ok(builder.and(alloc, a, b)?),
-        _ => Ok(builder.or(alloc, a, b)?),
-    }
-}
-
-fn compared<T: Data>(
-    alloc: Global,
-    builder: ExprBuilder<T>,
-    f: &str,
-    a: Expr<T>,
-    b: Expr<T>,
-) -> Result<Expr<T>, NoAnswer> {
-    match f {
-        "is_eq" => Ok(builder.is_eq(alloc, a, b)?),
-        "noteq" => Ok(builder.noteq(alloc, a, b)?),
-        "greater" => Ok(builder.greater(alloc, a, b)?),
-        "greatereq" => Ok(builder.greatereq(alloc, a, b)?),
-        "less" => Ok(builder.less(alloc, a, b)?),
-        _ => Ok(builder.lesseq(alloc, a, b)?),
-    }
-}
-
-fn calculated<T: Data>(
-    alloc: Global,
-    builder: ExprBuilder<T>,
-    f: &str,
-    a: Expr<T>,
-    b: Expr<T>,
-) -> Result<Expr<T>, NoAnswer> {
-    match f {
-        "add" => Ok(builder.add(alloc, a, b)?),
-        "sub" => Ok(builder.sub(alloc, a, b)?),
-        _ => Ok(builder.mul(alloc, a, b)?),
-    }
-}
-
-fn contained<T: Data>(
-    alloc: Global,
-    builder: ExprBuilder<T>,
-    f: &str,
-    a: Expr<T>,
-    b: Expr<T>,
-) -> Result<Expr<T>, NoAnswer> {
-    match f {
-        "is_in" => Ok(builder.is_in(alloc, a, b)?),
-        "contains" => Ok(builder.contains(alloc, a, b)?),
-        "contains_all" => Ok(builder.contains_all(alloc, a, b)?),
-        "contains_any" => Ok(builder.contains_any(alloc, a, b)?),
-        "get_tag" => Ok(builder.get_tag(alloc, a, b)?),
-        "has_tag" => Ok(builder.has_tag(alloc, a, b)?),
-        _ => Err(NoAnswer::NotTaken),
-    }
+    let made = match f {
+        "and" => builder.and(alloc, a, b),
+        "or" => builder.or(alloc, a, b),
+        "is_eq" => builder.is_eq(alloc, a, b),
+        "noteq" => builder.noteq(alloc, a, b),
+        "greater" => builder.greater(alloc, a, b),
+        "greatereq" => builder.greatereq(alloc, a, b),
+        "less" => builder.less(alloc, a, b),
+        "lesseq" => builder.lesseq(alloc, a, b),
+        "add" => builder.add(alloc, a, b),
+        "sub" => builder.sub(alloc, a, b),
+        "mul" => builder.mul(alloc, a, b),
+        "is_in" => builder.is_in(alloc, a, b),
+        "contains" => builder.contains(alloc, a, b),
+        "contains_all" => builder.contains_all(alloc, a, b),
+        "contains_any" => builder.contains_any(alloc, a, b),
+        "get_tag" => builder.get_tag(alloc, a, b),
+        "has_tag" => builder.has_tag(alloc, a, b),
+        _ => return Err(NoAnswer::NotTaken),
+    };
+    Ok(made?)
 }
 
 fn of_three<T: Data>(

@@ -2,7 +2,7 @@
 use crate::errors::substitution_text;
 use cedar_exprs::{Expr, SubstitutionError};
 use cedar_terms::Type;
-use row_parts::{NoAnswer, Part};
+use row_parts::{NoAnswer, Part, ok};
 use row_trees::{bindings, placed, sketch};
 use std::alloc::Global;
 
@@ -25,7 +25,7 @@ pub fn substituted(alloc: Global, e: &Expr, env: &Part) -> Result<Expr, NoAnswer
 /// The tree after typed substitution, or the types that clash.
 pub fn typed(alloc: Global, e: &Expr, env: &Part) -> Result<String, NoAnswer> {
     match substituted_typed(alloc, e, env)? {
-        Ok(e) => Ok(format!(in alloc; "ok {}", sketch(alloc, &e)?)?),
+        Ok(e) => ok(alloc, &sketch(alloc, &e)?),
         Err(error) => refusal_of(alloc, &error),
     }
 }
