@@ -1,5 +1,5 @@
 //! Answers rows of calls from standard input; the answers to those stored here were recorded of the
-//! crate's own code, and those to evaluations of two evaluators written by hand in other languages.
+//! crate's own code.
 #![tactic(auto)]
 
 use cedar_rows::run;

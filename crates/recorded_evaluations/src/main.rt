@@ -1,0 +1,18 @@
+//! Answers rows of calls from standard input; to those stored here, evaluations, two evaluators
+//! that were written by hand in other languages give these answers alike.
+#![tactic(auto)]
+
+use cedar_rows::run;
+use std::io;
+use std::process::ExitCode;
+
+fn main(rt: HostRuntime) -> ExitCode {
+    match run(rt.alloc(), &mut rt.reader(), &mut io::writer(&rt)) {
+        Ok(()) => ExitCode::SUCCESS,
+        Err(fault) => {
+            // Where even standard error is closed, the status alone tells.
+            let _ = eprintln!(rt; "{fault}");
+            ExitCode::from(2)
+        }
+    }
+}
