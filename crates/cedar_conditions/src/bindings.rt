@@ -80,7 +80,8 @@ impl Bindings {
     /// bindings.bind_json(alloc, "{\"limit\": 3, \"context\": {\"mfa\": true}}")?;
     /// ```
     ///
-    /// `docs/CONDITIONS.md` says which value each kind of JSON is.
+    /// `docs/CONDITIONS.md` says which value each kind of JSON is. After an error the members
+    /// before the refused one are bound.
     pub fn bind_json(&mut self, alloc: Global, text: &str) -> Result<(), BindingsError> {
         let json = serde_json::Value::from_str(alloc, text)?;
         let Some(members) = json.as_object() else {

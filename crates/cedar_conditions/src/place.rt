@@ -1,28 +1,68 @@
 //! Where a fault comes up.
 use cedar_exprs::{Expr, ExprKind};
 use cedar_reader::Excerpt;
+use cedar_terms::Literal;
 use std::alloc::{AllocError, Global};
 
 /// The piece of a condition at which its fault comes up, by what is left of it: that of the first
-/// node that is left, children before parents. What stands before it has a value, so its own
-/// operands have.
+/// node without a value, in the order in which nodes are evaluated.
 pub fn fault_place<'a>(
     alloc: Global,
     text: &'a str,
     left: &Expr,
 ) -> Result<Option<Excerpt<'a>>, AllocError> {
     let mut first = None;
-    // The walk goes from the last child to the first.
+    let mut passed_over: usize = 0;
+    // The walk goes from the last node that is evaluated to the first.
     for node in left.subexpressions(alloc)? {
-        if !may_have_value(node) {
-            first = node.source_loc().map(|loc| Excerpt {
-                text,
-                start: loc.start,
-                stop: loc.stop,
-            });
+        if passed_over > 0 {
+            passed_over -= 1;
+        } else {
+            passed_over = unevaluated(alloc, node)?;
+            if !may_have_value(node) {
+                first = Some(node);
+            }
         }
     }
-    Ok(first)
+    Ok(first.and_then(|node| piece(text, node)))
+}
+
+// The piece of the text from which a node was read.
+fn piece<'a>(text: &'a str, node: &Expr) -> Option<Excerpt<'a>> {
+    node.source_loc().map(|loc| Excerpt {
+        text,
+        start: loc.start,
+        stop: loc.stop,
+    })
+}
+
+// How many of the nodes that follow in the walk are not evaluated: those of both branches, since an
+// `if` whose test is known is not left, and those behind `&&` or `||` whose first operand is no
+// Boolean.
+fn unevaluated(alloc: Global, node: &Expr) -> Result<usize, AllocError> {
+    match node.expr_kind() {
+        ExprKind::If {
+            then_expr,
+            else_expr,
+            ..
+        } => Ok(size(alloc, then_expr)?.saturating_add(size(alloc, else_expr)?)),
+        ExprKind::And { left, right } | ExprKind::Or { left, right } => {
+            if is_boolean(left) {
+                Ok(0)
+            } else {
+                size(alloc, right)
+            }
+        }
+        _ => Ok(0),
+    }
+}
+
+fn size(alloc: Global, expr: &Expr) -> Result<usize, AllocError> {
+    Ok(expr.subexpressions(alloc)?.count())
+}
+
+fn is_boolean(expr: &Expr) -> bool {
+    matches!(expr.expr_kind(), ExprKind::Lit(Literal::Bool(_)))
 }
 
 // Whether the node has a value if its children have.
