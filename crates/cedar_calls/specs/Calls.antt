@@ -4,7 +4,7 @@ use Rattle.cedar_names.specs.Names.{BareName}
 use Rattle.cedar_names.specs.PlainNames.{bare_name}
 use Rattle.cedar_terms.specs.Unknowns.{bare_unknown}
 use Rattle.cedar_exprs.specs.BareExpr.{unknown_tree}
-use Rattle.cedar_exprs.specs.BuiltNode.{IsPlain}
+use Rattle.cedar_exprs.specs.MadeNode.{IsPlain}
 use Rattle.cedar_values.specs.declared.partial_value.PartialValue.{PartialValue}
 use Rattle.cedar_values.specs.declared.partial_value.PartialValue.TheVariants as partials
 use Rattle.cedar_calls.specs.OutputValues.{Answer}
@@ -20,7 +20,7 @@ IsPassedOn (Ok (Unknown u)) (Ok (partials.Residual e)) = IsPlain (unknown_tree (
 IsPassedOn (Err e) (Err f) = f ≡ e
 IsPassedOn answer result = ⊥
 
--- the refusal of a count of arguments at no place, or want of memory for the name in it
+-- the refusal of a count of arguments at no place, or there is no memory for the name in it
 abbrev pub IsWrongCount : BareName → ℕ → ℕ → EvaluationError → Type 0
 IsWrongCount name expected actual (WrongNumArguments n e a loc) =
     (bare_name n ≡ name) × (e ≡ expected) × (a ≡ actual) × (loc ≡ None)

@@ -7,7 +7,7 @@ use Rattle.cedar_calls.specs.declared.err.EvaluationError.{EvaluationError}
 use Rattle.cedar_calls.specs.declared.err.EvaluationError.TheVariants.{WrongNumArguments, Function, Memory}
 use Rattle.cedar_calls.specs.declared.no_function.Refuser.{Refuser}
 
--- an error with its name and its message, or want of memory for them
+-- an error with its name and its message, or there is no memory for them
 abbrev pub IsRefusalOf : {T : Type 0} → Refuser T → EvaluationError → Type 0
 IsRefusalOf f (Function n message) =
     (bare_name n ≡ bare_name f.name) × (rc_str_bytes message ≡ rc_str_bytes f.message)

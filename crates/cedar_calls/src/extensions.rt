@@ -11,6 +11,7 @@ use crate::object::ExtensionFunctions;
 use cedar_names::Name;
 use cedar_terms::SchemaType;
 use cedar_validation::{CallStyle, FunctionTable};
+use std::fmt;
 
 /// Some extensions. A name that several have is that of the first one's function.
 #[derive(Drop)]
@@ -40,6 +41,12 @@ impl<X: ExtensionFunctions> Extensions<X> {
             rest = others;
         }
         None
+    }
+}
+
+impl<X: ExtensionFunctions> fmt::Debug for Extensions<X> {
+    fn fmt<W: fmt::Write>(&self, f: &mut fmt::Formatter<W>) -> fmt::Result {
+        write!(f, "{:?}", self.extensions)
     }
 }
 

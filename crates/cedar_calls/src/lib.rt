@@ -1,6 +1,7 @@
 //! Functions of extensions: what they are, calls of them, extensions and tables of them.
 #![tactic(auto)]
 
+mod boxed;
 mod err;
 mod extension;
 mod extension_function;
@@ -9,6 +10,7 @@ mod no_function;
 mod object;
 mod output_value;
 
+pub use boxed::{BoxedFunction, FunctionBox};
 pub use cedar_validation::{CallStyle, FunctionTable};
 pub use err::EvaluationError;
 pub use extension::Extension;

@@ -1,12 +1,11 @@
-//! Functions where there are no extension values.
+//! No function, for the counts of arguments at which an extension has none.
 use crate::err::EvaluationError;
 use crate::object::{
-    BinaryFunction, ExtensionFunctions, NullaryFunction, TernaryFunction, UnaryFunction,
-    VariadicFunction,
+    BinaryFunction, NullaryFunction, TernaryFunction, UnaryFunction, VariadicFunction,
 };
 use crate::output_value::ExtensionOutputValue;
 use cedar_names::Name;
-use cedar_values::{NoExtension, Value};
+use cedar_values::Value;
 use std::alloc::Global;
 use std::convert::Infallible;
 use std::rc::RcStr;
@@ -107,16 +106,4 @@ impl<T: Drop, X> VariadicFunction<X> for Refuser<T> {
     ) -> Result<ExtensionOutputValue<X>, EvaluationError> {
         Err(self.refusal(alloc))
     }
-}
-
-impl ExtensionFunctions for NoExtension {
-    type Nullary = NoFunction;
-
-    type Unary = NoFunction;
-
-    type Binary = NoFunction;
-
-    type Ternary = NoFunction;
-
-    type Variadic = NoFunction;
 }

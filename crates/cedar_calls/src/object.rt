@@ -8,6 +8,7 @@ use crate::output_value::ExtensionOutputValue;
 use cedar_values::{ExtensionValue, Value};
 use std::alloc::Global;
 use std::boxed::Box;
+use std::fmt;
 
 /// A boxed function of no arguments.
 pub type NullaryExtensionFunctionObject<X> = Box<
@@ -157,4 +158,17 @@ pub enum ExtensionFunctionObject<X: ExtensionFunctions> {
     Ternary(X::Ternary),
     /// Of two or more arguments.
     Variadic(X::Variadic),
+}
+
+impl<X: ExtensionFunctions> fmt::Debug for ExtensionFunctionObject<X> {
+    fn fmt<W: fmt::Write>(&self, f: &mut fmt::Formatter<W>) -> fmt::Result {
+        f.write_str(match self {
+            ExtensionFunctionObject::Nullary(_) => "Nullary",
+            ExtensionFunctionObject::PartialEvalUnknown(_) => "PartialEvalUnknown",
+            ExtensionFunctionObject::Unary(_) => "Unary",
+            ExtensionFunctionObject::Binary(_) => "Binary",
+            ExtensionFunctionObject::Ternary(_) => "Ternary",
+            ExtensionFunctionObject::Variadic(_) => "Variadic",
+        })
+    }
 }

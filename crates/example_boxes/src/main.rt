@@ -1,120 +1,98 @@
-//! Functions of extensions as literal boxes: one of each count of arguments is stored and called.
+//! Functions of extensions as closures: one of each count of arguments is stored in an extension
+//! and called. The values are those without extension values.
 #![tactic(auto)]
 
-mod boxes;
+mod storing;
 
 ghost use Rattle.std.specs.Prelude.{Some};
 ghost use Rattle.cedar_terms.specs.Types.{BoolType, LongType};
 ghost use Rattle.cedar_values.specs.Holders.{held_name};
 ghost use Rattle.cedar_calls.specs.Types.{Keeps};
 
-use crate::boxes::{BoxedBinary, BoxedNullary, BoxedTernary, BoxedUnary, BoxedVariadic};
-use cedar_calls::{
-    BinaryExtensionFunctionObject, EvaluationError, ExtensionOutputValue,
-    NullaryExtensionFunctionObject, TernaryExtensionFunctionObject, UnaryExtensionFunctionObject,
-    VariadicExtensionFunctionObject,
-};
+use crate::storing::{binary, nullary, ternary, unary, variadic};
+use cedar_calls::{BoxedFunction, EvaluationError, ExtensionOutputValue, FunctionBox};
 use cedar_terms::SchemaType;
 use cedar_values::{NoExtension, Value, ValueKind};
 use std::alloc::Global;
 use std::boxed::Box;
 use std::io;
 
-/// What a stored function answers where there are no extension values.
+/// What a boxed function answers.
 type Answer = Result<ExtensionOutputValue, EvaluationError>;
 
 fn main(rt: HostRuntime) -> io::Result<()> {
-    let alloc = rt.alloc();
-    show(&rt, "seven", seven(alloc)?)?;
-    show(&rt, "is_set", is_set(alloc)?)?;
-    show(&rt, "same", same(alloc)?)?;
-    show(&rt, "between", between(alloc)?)?;
-    show(&rt, "is_among", is_among(alloc)?)
+    seven(&rt)?;
+    is_set(&rt)?;
+    same(&rt)?;
+    between(&rt)?;
+    is_among(&rt)
 }
 
-// Prints what a function answered.
-fn show(rt: &HostRuntime, name: &str, answer: Answer) -> io::Result<()> {
-    match answer {
-        Ok(ExtensionOutputValue::Known(value)) => match value.value_kind() {
-            ValueKind::Lit(literal) => println!(rt; "{name}: {literal}"),
-            _ => println!(rt; "{name}: no literal"),
-        },
-        Ok(ExtensionOutputValue::Unknown(_)) => println!(rt; "{name}: not known"),
-        Err(e) => println!(rt; "{name}: {e}"),
-    }
-}
-
-// The number.
-fn number(n: i64) -> Value {
-    Value::from(n)
-}
-
-// The answer of a box of no arguments, which is seven.
-fn seven(alloc: Global) -> io::Result<Answer> {
-    let func: NullaryExtensionFunctionObject<NoExtension> = Box::new(
-        alloc,
-        |_alloc: Global| -> Result<ExtensionOutputValue, EvaluationError>
+// Of no arguments: the number seven.
+fn seven(rt: &HostRuntime) -> io::Result<()> {
+    let func: FunctionBox = Box::new(
+        rt.alloc(),
+        |_alloc: Global, _args: &[&Value]| -> Answer
             ensures { Keeps held_name (Some LongType) result }
         { Ok(ExtensionOutputValue::Known(Value::from(7))) },
     )?;
-    Ok(BoxedNullary::new(func, SchemaType::Long).call(alloc))
+    let func = BoxedFunction::new(func, Some(SchemaType::Long));
+    nullary::<NoExtension>(rt, "seven", func, SchemaType::Long)
 }
 
-// The answer of a box of one argument, whether it is a set, to a number.
-fn is_set(alloc: Global) -> io::Result<Answer> {
-    let func: UnaryExtensionFunctionObject<NoExtension> = Box::new(
-        alloc,
-        |_alloc: Global, arg: &Value| -> Result<ExtensionOutputValue, EvaluationError>
+// Of one argument: whether it is a set.
+fn is_set(rt: &HostRuntime) -> io::Result<()> {
+    let func: FunctionBox = Box::new(
+        rt.alloc(),
+        |_alloc: Global, args: &[&Value]| -> Answer
             ensures { Keeps held_name (Some BoolType) result }
-        {
-            Ok(ExtensionOutputValue::Known(Value::from(matches!(
-                arg.value_kind(),
-                ValueKind::Set(_)
-            ))))
-        },
+        { known(matches!(args, [arg] if matches!(arg.value_kind(), ValueKind::Set(_)))) },
     )?;
-    Ok(BoxedUnary::new(func, SchemaType::Bool).call(alloc, &number(1)))
+    let func = BoxedFunction::new(func, Some(SchemaType::Bool));
+    unary::<NoExtension>(rt, "is_set", func, SchemaType::Bool, &[Value::from(1)])
 }
 
-// The answer of a box of two arguments, whether they are the same, to two equal numbers.
-fn same(alloc: Global) -> io::Result<Answer> {
-    let func: BinaryExtensionFunctionObject<NoExtension> = Box::new(
-        alloc,
-        |_alloc: Global, first: &Value, second: &Value| -> Result<
-            ExtensionOutputValue,
-            EvaluationError,
-        >
+// Of two arguments: whether they are the same.
+fn same(rt: &HostRuntime) -> io::Result<()> {
+    let func: FunctionBox = Box::new(
+        rt.alloc(),
+        |_alloc: Global, args: &[&Value]| -> Answer
             ensures { Keeps held_name (Some BoolType) result }
-        { Ok(ExtensionOutputValue::Known(Value::from(first == second))) },
+        { known(matches!(args, [first, second] if first == second)) },
     )?;
-    Ok(BoxedBinary::new(func, SchemaType::Bool).call(alloc, &number(2), &number(2)))
+    let func = BoxedFunction::new(func, Some(SchemaType::Bool));
+    let args = [Value::from(2), Value::from(2)];
+    binary::<NoExtension>(rt, "same", func, SchemaType::Bool, &args)
 }
 
-// The answer of a box of three arguments, whether they rise, to 1, 3 and 2.
-fn between(alloc: Global) -> io::Result<Answer> {
-    let func: TernaryExtensionFunctionObject<NoExtension> = Box::new(
-        alloc,
-        |_alloc: Global, first: &Value, second: &Value, third: &Value| -> Result<
-            ExtensionOutputValue,
-            EvaluationError,
-        >
+// Of three arguments: whether they rise.
+fn between(rt: &HostRuntime) -> io::Result<()> {
+    let func: FunctionBox = Box::new(
+        rt.alloc(),
+        |_alloc: Global, args: &[&Value]| -> Answer
             ensures { Keeps held_name (Some BoolType) result }
-        { Ok(ExtensionOutputValue::Known(Value::from(first < second && second < third))) },
+        { known(matches!(args, [a, b, c] if a < b && b < c)) },
     )?;
-    Ok(BoxedTernary::new(func, SchemaType::Bool).call(alloc, &number(1), &number(3), &number(2)))
+    let func = BoxedFunction::new(func, Some(SchemaType::Bool));
+    let args = [Value::from(1), Value::from(3), Value::from(2)];
+    ternary::<NoExtension>(rt, "between", func, SchemaType::Bool, &args)
 }
 
-// Whether the first of 4, 5 and 4 is one of the others, by the box of two or more arguments.
-fn is_among(alloc: Global) -> io::Result<Answer> {
-    let func: VariadicExtensionFunctionObject<NoExtension> = Box::new(
-        alloc,
-        |_alloc: Global, first: &Value, rest: &[Value]| -> Result<
-            ExtensionOutputValue,
-            EvaluationError,
-        >
+// Of two or more arguments: whether the first is one of the others.
+fn is_among(rt: &HostRuntime) -> io::Result<()> {
+    let func: FunctionBox = Box::new(
+        rt.alloc(),
+        |_alloc: Global, args: &[&Value]| -> Answer
             ensures { Keeps held_name (Some BoolType) result }
-        { Ok(ExtensionOutputValue::Known(Value::from(rest.contains(first)))) },
+        { known(matches!(args, [first, others @ ..] if others.contains(first))) },
     )?;
-    let rest = vec![in alloc; number(5), number(4)]?;
-    Ok(BoxedVariadic::new(func, SchemaType::Bool).call(alloc, &number(4), &rest))
+    let func = BoxedFunction::new(func, Some(SchemaType::Bool));
+    let args = [Value::from(4), Value::from(5), Value::from(4)];
+    variadic::<NoExtension>(rt, "is_among", func, SchemaType::Bool, &args)
+}
+
+fn known(truth: bool) -> Answer
+    ensures { Keeps held_name (Some BoolType) result }
+{
+    Ok(ExtensionOutputValue::Known(Value::from(truth)))
 }

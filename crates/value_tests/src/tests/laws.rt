@@ -1,4 +1,6 @@
 //! The laws of values, where there are no extension values.
+use cedar_calls::{ExtensionFunctions, Extensions};
+use cedar_validation::laws::types_of_known;
 use cedar_values::laws::{
     equal_partial_values, expressions_read_back, order_of_extension_values, order_of_kinds,
     order_of_sets, order_of_values, plain_values, plain_where_none, reading_gives_one_value,
@@ -24,6 +26,15 @@ fn laws_hold() {
     expressions_read_back::<NoExtension>();
     then_is_both_of_values::<NoExtension>();
     then_is_both_of_maps::<NoExtension>();
+}
+
+fn laws_of_tables<X: ExtensionFunctions>() {
+    types_of_known::<Extensions<X>>();
+}
+
+#[test]
+fn tables_type_what_they_know() {
+    laws_of_tables::<NoExtension>();
 }
 
 #[test]

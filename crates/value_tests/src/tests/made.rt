@@ -20,12 +20,12 @@ pub fn name(rt: &(impl Abort + AllocGlobal), s: &str) -> Name {
     made(rt, Name::parse_unqualified_name(rt.alloc(), s))
 }
 
-pub fn long(number: i64) -> Expr<()> {
+pub fn long(number: i64) -> Expr {
     Expr::val(Literal::Long(number))
 }
 
 // The unknown x.
-pub fn x(rt: &(impl Abort + AllocGlobal)) -> Expr<()> {
+pub fn x(rt: &(impl Abort + AllocGlobal)) -> Expr {
     Expr::unknown(Unknown::new_untyped(text(rt, "x")))
 }
 

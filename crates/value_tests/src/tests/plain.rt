@@ -7,7 +7,7 @@ ghost use Rattle.cedar_values.specs.NotReadable.{IsAnswerWhere};
 ghost use Rattle.cedar_values.specs.WellFormed.{well_formed};
 
 use crate::tests::made::{is_equal, made, name};
-use cedar_calls::Extension;
+use cedar_calls::{Extension, ExtensionFunctions, Extensions};
 use cedar_terms::Literal;
 use cedar_values::{ExtensionValue, NoExtension, NotValue, Value};
 use std::alloc::Global;
@@ -40,17 +40,19 @@ fn plain_values(rt: HostRuntime) {
     assert!(rt; is_equal(made(&rt, there_and_back(rt.alloc(), &value)), value));
 }
 
-// The extension `plain`, without functions and types.
-fn extension(rt: &(impl Abort + AllocGlobal)) -> Extension<NoExtension> {
+// The text of a table of the extension `plain`, which has no functions and no types.
+fn table_text<X: ExtensionFunctions>(rt: &(impl Abort + AllocGlobal)) -> String {
     let (functions, types) = (Vec::new(rt.alloc()), Vec::new(rt.alloc()));
+    let plain = Extension::<X>::new(rt.alloc(), name(rt, "plain"), functions, types);
+    let mut extensions = Vec::new(rt.alloc());
+    made(rt, extensions.push(made(rt, plain)));
     made(
         rt,
-        Extension::new(rt.alloc(), name(rt, "plain"), functions, types),
+        format!(in rt.alloc(); "{:?}", Extensions::new(extensions)),
     )
 }
 
 #[test]
 fn plain_extensions(rt: HostRuntime) {
-    let text = made(&rt, format!(in rt.alloc(); "{:?}", extension(&rt)));
-    assert!(rt; text.as_str() == "<extension plain>");
+    assert!(rt; table_text::<NoExtension>(&rt).as_str() == "[<extension plain>]");
 }

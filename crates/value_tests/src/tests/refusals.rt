@@ -7,7 +7,7 @@ use std::process::Abort;
 use test_support::{RefuseAt, Refused};
 
 // A call of `f` and this number, on this argument.
-fn call(rt: &(impl Abort + AllocGlobal), number: usize, arg: &Expr<()>) -> Expr<()> {
+fn call(rt: &(impl Abort + AllocGlobal), number: usize, arg: &Expr) -> Expr {
     let function = made(rt, format!(in rt.alloc(); "f{number}"));
     let mut args = Vec::new(rt.alloc());
     made(rt, args.push(made(rt, arg.clone(rt.alloc()))));
@@ -18,7 +18,7 @@ fn call(rt: &(impl Abort + AllocGlobal), number: usize, arg: &Expr<()>) -> Expr<
 }
 
 // The set of the calls from one number to before another.
-fn calls(rt: &(impl Abort + AllocGlobal), from: usize, to: usize, arg: &Expr<()>) -> Expr<()> {
+fn calls(rt: &(impl Abort + AllocGlobal), from: usize, to: usize, arg: &Expr) -> Expr {
     let mut members = Vec::new(rt.alloc());
     for number in from..to {
         made(rt, members.push(call(rt, number, arg)));
@@ -27,7 +27,7 @@ fn calls(rt: &(impl Abort + AllocGlobal), from: usize, to: usize, arg: &Expr<()>
 }
 
 // The record of {f1, f2} and {f3, f4, f5}, made from the later key to the earlier.
-fn five_calls(rt: &(impl Abort + AllocGlobal), arg: Expr<()>) -> Expr<()> {
+fn five_calls(rt: &(impl Abort + AllocGlobal), arg: Expr) -> Expr {
     let mut pairs = Vec::new(rt.alloc());
     made(rt, pairs.push((text(rt, "b"), calls(rt, 3, 6, &arg))));
     made(rt, pairs.push((text(rt, "a"), calls(rt, 1, 3, &arg))));
@@ -35,14 +35,14 @@ fn five_calls(rt: &(impl Abort + AllocGlobal), arg: Expr<()>) -> Expr<()> {
 }
 
 // What is built of them with x as their argument.
-fn built<const K: usize>(rt: &(impl Abort + AllocGlobal)) -> Result<Expr<()>, BuildFault<Refused>> {
+fn built<const K: usize>(rt: &(impl Abort + AllocGlobal)) -> Result<Expr, BuildFault<Refused>> {
     five_calls(rt, x(rt)).try_into_expr::<RefuseAt<K>>(rt.alloc())
 }
 
 // What is built of them with 1 put for x.
 fn built_of_one<const K: usize>(
     rt: &(impl Abort + AllocGlobal),
-) -> Result<Expr<()>, BuildFault<Refused>> {
+) -> Result<Expr, BuildFault<Refused>> {
     let e = five_calls(rt, x(rt));
     e.substitute_into_expr::<RefuseAt<K>, Literal>(rt.alloc(), &x_is_one(rt))
 }
@@ -50,7 +50,7 @@ fn built_of_one<const K: usize>(
 // Whether it is refused at a call of this name.
 fn is_refused(
     rt: &(impl Abort + AllocGlobal),
-    answer: Result<Expr<()>, BuildFault<Refused>>,
+    answer: Result<Expr, BuildFault<Refused>>,
     function: &str,
 ) -> bool {
     match answer {

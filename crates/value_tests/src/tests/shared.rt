@@ -8,11 +8,11 @@ use std::process::Abort;
 use std::rc::Rc;
 use test_support::RefuseAt;
 
-fn shared(rt: &(impl Abort + AllocGlobal), e: Expr<()>) -> Rc<Expr<()>> {
+fn shared(rt: &(impl Abort + AllocGlobal), e: Expr) -> Rc<Expr> {
     made(rt, Rc::new(rt.alloc(), e))
 }
 
-fn again(rt: &(impl Abort + AllocGlobal), child: &Rc<Expr<()>>) -> Rc<Expr<()>> {
+fn again(rt: &(impl Abort + AllocGlobal), child: &Rc<Expr>) -> Rc<Expr> {
     made(rt, child.clone())
 }
 
@@ -23,12 +23,12 @@ fn at(rt: &(impl Abort + AllocGlobal), level: usize) -> ExprBuilder<()> {
 }
 
 // A conditional at this level, with one child for its three.
-fn conditional(rt: &(impl Abort + AllocGlobal), level: usize, child: Rc<Expr<()>>) -> Expr<()> {
+fn conditional(rt: &(impl Abort + AllocGlobal), level: usize, child: Rc<Expr>) -> Expr {
     at(rt, level).ite_arc(again(rt, &child), again(rt, &child), child)
 }
 
 // Eight conditionals inside one another, each at its level. The literal inside them is at level 0.
-fn conditionals(rt: &(impl Abort + AllocGlobal)) -> Expr<()> {
+fn conditionals(rt: &(impl Abort + AllocGlobal)) -> Expr {
     let mut e = made(rt, at(rt, 0).val(rt.alloc(), Literal::Long(1)));
     for level in 1..9 {
         e = conditional(rt, level, shared(rt, e));
@@ -58,7 +58,7 @@ fn a_walk_goes_from_the_top_down(rt: HostRuntime) {
 }
 
 // The sum of one child twice.
-fn sum(rt: &(impl Abort + AllocGlobal), child: Rc<Expr<()>>) -> Expr<()> {
+fn sum(rt: &(impl Abort + AllocGlobal), child: Rc<Expr>) -> Expr {
     ExprBuilder::with_data(()).with_expr_kind(ExprKind::BinaryApp {
         op: BinaryOp::Add,
         arg1: again(rt, &child),
@@ -67,7 +67,7 @@ fn sum(rt: &(impl Abort + AllocGlobal), child: Rc<Expr<()>>) -> Expr<()> {
 }
 
 // Twelve sums inside one another, each of one child twice.
-fn sums(rt: &(impl Abort + AllocGlobal), leaf: Expr<()>) -> Expr<()> {
+fn sums(rt: &(impl Abort + AllocGlobal), leaf: Expr) -> Expr {
     let mut e = leaf;
     for _ in 0..12 {
         e = sum(rt, shared(rt, e));
@@ -76,7 +76,7 @@ fn sums(rt: &(impl Abort + AllocGlobal), leaf: Expr<()>) -> Expr<()> {
 }
 
 // How many unknowns are met.
-fn unknowns(rt: &(impl Abort + AllocGlobal), e: Expr<()>) -> usize {
+fn unknowns(rt: &(impl Abort + AllocGlobal), e: Expr) -> usize {
     let mut count: usize = 0;
     for _ in made(rt, e.unknowns(rt.alloc())) {
         count = count.saturating_add(1);
@@ -85,12 +85,12 @@ fn unknowns(rt: &(impl Abort + AllocGlobal), e: Expr<()>) -> usize {
 }
 
 // It with 1 put for x.
-fn substituted(rt: &(impl Abort + AllocGlobal), e: Expr<()>) -> Expr<()> {
+fn substituted(rt: &(impl Abort + AllocGlobal), e: Expr) -> Expr {
     made(rt, e.substitute(rt.alloc(), &x_is_one(rt)))
 }
 
 // What is built of it with 1 put for x.
-fn built(rt: &(impl Abort + AllocGlobal), e: Expr<()>) -> Expr<()> {
+fn built(rt: &(impl Abort + AllocGlobal), e: Expr) -> Expr {
     let values = x_is_one(rt);
     made(
         rt,
