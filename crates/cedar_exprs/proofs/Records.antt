@@ -9,7 +9,7 @@ use Rattle.cedar_builders.specs.BareExpr.{BareExpr, Record, field, fields_of}
 use Rattle.cedar_exprs.specs.BareExpr.{ExprKind, bare_expr, bare_expr_kind, node_step, bare_fields, kind_of}
 use Rattle.cedar_builders.specs.Keys.{keyed, in_key_order, meant_pairs}
 use Rattle.cedar_exprs.specs.RecordPairs.{record_fields, record_values}
-use Rattle.cedar_exprs.specs.BuiltNode.{IsMadeBy}
+use Rattle.cedar_exprs.specs.MadeNode.{IsMadeBy}
 use Rattle.cedar_exprs.specs.declared.builder.ExprBuilder.{ExprBuilder}
 use Rattle.cedar_exprs.specs.declared.expr.Expr.{Expr, fold_out-Expr}
 use Rattle.cedar_exprs.specs.declared.expr.KindOf.TheVariants.{Record as RecordOf}

@@ -40,6 +40,13 @@ slot_at r = (r.id, option_copied r.loc)
 abbrev pub reserved : {T : Type 0} → ExprIterator T → ℕ
 reserved w = vec_capacity w.stack
 
+-- the same for the walks over slots and over unknowns
+abbrev pub reserved_by_slots : {T : Type 0} → Slots T → ℕ
+reserved_by_slots s = reserved s.walk
+
+abbrev pub reserved_by_unknowns : {T : Type 0} → Unknowns T → ℕ
+reserved_by_unknowns u = reserved u.walk
+
 -- what is still given
 abbrev pub positions_left : {T : Type 0} → ExprIterator T → List (Expr T)
 positions_left w = given_by (referents w.stack.items)

@@ -3,7 +3,7 @@ pub mod Machine
 pub mod Steps
 pub mod Renewal
 pub mod ExprData
-pub mod BuiltNode
+pub mod MadeNode
 pub mod RecordPairs
 pub mod Walks
 pub mod Children

@@ -31,7 +31,7 @@ last_first es = reverse (visits (map bare_expr es))
 abbrev pub children_of : {T : Type 0} → Expr T → List (Expr T)
 children_of = children
 
--- the answer is what is wanted, its meaning or its refusal's, want of memory aside
+-- the answer is what is wanted, its meaning or its refusal's, unless memory runs out
 abbrev pub IsAnswer : {X R M F : Type 0} → (X → M) → (R → F) → Result M F → Result X (WalkFault R) → Type 0
 IsAnswer meaning_of fault_of wanted (Ok x) = wanted ≡ Ok (meaning_of x)
 IsAnswer meaning_of fault_of wanted (Err (Refused r)) = wanted ≡ Err (fault_of r)
@@ -41,7 +41,7 @@ IsAnswer meaning_of fault_of wanted (Err Memory) = ⊤
 abbrev pub Takes : {X : Type 0} → ℕ → (List X → Type 0) → List X → List X → Type 0
 Takes {X} n P all rest = (last : List X) × (all ≡ rest ++ last) × (length last ≡ n) × P last
 
--- the answer is made of the last n results, which are taken off, want of memory aside
+-- the answer is made of the last n results, which are taken off, unless memory runs out
 abbrev pub IsMade : {X R M F : Type 0} → (X → M) → (R → F) → (List M → Result M F → Type 0) → ℕ → List X → List X → Result X (WalkFault R) → Type 0
 IsMade meaning_of fault_of IsMadeOf n all rest (Ok x) = Takes n (λ last. IsMadeOf (map meaning_of last) (Ok (meaning_of x))) all rest
 IsMade meaning_of fault_of IsMadeOf n all rest (Err (Refused r)) = Takes n (λ last. IsMadeOf (map meaning_of last) (Err (fault_of r))) all rest

@@ -16,7 +16,7 @@ clash_types c = (bare_type c.value.expected, bare_type c.value.actual)
 abbrev pub no_clash : Infallible → TwoTypes
 no_clash c = elim c [ ]
 
--- the refusal is what was found, or it is want of memory
+-- the refusal is what was found, or memory ran out
 abbrev pub IsRefusal : {D : Type 0} → (D → TwoTypes) → Option TwoTypes → WalkFault D → Type 0
 IsRefusal types_of found (Refused d) = found ≡ Some (types_of d)
 IsRefusal types_of found Memory = ⊤

@@ -9,7 +9,7 @@ use Rattle.cedar_builders.specs.declared.substitution_error.SubstitutionError.Th
 use Rattle.cedar_exprs.specs.declared.typed_build.TypedBuildFault.{TypedBuildFault}
 use Rattle.cedar_exprs.specs.declared.typed_build.TypedBuildFault.TheVariants.{TypeError, Build, Memory}
 
--- the clash, if there is one, else what is wanted, its meaning or its error's, want of memory aside
+-- the clash, if there is one, else what is wanted, its meaning or its error's, unless memory runs out
 abbrev pub GivesTyped : {E D M F : Type 0} → (E → M) → (D → F) → Option TwoTypes → Result M F → Result E (TypedBuildFault D) → Type 0
 GivesTyped meaning_of fault_of clash wanted (Ok e) = (clash ≡ None) × (wanted ≡ Ok (meaning_of e))
 GivesTyped meaning_of fault_of clash wanted (Err (TypeError t s)) = clash ≡ Some (bare_type t, bare_type s)

@@ -15,7 +15,7 @@ ghost use Rattle.cedar_exprs.specs.BareExpr.{bare_expr, bare_expr_kind, bare_exp
 ghost use Rattle.cedar_exprs.specs.RecordPairs.{record_fields, record_values};
 ghost use Rattle.cedar_builders.specs.Answers.{never, IfBuilt};
 ghost use Rattle.cedar_exprs.specs.Walks.{kind_children};
-ghost use Rattle.cedar_exprs.specs.BuiltNode.{builder_place, builder_data, of_connective, IsMadeBy};
+ghost use Rattle.cedar_exprs.specs.MadeNode.{builder_place, builder_data, of_connective, IsMadeBy};
 
 use crate::expr::{Expr, ExprKind};
 use cedar_builders::keys::collect_distinct;

@@ -12,7 +12,7 @@ ghost use Rattle.cedar_builders.specs.Errors.{key_of, context_of, OnDuplicateKey
 ghost use Rattle.cedar_builders.specs.Trees.{tree_ops};
 ghost use Rattle.cedar_exprs.specs.BareExpr.{bare_expr, bare_exprs, bare_fields, further, unknown_tree};
 ghost use Rattle.cedar_exprs.specs.RecordPairs.{record_fields, record_values};
-ghost use Rattle.cedar_exprs.specs.BuiltNode.{of_connective, IsPlain, IsPlainNegation};
+ghost use Rattle.cedar_exprs.specs.MadeNode.{of_connective, IsPlain, IsPlainNegation};
 
 use crate::builder::ExprBuilder;
 use crate::expr::{Expr, ExprKind};
@@ -23,30 +23,30 @@ use std::alloc::{AllocError, Global};
 use std::collections::BTreeMap;
 use std::rc::{Rc, RcStr};
 
-impl Expr<()> {
+impl Expr {
     /// A literal.
-    pub fn val(literal: Literal) -> Expr<()>
+    pub fn val(literal: Literal) -> Expr
         ensures { IsPlain (tree_ops.lit_of (bare_literal literal)) [] result }
     {
         ExprBuilder::new().with_expr_kind(ExprKind::Lit(literal))
     }
 
     /// A variable of the request.
-    pub fn var(var: Var) -> Expr<()>
+    pub fn var(var: Var) -> Expr
         ensures { IsPlain (tree_ops.var_of var) [] result }
     {
         ExprBuilder::new().with_expr_kind(ExprKind::Var(var))
     }
 
     /// A slot of a template.
-    pub fn slot(slot: SlotId) -> Expr<()>
+    pub fn slot(slot: SlotId) -> Expr
         ensures { IsPlain (tree_ops.slot_of slot) [] result }
     {
         ExprBuilder::new().with_expr_kind(ExprKind::Slot(slot))
     }
 
     /// A value that is not known yet.
-    pub fn unknown(unknown: Unknown) -> Expr<()>
+    pub fn unknown(unknown: Unknown) -> Expr
         ensures { IsPlain (unknown_tree (bare_unknown unknown)) [] result }
     {
         ExprBuilder::new().with_expr_kind(ExprKind::Unknown(unknown))
@@ -55,10 +55,10 @@ impl Expr<()> {
     /// The second expression where the first holds, else the third.
     pub fn ite(
         alloc: Global,
-        test_expr: Expr<()>,
-        then_expr: Expr<()>,
-        else_expr: Expr<()>,
-    ) -> Result<Expr<()>, AllocError>
+        test_expr: Expr,
+        then_expr: Expr,
+        else_expr: Expr,
+    ) -> Result<Expr, AllocError>
         ensures { IfOk result
             (IsPlain
             (tree_ops.if_of (bare_expr test_expr) (bare_expr then_expr) (bare_expr else_expr))
@@ -68,11 +68,7 @@ impl Expr<()> {
     }
 
     /// The same of expressions that are shared.
-    pub fn ite_arc(
-        test_expr: Rc<Expr<()>>,
-        then_expr: Rc<Expr<()>>,
-        else_expr: Rc<Expr<()>>,
-    ) -> Expr<()>
+    pub fn ite_arc(test_expr: Rc<Expr>, then_expr: Rc<Expr>, else_expr: Rc<Expr>) -> Expr
         ensures { IsPlain
             (tree_ops.if_of (bare_expr test_expr.value) (bare_expr then_expr.value)
             (bare_expr else_expr.value))
@@ -82,7 +78,7 @@ impl Expr<()> {
     }
 
     /// `left && right`: of two Boolean literals their literal, else the node.
-    pub fn and(alloc: Global, left: Expr<()>, right: Expr<()>) -> Result<Expr<()>, AllocError>
+    pub fn and(alloc: Global, left: Expr, right: Expr) -> Result<Expr, AllocError>
         ensures { IfOk result
             (IsPlain (tree_ops.and_of (bare_expr left) (bare_expr right))
             (of_connective left right)) }
@@ -91,7 +87,7 @@ impl Expr<()> {
     }
 
     /// `left || right`: of two Boolean literals their literal, else the node.
-    pub fn or(alloc: Global, left: Expr<()>, right: Expr<()>) -> Result<Expr<()>, AllocError>
+    pub fn or(alloc: Global, left: Expr, right: Expr) -> Result<Expr, AllocError>
         ensures { IfOk result
             (IsPlain (tree_ops.or_of (bare_expr left) (bare_expr right))
             (of_connective left right)) }
@@ -100,7 +96,7 @@ impl Expr<()> {
     }
 
     /// An operator on one argument.
-    pub fn unary_app(alloc: Global, op: UnaryOp, arg: Expr<()>) -> Result<Expr<()>, AllocError>
+    pub fn unary_app(alloc: Global, op: UnaryOp, arg: Expr) -> Result<Expr, AllocError>
         ensures { IfOk result (IsPlain (tree_ops.unary_of op (bare_expr arg)) (arg ∷ [])) }
     {
         ExprBuilder::new().unary_app(alloc, op, arg)
@@ -110,9 +106,9 @@ impl Expr<()> {
     pub fn binary_app(
         alloc: Global,
         op: BinaryOp,
-        arg1: Expr<()>,
-        arg2: Expr<()>,
-    ) -> Result<Expr<()>, AllocError>
+        arg1: Expr,
+        arg2: Expr,
+    ) -> Result<Expr, AllocError>
         ensures { IfOk result
             (IsPlain (tree_ops.binary_of op (bare_expr arg1) (bare_expr arg2))
             (arg1 ∷ arg2 ∷ [])) }
@@ -121,7 +117,7 @@ impl Expr<()> {
     }
 
     /// A set by its members, in this order; repeated ones are kept.
-    pub fn set(alloc: Global, members: Vec<Expr<()>>) -> Result<Expr<()>, AllocError>
+    pub fn set(alloc: Global, members: Vec<Expr>) -> Result<Expr, AllocError>
         ensures { IfOk result (IsPlain (Set (bare_exprs members.items)) members.items) }
     {
         ExprBuilder::new().set(alloc, members)
@@ -131,8 +127,8 @@ impl Expr<()> {
     pub fn call_extension_fn(
         alloc: Global,
         fn_name: Name,
-        args: Vec<Expr<()>>,
-    ) -> Result<Expr<()>, AllocError>
+        args: Vec<Expr>,
+    ) -> Result<Expr, AllocError>
         ensures { IfOk result
             (IsPlain (ExtensionFunctionApp (bare_name fn_name) (bare_exprs args.items))
             args.items) }
@@ -145,7 +141,7 @@ impl Expr<()> {
     }
 
     /// `expr.attr`: an attribute of an entity or a field of a record.
-    pub fn get_attr(alloc: Global, expr: Expr<()>, attr: RcStr) -> Result<Expr<()>, AllocError>
+    pub fn get_attr(alloc: Global, expr: Expr, attr: RcStr) -> Result<Expr, AllocError>
         ensures { IfOk result
             (IsPlain (tree_ops.get_of (bare_expr expr) (rc_str_bytes attr)) (expr ∷ [])) }
     {
@@ -153,7 +149,7 @@ impl Expr<()> {
     }
 
     /// `expr has attr`: whether an entity has the attribute, or a record the field.
-    pub fn has_attr(alloc: Global, expr: Expr<()>, attr: RcStr) -> Result<Expr<()>, AllocError>
+    pub fn has_attr(alloc: Global, expr: Expr, attr: RcStr) -> Result<Expr, AllocError>
         ensures { IfOk result
             (IsPlain (tree_ops.has_of (bare_expr expr) (rc_str_bytes attr) []) (expr ∷ [])) }
     {
@@ -163,9 +159,9 @@ impl Expr<()> {
     /// `expr has a.b.c`: whether each attribute is there in turn.
     pub fn extended_has_attr(
         alloc: Global,
-        expr: Expr<()>,
+        expr: Expr,
         attrs: NonEmpty<RcStr>,
-    ) -> Result<Expr<()>, AllocError>
+    ) -> Result<Expr, AllocError>
         ensures { IfOk result
             (IsPlain
             (tree_ops.has_of (bare_expr expr) (rc_str_bytes attrs.head) (further attrs))
@@ -175,7 +171,7 @@ impl Expr<()> {
     }
 
     /// `expr like pattern`: whether the pattern matches the text.
-    pub fn like(alloc: Global, expr: Expr<()>, pattern: Pattern) -> Result<Expr<()>, AllocError>
+    pub fn like(alloc: Global, expr: Expr, pattern: Pattern) -> Result<Expr, AllocError>
         ensures { IfOk result (IsPlain (tree_ops.like_of (bare_expr expr) pattern) (expr ∷ [])) }
     {
         ExprBuilder::new().like(alloc, expr, pattern)
@@ -184,9 +180,9 @@ impl Expr<()> {
     /// `expr is entity_type`: whether the entity is of the type.
     pub fn is_entity_type(
         alloc: Global,
-        expr: Expr<()>,
+        expr: Expr,
         entity_type: EntityType,
-    ) -> Result<Expr<()>, AllocError>
+    ) -> Result<Expr, AllocError>
         ensures { IfOk result
             (IsPlain (tree_ops.is_of (bare_expr expr) (bare_entity_type entity_type))
             (expr ∷ [])) }
@@ -207,8 +203,8 @@ impl Expr<()> {
     /// Of the keys `b`, `a`, `b` the refusal is "duplicate key `b` in record literal".
     pub fn record(
         alloc: Global,
-        pairs: Vec<(RcStr, Expr<()>)>,
-    ) -> Result<Expr<()>, ExpressionConstructionError>
+        pairs: Vec<(RcStr, Expr)>,
+    ) -> Result<Expr, ExpressionConstructionError>
         ensures made { IfOk result
             (IsPlain (Record (record_fields pairs.items)) (record_values pairs.items)) }
         ensures distinct { OnOk result (IsTrue (are_distinct (keys_of pairs.items))) }
@@ -221,7 +217,7 @@ impl Expr<()> {
     }
 
     /// A record of a shared map.
-    pub fn record_arc(values: Rc<BTreeMap<RcStr, Expr<()>>>) -> Expr<()>
+    pub fn record_arc(values: Rc<BTreeMap<RcStr, Expr>>) -> Expr
         ensures { IsPlain (Record (bare_fields values.value.entries))
             (map (λ e. e.1) values.value.entries) result }
     {
@@ -229,7 +225,7 @@ impl Expr<()> {
     }
 
     /// `!arg`.
-    pub fn not(alloc: Global, arg: Expr<()>) -> Result<Expr<()>, AllocError>
+    pub fn not(alloc: Global, arg: Expr) -> Result<Expr, AllocError>
         ensures { IfOk result
             (IsPlain (tree_ops.unary_of UnaryOp.Not (bare_expr arg)) (arg ∷ [])) }
     {
@@ -237,7 +233,7 @@ impl Expr<()> {
     }
 
     /// `-arg`.
-    pub fn neg(alloc: Global, arg: Expr<()>) -> Result<Expr<()>, AllocError>
+    pub fn neg(alloc: Global, arg: Expr) -> Result<Expr, AllocError>
         ensures { IfOk result
             (IsPlain (tree_ops.unary_of UnaryOp.Neg (bare_expr arg)) (arg ∷ [])) }
     {
@@ -245,7 +241,7 @@ impl Expr<()> {
     }
 
     /// `arg.isEmpty()`: whether the set has no member.
-    pub fn is_empty(alloc: Global, arg: Expr<()>) -> Result<Expr<()>, AllocError>
+    pub fn is_empty(alloc: Global, arg: Expr) -> Result<Expr, AllocError>
         ensures { IfOk result
             (IsPlain (tree_ops.unary_of UnaryOp.IsEmpty (bare_expr arg)) (arg ∷ [])) }
     {
@@ -253,7 +249,7 @@ impl Expr<()> {
     }
 
     /// `arg1 == arg2`.
-    pub fn is_eq(alloc: Global, arg1: Expr<()>, arg2: Expr<()>) -> Result<Expr<()>, AllocError>
+    pub fn is_eq(alloc: Global, arg1: Expr, arg2: Expr) -> Result<Expr, AllocError>
         ensures { IfOk result
             (IsPlain (tree_ops.binary_of BinaryOp.Eq (bare_expr arg1) (bare_expr arg2))
             (arg1 ∷ arg2 ∷ [])) }
@@ -262,7 +258,7 @@ impl Expr<()> {
     }
 
     /// `arg1 < arg2`.
-    pub fn less(alloc: Global, arg1: Expr<()>, arg2: Expr<()>) -> Result<Expr<()>, AllocError>
+    pub fn less(alloc: Global, arg1: Expr, arg2: Expr) -> Result<Expr, AllocError>
         ensures { IfOk result
             (IsPlain (tree_ops.binary_of BinaryOp.Less (bare_expr arg1) (bare_expr arg2))
             (arg1 ∷ arg2 ∷ [])) }
@@ -271,7 +267,7 @@ impl Expr<()> {
     }
 
     /// `arg1 <= arg2`.
-    pub fn lesseq(alloc: Global, arg1: Expr<()>, arg2: Expr<()>) -> Result<Expr<()>, AllocError>
+    pub fn lesseq(alloc: Global, arg1: Expr, arg2: Expr) -> Result<Expr, AllocError>
         ensures { IfOk result
             (IsPlain (tree_ops.binary_of BinaryOp.LessEq (bare_expr arg1) (bare_expr arg2))
             (arg1 ∷ arg2 ∷ [])) }
@@ -280,7 +276,7 @@ impl Expr<()> {
     }
 
     /// `arg1 + arg2`.
-    pub fn add(alloc: Global, arg1: Expr<()>, arg2: Expr<()>) -> Result<Expr<()>, AllocError>
+    pub fn add(alloc: Global, arg1: Expr, arg2: Expr) -> Result<Expr, AllocError>
         ensures { IfOk result
             (IsPlain (tree_ops.binary_of BinaryOp.Add (bare_expr arg1) (bare_expr arg2))
             (arg1 ∷ arg2 ∷ [])) }
@@ -289,7 +285,7 @@ impl Expr<()> {
     }
 
     /// `arg1 - arg2`.
-    pub fn sub(alloc: Global, arg1: Expr<()>, arg2: Expr<()>) -> Result<Expr<()>, AllocError>
+    pub fn sub(alloc: Global, arg1: Expr, arg2: Expr) -> Result<Expr, AllocError>
         ensures { IfOk result
             (IsPlain (tree_ops.binary_of BinaryOp.Sub (bare_expr arg1) (bare_expr arg2))
             (arg1 ∷ arg2 ∷ [])) }
@@ -298,7 +294,7 @@ impl Expr<()> {
     }
 
     /// `arg1 * arg2`.
-    pub fn mul(alloc: Global, arg1: Expr<()>, arg2: Expr<()>) -> Result<Expr<()>, AllocError>
+    pub fn mul(alloc: Global, arg1: Expr, arg2: Expr) -> Result<Expr, AllocError>
         ensures { IfOk result
             (IsPlain (tree_ops.binary_of BinaryOp.Mul (bare_expr arg1) (bare_expr arg2))
             (arg1 ∷ arg2 ∷ [])) }
@@ -307,7 +303,7 @@ impl Expr<()> {
     }
 
     /// `arg1 in arg2`: membership in the hierarchy.
-    pub fn is_in(alloc: Global, arg1: Expr<()>, arg2: Expr<()>) -> Result<Expr<()>, AllocError>
+    pub fn is_in(alloc: Global, arg1: Expr, arg2: Expr) -> Result<Expr, AllocError>
         ensures { IfOk result
             (IsPlain (tree_ops.binary_of BinaryOp.In (bare_expr arg1) (bare_expr arg2))
             (arg1 ∷ arg2 ∷ [])) }
@@ -316,7 +312,7 @@ impl Expr<()> {
     }
 
     /// `arg1.contains(arg2)`: whether the set has the member.
-    pub fn contains(alloc: Global, arg1: Expr<()>, arg2: Expr<()>) -> Result<Expr<()>, AllocError>
+    pub fn contains(alloc: Global, arg1: Expr, arg2: Expr) -> Result<Expr, AllocError>
         ensures { IfOk result
             (IsPlain (tree_ops.binary_of BinaryOp.Contains (bare_expr arg1) (bare_expr arg2))
             (arg1 ∷ arg2 ∷ [])) }
@@ -325,11 +321,7 @@ impl Expr<()> {
     }
 
     /// `arg1.containsAll(arg2)`: whether the first set contains the second.
-    pub fn contains_all(
-        alloc: Global,
-        arg1: Expr<()>,
-        arg2: Expr<()>,
-    ) -> Result<Expr<()>, AllocError>
+    pub fn contains_all(alloc: Global, arg1: Expr, arg2: Expr) -> Result<Expr, AllocError>
         ensures { IfOk result
             (IsPlain (tree_ops.binary_of BinaryOp.ContainsAll (bare_expr arg1) (bare_expr arg2))
             (arg1 ∷ arg2 ∷ [])) }
@@ -338,11 +330,7 @@ impl Expr<()> {
     }
 
     /// `arg1.containsAny(arg2)`: whether the sets share a member.
-    pub fn contains_any(
-        alloc: Global,
-        arg1: Expr<()>,
-        arg2: Expr<()>,
-    ) -> Result<Expr<()>, AllocError>
+    pub fn contains_any(alloc: Global, arg1: Expr, arg2: Expr) -> Result<Expr, AllocError>
         ensures { IfOk result
             (IsPlain (tree_ops.binary_of BinaryOp.ContainsAny (bare_expr arg1) (bare_expr arg2))
             (arg1 ∷ arg2 ∷ [])) }
@@ -351,7 +339,7 @@ impl Expr<()> {
     }
 
     /// `arg1.getTag(arg2)`: the tag of an entity.
-    pub fn get_tag(alloc: Global, arg1: Expr<()>, arg2: Expr<()>) -> Result<Expr<()>, AllocError>
+    pub fn get_tag(alloc: Global, arg1: Expr, arg2: Expr) -> Result<Expr, AllocError>
         ensures { IfOk result
             (IsPlain (tree_ops.binary_of BinaryOp.GetTag (bare_expr arg1) (bare_expr arg2))
             (arg1 ∷ arg2 ∷ [])) }
@@ -360,7 +348,7 @@ impl Expr<()> {
     }
 
     /// `arg1.hasTag(arg2)`: whether an entity has the tag.
-    pub fn has_tag(alloc: Global, arg1: Expr<()>, arg2: Expr<()>) -> Result<Expr<()>, AllocError>
+    pub fn has_tag(alloc: Global, arg1: Expr, arg2: Expr) -> Result<Expr, AllocError>
         ensures { IfOk result
             (IsPlain (tree_ops.binary_of BinaryOp.HasTag (bare_expr arg1) (bare_expr arg2))
             (arg1 ∷ arg2 ∷ [])) }
@@ -369,7 +357,7 @@ impl Expr<()> {
     }
 
     /// `!(arg1 == arg2)`: two nodes, both without a place.
-    pub fn noteq(alloc: Global, arg1: Expr<()>, arg2: Expr<()>) -> Result<Expr<()>, AllocError>
+    pub fn noteq(alloc: Global, arg1: Expr, arg2: Expr) -> Result<Expr, AllocError>
         ensures { IfOk result
             (IsPlainNegation (tree_ops.binary_of BinaryOp.Eq (bare_expr arg1) (bare_expr arg2))
             (arg1 ∷ arg2 ∷ [])) }
@@ -378,7 +366,7 @@ impl Expr<()> {
     }
 
     /// `!(arg1 <= arg2)`: two nodes, both without a place.
-    pub fn greater(alloc: Global, arg1: Expr<()>, arg2: Expr<()>) -> Result<Expr<()>, AllocError>
+    pub fn greater(alloc: Global, arg1: Expr, arg2: Expr) -> Result<Expr, AllocError>
         ensures { IfOk result
             (IsPlainNegation (tree_ops.binary_of BinaryOp.LessEq (bare_expr arg1) (bare_expr arg2))
             (arg1 ∷ arg2 ∷ [])) }
@@ -387,7 +375,7 @@ impl Expr<()> {
     }
 
     /// `!(arg1 < arg2)`: two nodes, both without a place.
-    pub fn greatereq(alloc: Global, arg1: Expr<()>, arg2: Expr<()>) -> Result<Expr<()>, AllocError>
+    pub fn greatereq(alloc: Global, arg1: Expr, arg2: Expr) -> Result<Expr, AllocError>
         ensures { IfOk result
             (IsPlainNegation (tree_ops.binary_of BinaryOp.Less (bare_expr arg1) (bare_expr arg2))
             (arg1 ∷ arg2 ∷ [])) }

@@ -198,8 +198,9 @@ impl<'a, T> Iterator for Unknowns<'a, T> {
 }
 
 impl<T> Expr<T> {
-    ghost use Rattle.cedar_exprs.specs.Iterators.{positions_left, reserved, slot_of, slots_left};
-    ghost use Rattle.cedar_exprs.specs.Iterators.{unknown_of, unknowns_left};
+    ghost use Rattle.cedar_exprs.specs.Iterators.{positions_left, reserved};
+    ghost use Rattle.cedar_exprs.specs.Iterators.{reserved_by_slots, slot_of, slots_left};
+    ghost use Rattle.cedar_exprs.specs.Iterators.{reserved_by_unknowns, unknown_of, unknowns_left};
 
     /// The expression, then the positions of its children, the last child first.
     pub fn subexpressions(&self, alloc: Global) -> Result<ExprIterator<'_, T>, AllocError>
@@ -214,6 +215,8 @@ impl<T> Expr<T> {
     pub fn slots(&self, alloc: Global) -> Result<Slots<'_, T>, AllocError>
         ensures gives { IfOk result
             (λ slots. slots_left slots ≡ filter_map slot_of (positions self.now)) }
+        ensures reserves { IfOk result
+            (λ slots. reserved_by_slots slots ≡ need (bare_expr self.now)) }
         ensures fits { OnOk result (need (bare_expr self.now) < usize.MAX) }
     {
         let walk = ExprIterator::new(alloc, self)?;
@@ -224,6 +227,8 @@ impl<T> Expr<T> {
     pub fn unknowns(&self, alloc: Global) -> Result<Unknowns<'_, T>, AllocError>
         ensures gives { IfOk result
             (λ unknowns. unknowns_left unknowns ≡ filter_map unknown_of (positions self.now)) }
+        ensures reserves { IfOk result
+            (λ unknowns. reserved_by_unknowns unknowns ≡ need (bare_expr self.now)) }
         ensures fits { OnOk result (need (bare_expr self.now) < usize.MAX) }
     {
         let walk = ExprIterator::new(alloc, self)?;

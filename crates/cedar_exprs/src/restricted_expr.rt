@@ -19,7 +19,7 @@ use thiserror::Error;
 /// (`RestrictedExpr` of `restricted_expr.rs`). These are the expressions that a value may have.
 #[derive(Debug, Drop)]
 pub struct RestrictedExpr {
-    expr: Expr<()>,
+    expr: Expr,
     ghost restricted: { IsRestricted (bare_expr expr) },
 }
 
@@ -29,7 +29,7 @@ impl RestrictedExpr {
 
     /// The same expression, known to be restricted. Memory is taken for the walk, and to copy the
     /// place of a refusal. Where the walk is refused memory, it goes on by recursion.
-    pub fn new(alloc: Global, expr: Expr<()>) -> Result<RestrictedExpr, RestrictedExprError>
+    pub fn new(alloc: Global, expr: Expr) -> Result<RestrictedExpr, RestrictedExprError>
         ensures outcome { MatchResult result
             (λ r. expr_of r ≡ expr) (IsRefusalOf (first_not_restricted expr)) }
         ensures succeeds { IsOk result ↔ IsRestricted (bare_expr expr) }
@@ -43,7 +43,7 @@ impl RestrictedExpr {
     }
 
     /// The same expression, where the caller knows that it is restricted: it is not walked.
-    pub fn new_unchecked(expr: Expr<()>) -> RestrictedExpr
+    pub fn new_unchecked(expr: Expr) -> RestrictedExpr
         requires { IsRestricted (bare_expr expr) }
         ensures { expr_of result ≡ expr }
     {
@@ -51,7 +51,7 @@ impl RestrictedExpr {
     }
 
     /// The expression.
-    pub fn as_expr(&self) -> &Expr<()>
+    pub fn as_expr(&self) -> &Expr
         ensures same { result.now ≡ expr_of self.now }
         ensures restricted { IsRestricted (bare_expr result.now) }
     {
@@ -59,7 +59,7 @@ impl RestrictedExpr {
     }
 
     // The expression of one that is consumed.
-    pub(crate) fn into_expr(self) -> Expr<()>
+    pub(crate) fn into_expr(self) -> Expr
         ensures same { result ≡ expr_of self }
         ensures restricted { IsRestricted (bare_expr result) }
     {
@@ -82,7 +82,7 @@ impl RestrictedExpr {
     }
 
     // The expressions of those that are consumed.
-    fn exprs_of(alloc: Global, restricted: Vec<RestrictedExpr>) -> Result<Vec<Expr<()>>, AllocError>
+    fn exprs_of(alloc: Global, restricted: Vec<RestrictedExpr>) -> Result<Vec<Expr>, AllocError>
         ensures { IfOk result (λ es. es.items ≡ map expr_of restricted.items) }
     {
         restricted.into_iter().map(|r| r.into_expr()).collect(alloc)
@@ -98,12 +98,12 @@ impl RestrictedExpr {
     }
 }
 
-impl From<RestrictedExpr> for Expr<()> {
+impl From<RestrictedExpr> for Expr {
     ghost use Rattle.cedar_exprs.specs.RestrictedExprs.{expr_of};
 
     ghost from_gives = { λ r e. e ≡ expr_of r };
 
-    fn from(restricted: RestrictedExpr) -> Expr<()> {
+    fn from(restricted: RestrictedExpr) -> Expr {
         restricted.into_expr()
     }
 }

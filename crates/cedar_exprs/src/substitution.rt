@@ -38,7 +38,7 @@ use std::collections::{BTreeMap, HashMap};
 use std::marker::PhantomData;
 use std::rc::{Rc, RcStr};
 
-impl Expr<()> {
+impl Expr {
     /// The expression with each unknown that `values` binds replaced by its value's expression,
     /// which is not searched for further unknowns; unknowns that are not bound stay.
     ///
@@ -56,7 +56,7 @@ impl Expr<()> {
         &self,
         alloc: Global,
         values: &HashMap<RcStr, V>,
-    ) -> Result<Expr<()>, AllocError>
+    ) -> Result<Expr, AllocError>
         ensures { IfOk result (λ e.
             fold tree_ops (env_of V.bare_type_of V.bare_expr_of values.now) (bare_expr self.now)
             ≡ Ok (bare_expr e)) }
@@ -93,9 +93,9 @@ impl Expr<()> {
 // The expression with each unknown replaced, or the first refusal.
 pub(crate) fn substitute_general<S: SubstitutionFunction, V: SubstituteValue>(
     alloc: Global,
-    expr: &Expr<()>,
+    expr: &Expr,
     values: &HashMap<RcStr, V>,
-) -> Result<Expr<()>, WalkFault<S::Refusal>>
+) -> Result<Expr, WalkFault<S::Refusal>>
     ensures tree { IfOk result (λ e.
         bare_expr e
         ≡ substituted (env_of V.bare_type_of V.bare_expr_of values.now) (bare_expr expr.now)) }
@@ -121,7 +121,7 @@ struct Substitution<'a, S, V> {
 
 // A node gives its new expression, or nothing where it stays as it is and so may be shared.
 impl<S: SubstitutionFunction, V: SubstituteValue> Walk<()> for Substitution<'_, S, V> {
-    type Out = Option<Rc<Expr<()>>>;
+    type Out = Option<Rc<Expr>>;
 
     type Refusal = S::Refusal;
 
@@ -143,9 +143,9 @@ impl<S: SubstitutionFunction, V: SubstituteValue> Walk<()> for Substitution<'_, 
     fn make(
         &self,
         alloc: Global,
-        node: &Expr<()>,
-        done: &mut Vec<Option<Rc<Expr<()>>>>,
-    ) -> Result<Option<Rc<Expr<()>>>, WalkFault<S::Refusal>> {
+        node: &Expr,
+        done: &mut Vec<Option<Rc<Expr>>>,
+    ) -> Result<Option<Rc<Expr>>, WalkFault<S::Refusal>> {
         match node.expr_kind() {
             ExprKind::Lit(_) => Ok(None),
             ExprKind::Var(_) => Ok(None),
@@ -190,7 +190,7 @@ fn replace<S: SubstitutionFunction, V: SubstituteValue>(
     alloc: Global,
     unknown: &Unknown,
     values: &HashMap<RcStr, V>,
-) -> Result<Rc<Expr<()>>, WalkFault<S::Refusal>>
+) -> Result<Rc<Expr>, WalkFault<S::Refusal>>
     ensures tree { IfOk result (λ e.
         bare_expr e.value
         ≡ bound_tree
@@ -213,10 +213,7 @@ fn replace<S: SubstitutionFunction, V: SubstituteValue>(
 }
 
 // The new expression of a child, else the child, which is shared.
-fn new_or_shared(
-    new: Option<Rc<Expr<()>>>,
-    child: &Rc<Expr<()>>,
-) -> Result<Rc<Expr<()>>, AllocError>
+fn new_or_shared(new: Option<Rc<Expr>>, child: &Rc<Expr>) -> Result<Rc<Expr>, AllocError>
     ensures { IfOk result
         (λ e. bare_expr e.value ≡ new_or (bare_expr child.now.value) (new_tree new)) }
 {
@@ -227,11 +224,7 @@ fn new_or_shared(
 }
 
 // The new expression of a member, else a copy of the member.
-fn own_or_copy(
-    alloc: Global,
-    new: Option<Rc<Expr<()>>>,
-    member: &Expr<()>,
-) -> Result<Expr<()>, AllocError>
+fn own_or_copy(alloc: Global, new: Option<Rc<Expr>>, member: &Expr) -> Result<Expr, AllocError>
     ensures { IfOk result (λ e. bare_expr e ≡ new_or (bare_expr member.now) (new_tree new)) }
 {
     match new {
@@ -241,7 +234,7 @@ fn own_or_copy(
 }
 
 // What a pointer holds, or a copy of it where it is shared.
-fn owned(alloc: Global, expr: Rc<Expr<()>>) -> Result<Expr<()>, AllocError>
+fn owned(alloc: Global, expr: Rc<Expr>) -> Result<Expr, AllocError>
     ensures { IfOk result (λ e. bare_expr e ≡ bare_expr expr.value) }
 {
     match Rc::try_unwrap(expr) {
@@ -251,7 +244,7 @@ fn owned(alloc: Global, expr: Rc<Expr<()>>) -> Result<Expr<()>, AllocError>
 }
 
 // A node with no place.
-fn node(alloc: Global, expr_kind: ExprKind<()>) -> Result<Rc<Expr<()>>, AllocError>
+fn node(alloc: Global, expr_kind: ExprKind<()>) -> Result<Rc<Expr>, AllocError>
     ensures { IfOk result (λ e. bare_expr e.value ≡ bare_expr_kind expr_kind) }
 {
     Ok(Rc::new(alloc, ExprBuilder::new().with_expr_kind(expr_kind))?)
@@ -260,11 +253,11 @@ fn node(alloc: Global, expr_kind: ExprKind<()>) -> Result<Rc<Expr<()>>, AllocErr
 #[inline(never)]
 fn renew_if(
     alloc: Global,
-    test_expr: &Rc<Expr<()>>,
-    then_expr: &Rc<Expr<()>>,
-    else_expr: &Rc<Expr<()>>,
-    done: &mut Vec<Option<Rc<Expr<()>>>>,
-) -> Result<Rc<Expr<()>>, AllocError>
+    test_expr: &Rc<Expr>,
+    then_expr: &Rc<Expr>,
+    else_expr: &Rc<Expr>,
+    done: &mut Vec<Option<Rc<Expr>>>,
+) -> Result<Rc<Expr>, AllocError>
     requires { 3 ≤ vec_len done.old }
     ensures { IfOk result
         (IsRenewedOfLast
@@ -282,10 +275,10 @@ fn renew_if(
 #[inline(never)]
 fn renew_and(
     alloc: Global,
-    left: &Rc<Expr<()>>,
-    right: &Rc<Expr<()>>,
-    done: &mut Vec<Option<Rc<Expr<()>>>>,
-) -> Result<Rc<Expr<()>>, AllocError>
+    left: &Rc<Expr>,
+    right: &Rc<Expr>,
+    done: &mut Vec<Option<Rc<Expr>>>,
+) -> Result<Rc<Expr>, AllocError>
     requires { 2 ≤ vec_len done.old }
     ensures { IfOk result
         (IsRenewedOfLast (bare_expr left.now.value ∷ bare_expr right.now.value ∷ [])
@@ -300,10 +293,10 @@ fn renew_and(
 #[inline(never)]
 fn renew_or(
     alloc: Global,
-    left: &Rc<Expr<()>>,
-    right: &Rc<Expr<()>>,
-    done: &mut Vec<Option<Rc<Expr<()>>>>,
-) -> Result<Rc<Expr<()>>, AllocError>
+    left: &Rc<Expr>,
+    right: &Rc<Expr>,
+    done: &mut Vec<Option<Rc<Expr>>>,
+) -> Result<Rc<Expr>, AllocError>
     requires { 2 ≤ vec_len done.old }
     ensures { IfOk result
         (IsRenewedOfLast (bare_expr left.now.value ∷ bare_expr right.now.value ∷ [])
@@ -319,9 +312,9 @@ fn renew_or(
 fn renew_unary(
     alloc: Global,
     op: UnaryOp,
-    arg: &Rc<Expr<()>>,
-    done: &mut Vec<Option<Rc<Expr<()>>>>,
-) -> Result<Rc<Expr<()>>, AllocError>
+    arg: &Rc<Expr>,
+    done: &mut Vec<Option<Rc<Expr>>>,
+) -> Result<Rc<Expr>, AllocError>
     requires { 1 ≤ vec_len done.old }
     ensures { IfOk result
         (IsRenewedOfLast (bare_expr arg.now.value ∷ []) (OfOne (checked_ops.unary_of op))
@@ -335,10 +328,10 @@ fn renew_unary(
 fn renew_binary(
     alloc: Global,
     op: BinaryOp,
-    arg1: &Rc<Expr<()>>,
-    arg2: &Rc<Expr<()>>,
-    done: &mut Vec<Option<Rc<Expr<()>>>>,
-) -> Result<Rc<Expr<()>>, AllocError>
+    arg1: &Rc<Expr>,
+    arg2: &Rc<Expr>,
+    done: &mut Vec<Option<Rc<Expr>>>,
+) -> Result<Rc<Expr>, AllocError>
     requires { 2 ≤ vec_len done.old }
     ensures { IfOk result
         (IsRenewedOfLast (bare_expr arg1.now.value ∷ bare_expr arg2.now.value ∷ [])
@@ -354,9 +347,9 @@ fn renew_binary(
 fn renew_call(
     alloc: Global,
     fn_name: &Name,
-    args: &Vec<Expr<()>>,
-    done: &mut Vec<Option<Rc<Expr<()>>>>,
-) -> Result<Rc<Expr<()>>, AllocError>
+    args: &Vec<Expr>,
+    done: &mut Vec<Option<Rc<Expr>>>,
+) -> Result<Rc<Expr>, AllocError>
     requires { length args.now.items ≤ vec_len done.old }
     ensures { IfOk result
         (IsRenewedOfLast (members_of (bare_exprs args.now.items))
@@ -373,10 +366,10 @@ fn renew_call(
 #[inline(never)]
 fn renew_get(
     alloc: Global,
-    expr: &Rc<Expr<()>>,
+    expr: &Rc<Expr>,
     attr: &RcStr,
-    done: &mut Vec<Option<Rc<Expr<()>>>>,
-) -> Result<Rc<Expr<()>>, AllocError>
+    done: &mut Vec<Option<Rc<Expr>>>,
+) -> Result<Rc<Expr>, AllocError>
     requires { 1 ≤ vec_len done.old }
     ensures { IfOk result
         (IsRenewedOfLast (bare_expr expr.now.value ∷ [])
@@ -391,10 +384,10 @@ fn renew_get(
 #[inline(never)]
 fn renew_has(
     alloc: Global,
-    expr: &Rc<Expr<()>>,
+    expr: &Rc<Expr>,
     attrs: &NonEmpty<RcStr>,
-    done: &mut Vec<Option<Rc<Expr<()>>>>,
-) -> Result<Rc<Expr<()>>, AllocError>
+    done: &mut Vec<Option<Rc<Expr>>>,
+) -> Result<Rc<Expr>, AllocError>
     requires { 1 ≤ vec_len done.old }
     ensures { IfOk result
         (IsRenewedOfLast (bare_expr expr.now.value ∷ [])
@@ -409,10 +402,10 @@ fn renew_has(
 #[inline(never)]
 fn renew_like(
     alloc: Global,
-    expr: &Rc<Expr<()>>,
+    expr: &Rc<Expr>,
     pattern: &Pattern,
-    done: &mut Vec<Option<Rc<Expr<()>>>>,
-) -> Result<Rc<Expr<()>>, AllocError>
+    done: &mut Vec<Option<Rc<Expr>>>,
+) -> Result<Rc<Expr>, AllocError>
     requires { 1 ≤ vec_len done.old }
     ensures { IfOk result
         (IsRenewedOfLast (bare_expr expr.now.value ∷ [])
@@ -426,9 +419,9 @@ fn renew_like(
 #[inline(never)]
 fn renew_set(
     alloc: Global,
-    members: &Vec<Expr<()>>,
-    done: &mut Vec<Option<Rc<Expr<()>>>>,
-) -> Result<Rc<Expr<()>>, AllocError>
+    members: &Vec<Expr>,
+    done: &mut Vec<Option<Rc<Expr>>>,
+) -> Result<Rc<Expr>, AllocError>
     requires { length members.now.items ≤ vec_len done.old }
     ensures { IfOk result
         (IsRenewedOfLast (members_of (bare_exprs members.now.items))
@@ -441,9 +434,9 @@ fn renew_set(
 #[inline(never)]
 fn renew_record(
     alloc: Global,
-    pairs: &BTreeMap<RcStr, Expr<()>>,
-    done: &mut Vec<Option<Rc<Expr<()>>>>,
-) -> Result<Rc<Expr<()>>, AllocError>
+    pairs: &BTreeMap<RcStr, Expr>,
+    done: &mut Vec<Option<Rc<Expr>>>,
+) -> Result<Rc<Expr>, AllocError>
     requires { length pairs.now.entries ≤ vec_len done.old }
     ensures { IfOk result
         (IsRenewedOfLast (values_of (bare_fields pairs.now.entries))
@@ -462,10 +455,10 @@ fn renew_record(
 #[inline(never)]
 fn renew_is(
     alloc: Global,
-    expr: &Rc<Expr<()>>,
+    expr: &Rc<Expr>,
     entity_type: &EntityType,
-    done: &mut Vec<Option<Rc<Expr<()>>>>,
-) -> Result<Rc<Expr<()>>, AllocError>
+    done: &mut Vec<Option<Rc<Expr>>>,
+) -> Result<Rc<Expr>, AllocError>
     requires { 1 ≤ vec_len done.old }
     ensures { IfOk result
         (IsRenewedOfLast (bare_expr expr.now.value ∷ [])
@@ -480,9 +473,9 @@ fn renew_is(
 // The members, each renewed.
 fn renew_members(
     alloc: Global,
-    members: &Vec<Expr<()>>,
-    new: Vec<Option<Rc<Expr<()>>>>,
-) -> Result<Vec<Expr<()>>, AllocError>
+    members: &Vec<Expr>,
+    new: Vec<Option<Rc<Expr>>>,
+) -> Result<Vec<Expr>, AllocError>
     requires { length new.items ≡ length members.now.items }
     ensures { IfOk result (λ es.
         map bare_expr es.items
@@ -503,9 +496,9 @@ fn renew_members(
 // The keys of a record, each with its value renewed.
 fn renew_values(
     alloc: Global,
-    pairs: &BTreeMap<RcStr, Expr<()>>,
-    new: Vec<Option<Rc<Expr<()>>>>,
-) -> Result<Vec<(RcStr, Expr<()>)>, AllocError>
+    pairs: &BTreeMap<RcStr, Expr>,
+    new: Vec<Option<Rc<Expr>>>,
+) -> Result<Vec<(RcStr, Expr)>, AllocError>
     requires { length new.items ≡ length pairs.now.entries }
     ensures keys { IfOk result (λ ps. keys_of ps.items ≡ keys_of pairs.now.entries) }
     ensures values { IfOk result (λ ps.

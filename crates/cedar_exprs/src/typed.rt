@@ -19,7 +19,7 @@ use std::alloc::Global;
 use std::collections::HashMap;
 use std::rc::RcStr;
 
-impl Expr<()> {
+impl Expr {
     /// What `substitute` makes, where each value has the type that the unknown which it replaces is
     /// annotated with, if it is. An unknown that `values` does not bind is never tested.
     ///
@@ -29,7 +29,7 @@ impl Expr<()> {
         &self,
         alloc: Global,
         values: &HashMap<RcStr, V>,
-    ) -> Result<Expr<()>, SubstitutionError>
+    ) -> Result<Expr, SubstitutionError>
         ensures substituted { IfOk result (λ e.
             fold tree_ops (env_of V.bare_type_of V.bare_expr_of values.now) (bare_expr self.now)
             ≡ Ok (bare_expr e)) }

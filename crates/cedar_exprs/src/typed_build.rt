@@ -17,7 +17,7 @@ use std::rc::RcStr;
 use thiserror::Error;
 
 /// Why the substituted expression was not built: the types of a clash, the builder's own error, or
-/// want of memory.
+/// memory ran out.
 ///
 /// Its text is that of the clash, of the builder's own error, or `no memory`.
 #[derive(Debug, Drop, Error)]
@@ -77,7 +77,7 @@ impl<E: fmt::Display> fmt::Display for TypedBuildFault<E> {
     }
 }
 
-impl Expr<()> {
+impl Expr {
     ghost use Rattle.cedar_exprs.specs.TypedAnswers.{GivesTyped};
 
     /// What `substitute_into_expr` makes, where each value has the type that the unknown which it

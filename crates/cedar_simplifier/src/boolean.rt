@@ -9,7 +9,7 @@ use cedar_exprs::{Expr, ExprKind};
 use cedar_terms::{BinaryOp, Literal, UnaryOp};
 
 // Whether an expression, by its root, can only be a Boolean or a fault.
-pub(crate) fn is_boolean_kind(expr: &Expr<()>) -> bool
+pub(crate) fn is_boolean_kind(expr: &Expr) -> bool
     ensures { result ≡ kinds.is_boolean_kind (bare_expr expr.now) }
 {
     match expr.expr_kind() {

@@ -32,7 +32,7 @@ use std::rc::RcStr;
 /// ```
 pub fn simplify(
     alloc: Global,
-    expr: &Expr<()>,
+    expr: &Expr,
     values: &HashMap<RcStr, Value<NoExtension>>,
 ) -> Result<Part, AllocError>
     ensures part { IfOk result (λ p. meaning_of p

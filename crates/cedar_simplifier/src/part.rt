@@ -50,7 +50,7 @@ impl Part {
     }
 
     /// The expression that is left, or that of the value.
-    pub fn into_expr(self, alloc: Global) -> Result<Expr<()>, AllocError>
+    pub fn into_expr(self, alloc: Global) -> Result<Expr, AllocError>
         ensures { IfOk result (λ e. bare_expr e ≡ meant.tree_of held_call (meaning_of self)) }
     {
         Ok(self.into_tree(alloc)?.into_expr())

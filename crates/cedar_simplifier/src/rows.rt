@@ -18,7 +18,7 @@ use std::rc::RcStr;
 // The expressions of a row, and whether none of them holds a call.
 #[derive(Debug, Drop)]
 pub(crate) struct Row {
-    pub(crate) exprs: Vec<Expr<()>>,
+    pub(crate) exprs: Vec<Expr>,
     pub(crate) calls_nothing: bool,
     ghost kept: { calls_nothing ≡ list_all (λ e. holds_no_call (bare_expr e)) exprs.items },
 }
@@ -26,7 +26,7 @@ pub(crate) struct Row {
 // The same of the values of a record, by their keys.
 #[derive(Debug, Drop)]
 pub(crate) struct Fields {
-    pub(crate) pairs: Vec<(RcStr, Expr<()>)>,
+    pub(crate) pairs: Vec<(RcStr, Expr)>,
     pub(crate) calls_nothing: bool,
     ghost kept: { calls_nothing ≡ list_all (λ p. holds_no_call (bare_expr p.1)) pairs.items },
 }

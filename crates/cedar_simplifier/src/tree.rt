@@ -20,7 +20,7 @@ use std::rc::{Rc, RcStr};
 // An expression, and whether no position of it is a call.
 #[derive(Debug, Drop)]
 pub(crate) struct Tree {
-    expr: Expr<()>,
+    expr: Expr,
     calls_nothing: bool,
     ghost kept: { calls_nothing ≡ holds_no_call (bare_expr expr) },
 }
@@ -59,14 +59,14 @@ impl Tree {
     ghost use Rattle.cedar_simplifier.specs.Parts.{bare_tree};
 
     // The expression.
-    pub(crate) fn expr(&self) -> &Expr<()>
+    pub(crate) fn expr(&self) -> &Expr
         ensures { bare_expr result.now ≡ bare_tree self.now }
     {
         &self.expr
     }
 
     // The expression, by itself.
-    pub(crate) fn into_expr(self) -> Expr<()>
+    pub(crate) fn into_expr(self) -> Expr
         ensures { bare_expr result ≡ bare_tree self }
     {
         self.expr

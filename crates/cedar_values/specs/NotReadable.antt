@@ -21,12 +21,12 @@ first_not_readable e = find is_not_readable (preorder e)
 abbrev pub first_not_readable_of : {T : Type 0} → List (Expr T) → Option (Expr T)
 first_not_readable_of es = find is_not_readable (forward (map preorder es))
 
--- the refusal has the place of the node that was found, or it is want of memory
+-- the refusal has the place of the node that was found, or memory ran out
 abbrev pub IsNotValueAt : {T : Type 0} → Option (Expr T) → NotValue → Type 0
 IsNotValueAt found (error.NotValue loc) = option_map expr_place found ≡ Some loc
 IsNotValueAt found error.Memory = ⊤
 
--- an answer just where it is said to come, want of memory aside
+-- an answer just where it is said to come, unless memory runs out
 abbrev pub IsAnswerWhere : {A : Type 0} → Bool → Result A NotValue → Type 0
 IsAnswerWhere b (Ok a) = b ≡ true
 IsAnswerWhere b (Err (error.NotValue loc)) = b ≡ false

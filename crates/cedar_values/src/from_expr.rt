@@ -41,7 +41,7 @@ impl<X: ExtensionValue + Ord> Value<X> {
     /// The value of an expression of literals, sets and records.
     ///
     /// Each value has the place of its expression, but the members of a set of literals have none.
-    pub fn try_from_expr(alloc: Global, expr: Expr<()>) -> Result<Value<X>, NotValue>
+    pub fn try_from_expr(alloc: Global, expr: Expr) -> Result<Value<X>, NotValue>
         ensures outcome { MatchResult result
             (λ v. IsValueOf X.cmp (bare_expr expr) (bare_value v))
             (IsNotValueAt (first_not_readable expr)) }
@@ -57,7 +57,7 @@ impl<X: ExtensionValue + Ord> Value<X> {
 
 impl<X: ExtensionValue + Ord> ValueKind<X> {
     /// The value of an expression of literals, sets and records, without its place.
-    pub fn try_from_expr(alloc: Global, expr: Expr<()>) -> Result<ValueKind<X>, NotValue>
+    pub fn try_from_expr(alloc: Global, expr: Expr) -> Result<ValueKind<X>, NotValue>
         ensures outcome { MatchResult result
             (λ k. IsValueOf X.cmp (bare_expr expr) (bare_value_kind k))
             (IsNotValueAt (first_not_readable expr)) }
@@ -75,7 +75,7 @@ impl<X: ExtensionValue + Ord> ValueKind<X> {
 //
 // The sets and the records around the expression that comes next wait on the heap, so that no depth
 // of an expression ends the walk.
-fn value_of<X: ExtensionValue + Ord>(alloc: Global, expr: &Expr<()>) -> Result<Value<X>, NotValue>
+fn value_of<X: ExtensionValue + Ord>(alloc: Global, expr: &Expr) -> Result<Value<X>, NotValue>
     ensures outcome { MatchResult result
         (λ v. IsValueOf X.cmp (bare_expr expr.now) (bare_value v))
         (IsNotValueAt (first_not_readable expr.now)) }
@@ -103,17 +103,17 @@ fn value_of<X: ExtensionValue + Ord>(alloc: Global, expr: &Expr<()>) -> Result<V
 // A set that is being read: the values of its first members, and the other members.
 #[derive(Drop)]
 struct SetRow<'a, X> {
-    expr: &'a Expr<()>,
+    expr: &'a Expr,
     values: Vec<Value<X>>,
-    rest: slice::Iter<'a, Expr<()>>,
+    rest: slice::Iter<'a, Expr>,
 }
 
 // A record that is being read.
 #[derive(Drop)]
 struct RecordRow<'a, X> {
-    expr: &'a Expr<()>,
+    expr: &'a Expr,
     values: BTreeMap<RcStr, Value<X>>,
-    rest: btree_map::Iter<'a, RcStr, Expr<()>>,
+    rest: btree_map::Iter<'a, RcStr, Expr>,
 }
 
 // What waits for the value of an expression inside.
@@ -131,13 +131,13 @@ enum Step<'a, X> {
     // The value of an expression.
     Read(Value<X>),
     // An expression has to be read first, for which this waits.
-    Into(Waiting<'a, X>, &'a Expr<()>),
+    Into(Waiting<'a, X>, &'a Expr),
 }
 
 // Into an expression.
 fn enter<'a, X: ExtensionValue + Ord>(
     alloc: Global,
-    expr: &'a Expr<()>,
+    expr: &'a Expr,
 ) -> Result<Step<'a, X>, NotValue>
     ensures outcome { MatchResult result (IsStepFor X.cmp expr.now)
         (IsNotValueAt (first_not_readable expr.now)) }
@@ -232,10 +232,7 @@ fn read_pairs<'a, X: ExtensionValue + Ord>(
 
 // The value of a literal; none of another expression.
 #[inline(always)]
-fn leaf<X: ExtensionValue + Ord>(
-    alloc: Global,
-    expr: &Expr<()>,
-) -> Result<Option<Value<X>>, AllocError>
+fn leaf<X: ExtensionValue + Ord>(alloc: Global, expr: &Expr) -> Result<Option<Value<X>>, AllocError>
     ensures read { IfOk result (λ made. IfSome made (λ v.
         IsValueOf X.cmp (bare_expr expr.now) (bare_value v))) }
     ensures well_formed { IfOk result (λ made. IfSome made (λ v. IsTrue (well_formed X.cmp v))) }
@@ -262,7 +259,7 @@ fn literal_at<X: ExtensionValue + Ord>(
 }
 
 // The kind of an expression without data.
-fn expr_kind(expr: &Expr<()>) -> &ExprKind
+fn expr_kind(expr: &Expr) -> &ExprKind
     ensures { result.now ≡ kind_of expr.now }
 {
     expr.expr_kind()

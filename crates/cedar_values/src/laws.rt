@@ -101,7 +101,7 @@ pub fn sets_are_finite_sets<X: Ord>()
 /// expressions.
 pub fn equal_partial_values<X: Ord>()
     ensures { (a b : PartialValue _) → ⟦<PartialValue<X> as PartialEq>⟧.eq a b
-        ≡ partial_eq X.eq ⟦<Expr<()> as PartialEq>⟧.eq a b }
+        ≡ partial_eq X.eq ⟦<Expr as PartialEq>⟧.eq a b }
 {
     order_of_values::<X>();
 }

@@ -3,7 +3,7 @@ ghost use Rattle.std.specs.Prelude.{◌≡◌, [], IfOk, IsTrue};
 ghost use Rattle.std.specs.List.{AllZip, filter_map, list_any};
 ghost use Rattle.cedar_builders.specs.Queries.{contains_unknown};
 ghost use Rattle.cedar_exprs.specs.BareExpr.{bare_expr, expr_place, unknown_tree};
-ghost use Rattle.cedar_exprs.specs.BuiltNode.{IsPlain};
+ghost use Rattle.cedar_exprs.specs.MadeNode.{IsPlain};
 ghost use Rattle.cedar_terms.specs.Unknowns.{bare_unknown};
 ghost use Rattle.cedar_values.specs.PartialValues.{
   IsExprOf,
@@ -39,7 +39,7 @@ pub enum PartialValue<X = NoExtension> {
     /// A value.
     Value(Value<X>),
     /// An expression that waits for its unknowns.
-    Residual(Expr<()>),
+    Residual(Expr),
 }
 
 impl<X> PartialValue<X> {
@@ -51,7 +51,7 @@ impl<X> PartialValue<X> {
     }
 
     /// The residual that is an expression in which some position is an unknown.
-    pub fn from_expr(expr: Expr<()>) -> PartialValue<X>
+    pub fn from_expr(expr: Expr) -> PartialValue<X>
         requires { IsTrue (contains_unknown (bare_expr expr)) }
         ensures { result ≡ PartialValue.Residual expr }
     {
@@ -83,7 +83,7 @@ impl<X: Drop> PartialValue<X> {
 
 impl<X: ExtensionValue + Ord> PartialValue<X> {
     /// Its expression: that of the value, or the residual.
-    pub fn to_expr(&self, alloc: Global) -> Result<Expr<()>, AllocError>
+    pub fn to_expr(&self, alloc: Global) -> Result<Expr, AllocError>
         ensures tree { IfOk result (λ e. bare_expr e ≡ partial_expr X.canonical self.now) }
         ensures place { IfOk result (λ e. expr_place e ≡ partial_place self.now) }
     {
@@ -96,7 +96,7 @@ impl<X: ExtensionValue + Ord> PartialValue<X> {
 
 impl<X: ExtensionValue + Ord> PartialValue<X> {
     // Its expression, as `to_expr` gives it; a residual is not copied.
-    fn into_expr(self, alloc: Global) -> Result<Expr<()>, AllocError>
+    fn into_expr(self, alloc: Global) -> Result<Expr, AllocError>
         ensures { IfOk result (IsExprOf X.canonical self) }
     {
         match self {
@@ -160,12 +160,12 @@ impl From<ContainsUnknown> for PartialValueToValueError {
 #[derive(Debug, Drop, PartialEq, Eq, Error)]
 #[error("value contains a residual expression")]
 pub struct ContainsUnknown {
-    residual: Expr<()>,
+    residual: Expr,
 }
 
 impl ContainsUnknown {
     /// The residual.
-    pub fn residual(&self) -> &Expr<()>
+    pub fn residual(&self) -> &Expr
         ensures { result.now ≡ residual_of self.now }
     {
         &self.residual
@@ -193,7 +193,7 @@ impl<X: Drop> TryFrom<PartialValue<X>> for Value<X> {
 pub fn split<X: ExtensionValue + Ord>(
     alloc: Global,
     items: Vec<PartialValue<X>>,
-) -> Result<Either<IntoIter<Value<X>>, IntoIter<Expr<()>>>, AllocError>
+) -> Result<Either<IntoIter<Value<X>>, IntoIter<Expr>>, AllocError>
     ensures { IfOk result (IsSplit X.canonical items.items) }
 {
     if has_residual(&items) {
@@ -229,7 +229,7 @@ fn values_of<X: Drop>(
 fn exprs_of<X: ExtensionValue + Ord>(
     alloc: Global,
     items: Vec<PartialValue<X>>,
-) -> Result<Vec<Expr<()>>, AllocError>
+) -> Result<Vec<Expr>, AllocError>
     ensures { IfOk result (λ exprs. AllZip (IsExprOf X.canonical) items.items exprs.items) }
 {
     let mut exprs = Vec::with_capacity(alloc, items.len())?;

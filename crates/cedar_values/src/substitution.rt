@@ -38,7 +38,7 @@ impl<X: ExtensionValue + Ord> SubstituteValue for Value<X> {
 /// builds it. The first error ends it.
 pub fn try_into_expr_with_values<B: ExprBuilder, X: ExtensionValue + Ord>(
     alloc: Global,
-    expr: &Expr<()>,
+    expr: &Expr,
     values: &HashMap<RcStr, Value<X>>,
 ) -> Result<B::Expr, BuildFault<B::BuildError>>
     ensures { Gives B.meaning_of B.fault_of
@@ -53,7 +53,7 @@ pub fn try_into_expr_with_values<B: ExprBuilder, X: ExtensionValue + Ord>(
 /// included.
 pub fn substitute_values_into_expr<B: LawfulExprBuilder, X: ExtensionValue + Ord>(
     alloc: Global,
-    expr: &Expr<()>,
+    expr: &Expr,
     values: &HashMap<RcStr, Value<X>>,
 ) -> Result<B::Expr, BuildFault<B::BuildError>>
     ensures { Gives B.meaning_of B.fault_of
@@ -67,7 +67,7 @@ pub fn substitute_values_into_expr<B: LawfulExprBuilder, X: ExtensionValue + Ord
 /// it is; else the two types at the leftmost unknown at which they differ, and nothing is built.
 pub fn substitute_typed_values_into_expr<B: LawfulExprBuilder, X: ExtensionValue + Ord>(
     alloc: Global,
-    expr: &Expr<()>,
+    expr: &Expr,
     values: &HashMap<RcStr, Value<X>>,
 ) -> Result<B::Expr, TypedBuildFault<B::BuildError>>
     ensures { GivesTyped B.meaning_of B.fault_of

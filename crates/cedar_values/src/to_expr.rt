@@ -45,7 +45,7 @@ use std::slice;
 impl<X: ExtensionValue + Ord> Value<X> {
     /// The expression of the value, with each value's place. An extension value becomes the call
     /// that was given for it, else its canonical one.
-    pub fn to_expr(&self, alloc: Global) -> Result<Expr<()>, AllocError>
+    pub fn to_expr(&self, alloc: Global) -> Result<Expr, AllocError>
         ensures tree { IfOk result (λ e.
             bare_expr e ≡ value_expr X.canonical (bare_value self.now)) }
         ensures restricted { IfOk result (λ e. IsRestricted (bare_expr e)) }
@@ -60,7 +60,7 @@ impl<X: ExtensionValue + Ord> Value<X> {
 
 impl<X: ExtensionValue + Ord> ValueKind<X> {
     /// The expression of the value, at no place; the values inside have theirs.
-    pub fn to_expr(&self, alloc: Global) -> Result<Expr<()>, AllocError>
+    pub fn to_expr(&self, alloc: Global) -> Result<Expr, AllocError>
         ensures tree { IfOk result (λ e.
             bare_expr e ≡ value_expr X.canonical (bare_value_kind self.now)) }
         ensures restricted { IfOk result (λ e. IsRestricted (bare_expr e)) }
@@ -91,7 +91,7 @@ fn expr_at<X: ExtensionValue + Ord>(
     alloc: Global,
     kind: &ValueKind<X>,
     loc: Option<&Loc>,
-) -> Result<Expr<()>, AllocError>
+) -> Result<Expr, AllocError>
     ensures tree { IfOk result (λ e.
         bare_expr e ≡ value_expr X.canonical (bare_value_kind kind.now)) }
     ensures restricted { IfOk result (λ e. IsRestricted (bare_expr e)) }
@@ -116,7 +116,7 @@ fn expr_at<X: ExtensionValue + Ord>(
 // A set that is being written: the expressions of its first members, and the other members.
 #[derive(Drop)]
 struct SetRow<'a, X> {
-    exprs: Vec<Expr<()>>,
+    exprs: Vec<Expr>,
     rest: slice::Iter<'a, Value<X>>,
     loc: Option<&'a Loc>,
 }
@@ -124,7 +124,7 @@ struct SetRow<'a, X> {
 // A record that is being written.
 #[derive(Drop)]
 struct RecordRow<'a, X> {
-    exprs: BTreeMap<RcStr, Expr<()>>,
+    exprs: BTreeMap<RcStr, Expr>,
     rest: btree_map::Iter<'a, RcStr, Value<X>>,
     loc: Option<&'a Loc>,
 }
@@ -142,7 +142,7 @@ enum Waiting<'a, X> {
 #[derive(Drop)]
 enum Step<'a, X> {
     // The expression of a value.
-    Made(Expr<()>),
+    Made(Expr),
     // A value has to be written first, for which this waits.
     Into(Waiting<'a, X>, &'a Value<X>),
 }
@@ -180,7 +180,7 @@ fn enter<'a, X: ExtensionValue + Ord>(
 fn go_on<'a, X: ExtensionValue + Ord>(
     alloc: Global,
     row: Waiting<'a, X>,
-    expr: Expr<()>,
+    expr: Expr,
 ) -> Result<Step<'a, X>, AllocError>
     requires is_row { IsRow row }
     requires restricted { IsRestricted (bare_expr expr) }
@@ -261,7 +261,7 @@ fn write_pairs<'a, X: ExtensionValue + Ord>(
 fn leaf<X: ExtensionValue + Ord>(
     alloc: Global,
     value: &Value<X>,
-) -> Result<Option<Expr<()>>, AllocError>
+) -> Result<Option<Expr>, AllocError>
     ensures tree { IfOk result (λ made. IfSome made (λ e.
         bare_expr e ≡ value_expr X.canonical (bare_value value.now))) }
     ensures restricted { IfOk result (λ made. IfSome made (λ e. IsRestricted (bare_expr e))) }
@@ -278,7 +278,7 @@ fn leaf<X: ExtensionValue + Ord>(
 
 // The expression of a literal, at a place.
 #[inline(always)]
-fn literal_at(alloc: Global, literal: &Literal, loc: Option<&Loc>) -> Result<Expr<()>, AllocError>
+fn literal_at(alloc: Global, literal: &Literal, loc: Option<&Loc>) -> Result<Expr, AllocError>
     ensures tree { IfOk result (λ e. bare_expr e ≡ Lit (bare_literal literal.now)) }
     ensures place { IfOk result (λ e. expr_place e ≡ option_copied loc.entry) }
 {
@@ -292,7 +292,7 @@ fn extension_at<X: ExtensionValue>(
     alloc: Global,
     value: &RepresentableExtensionValue<X>,
     loc: Option<&Loc>,
-) -> Result<Expr<()>, AllocError>
+) -> Result<Expr, AllocError>
     ensures tree { IfOk result (λ e.
         bare_expr e ≡ value_expr X.canonical (bare_representable value.now)) }
     ensures restricted { IfOk result (λ e. IsRestricted (bare_expr e)) }
@@ -304,7 +304,7 @@ fn extension_at<X: ExtensionValue>(
 
 // The expression at another place.
 #[inline(always)]
-fn at_place(expr: Expr<()>, loc: Option<Loc>) -> Expr<()>
+fn at_place(expr: Expr, loc: Option<Loc>) -> Expr
     ensures tree { bare_expr result ≡ bare_expr expr }
     ensures place { expr_place result ≡ loc }
 {
@@ -316,7 +316,7 @@ fn at_place(expr: Expr<()>, loc: Option<Loc>) -> Expr<()>
 fn representation<X: ExtensionValue>(
     alloc: Global,
     value: &RepresentableExtensionValue<X>,
-) -> Result<Expr<()>, AllocError>
+) -> Result<Expr, AllocError>
     ensures tree { IfOk result (λ e.
         bare_expr e ≡ value_expr X.canonical (bare_representable value.now)) }
     ensures restricted { IfOk result (λ e. IsRestricted (bare_expr e)) }
@@ -332,7 +332,7 @@ fn representation<X: ExtensionValue>(
 }
 
 // The call of a function on its arguments.
-fn expr_of_call(alloc: Global, call: &(Name, Vec<RestrictedExpr>)) -> Result<Expr<()>, AllocError>
+fn expr_of_call(alloc: Global, call: &(Name, Vec<RestrictedExpr>)) -> Result<Expr, AllocError>
     ensures tree { IfOk result (λ e. bare_expr e ≡ call_expr (bare_call call.now)) }
     ensures restricted { IfOk result (λ e. IsRestricted (bare_expr e)) }
     ensures place { IfOk result (λ e. expr_place e ≡ None) }

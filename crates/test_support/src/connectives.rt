@@ -20,18 +20,18 @@ pub trait Connectives {
     fn and(
         builder: ExprBuilder<()>,
         alloc: Global,
-        left: Expr<()>,
-        right: Expr<()>,
-    ) -> Result<Expr<()>, AllocError>
+        left: Expr,
+        right: Expr,
+    ) -> Result<Expr, AllocError>
         ensures { Means bare_expr (and_of (bare_expr left) (bare_expr right)) result };
 
     /// The disjunction of two expressions, with the builder's place.
     fn or(
         builder: ExprBuilder<()>,
         alloc: Global,
-        left: Expr<()>,
-        right: Expr<()>,
-    ) -> Result<Expr<()>, AllocError>
+        left: Expr,
+        right: Expr,
+    ) -> Result<Expr, AllocError>
         ensures { Means bare_expr (or_of (bare_expr left) (bare_expr right)) result };
 }
 
@@ -46,18 +46,18 @@ impl Connectives for Simplifying {
     fn and(
         builder: ExprBuilder<()>,
         alloc: Global,
-        left: Expr<()>,
-        right: Expr<()>,
-    ) -> Result<Expr<()>, AllocError> {
+        left: Expr,
+        right: Expr,
+    ) -> Result<Expr, AllocError> {
         builder.and(alloc, left, right)
     }
 
     fn or(
         builder: ExprBuilder<()>,
         alloc: Global,
-        left: Expr<()>,
-        right: Expr<()>,
-    ) -> Result<Expr<()>, AllocError> {
+        left: Expr,
+        right: Expr,
+    ) -> Result<Expr, AllocError> {
         builder.or(alloc, left, right)
     }
 }
@@ -73,9 +73,9 @@ impl Connectives for AsTheyStand {
     fn and(
         builder: ExprBuilder<()>,
         alloc: Global,
-        left: Expr<()>,
-        right: Expr<()>,
-    ) -> Result<Expr<()>, AllocError> {
+        left: Expr,
+        right: Expr,
+    ) -> Result<Expr, AllocError> {
         Ok(builder.with_expr_kind(ExprKind::And {
             left: Rc::new(alloc, left)?,
             right: Rc::new(alloc, right)?,
@@ -85,9 +85,9 @@ impl Connectives for AsTheyStand {
     fn or(
         builder: ExprBuilder<()>,
         alloc: Global,
-        left: Expr<()>,
-        right: Expr<()>,
-    ) -> Result<Expr<()>, AllocError> {
+        left: Expr,
+        right: Expr,
+    ) -> Result<Expr, AllocError> {
         Ok(builder.with_expr_kind(ExprKind::Or {
             left: Rc::new(alloc, left)?,
             right: Rc::new(alloc, right)?,

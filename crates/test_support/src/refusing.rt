@@ -8,7 +8,7 @@ ghost use Rattle.cedar_builders.specs.Errors.{OnDuplicateKey};
 ghost use Rattle.cedar_builders.specs.Keys.{keys_of, meant_pairs, IsRising, HasRepeat};
 ghost use Rattle.cedar_builders.specs.Trees.{tree_ops};
 ghost use Rattle.cedar_builders.specs.declared.expression_construction_errors.ExpressionConstructionError.TheVariants as error;
-ghost use Rattle.cedar_exprs.specs.BuiltNode.{builder_place};
+ghost use Rattle.cedar_exprs.specs.MadeNode.{builder_place};
 ghost use Rattle.cedar_exprs.specs.BareExpr.{bare_expr, bare_exprs};
 ghost use Rattle.test_support.specs.Refusing.{refusing};
 
@@ -59,7 +59,7 @@ pub struct Refused {
 }
 
 impl<R: Refusal, C: Connectives> Builder for Refusing<R, C> {
-    type Expr = Expr<()>;
+    type Expr = Expr;
 
     type Data = ();
 
@@ -99,41 +99,41 @@ impl<R: Refusal, C: Connectives> Builder for Refusing<R, C> {
         Refusing::over(self.inner.with_maybe_source_loc(source_loc))
     }
 
-    fn val(self, alloc: Global, literal: Literal) -> Result<Expr<()>, AllocError> {
+    fn val(self, alloc: Global, literal: Literal) -> Result<Expr, AllocError> {
         self.inner.val(alloc, literal)
     }
 
-    fn var(self, alloc: Global, var: Var) -> Result<Expr<()>, AllocError> {
+    fn var(self, alloc: Global, var: Var) -> Result<Expr, AllocError> {
         self.inner.var(alloc, var)
     }
 
-    fn slot(self, alloc: Global, slot: SlotId) -> Result<Expr<()>, AllocError> {
+    fn slot(self, alloc: Global, slot: SlotId) -> Result<Expr, AllocError> {
         self.inner.slot(alloc, slot)
     }
 
-    fn unknown(self, alloc: Global, unknown: Unknown) -> Result<Expr<()>, AllocError> {
+    fn unknown(self, alloc: Global, unknown: Unknown) -> Result<Expr, AllocError> {
         self.inner.unknown(alloc, unknown)
     }
 
     fn ite(
         self,
         alloc: Global,
-        test_expr: Expr<()>,
-        then_expr: Expr<()>,
-        else_expr: Expr<()>,
-    ) -> Result<Expr<()>, AllocError> {
+        test_expr: Expr,
+        then_expr: Expr,
+        else_expr: Expr,
+    ) -> Result<Expr, AllocError> {
         self.inner.ite(alloc, test_expr, then_expr, else_expr)
     }
 
-    fn and(self, alloc: Global, left: Expr<()>, right: Expr<()>) -> Result<Expr<()>, AllocError> {
+    fn and(self, alloc: Global, left: Expr, right: Expr) -> Result<Expr, AllocError> {
         C::and(self.inner, alloc, left, right)
     }
 
-    fn or(self, alloc: Global, left: Expr<()>, right: Expr<()>) -> Result<Expr<()>, AllocError> {
+    fn or(self, alloc: Global, left: Expr, right: Expr) -> Result<Expr, AllocError> {
         C::or(self.inner, alloc, left, right)
     }
 
-    fn unary_app(self, alloc: Global, op: UnaryOp, arg: Expr<()>) -> Result<Expr<()>, AllocError> {
+    fn unary_app(self, alloc: Global, op: UnaryOp, arg: Expr) -> Result<Expr, AllocError> {
         self.inner.unary_app(alloc, op, arg)
     }
 
@@ -141,9 +141,9 @@ impl<R: Refusal, C: Connectives> Builder for Refusing<R, C> {
         self,
         alloc: Global,
         op: BinaryOp,
-        arg1: Expr<()>,
-        arg2: Expr<()>,
-    ) -> Result<Expr<()>, AllocError> {
+        arg1: Expr,
+        arg2: Expr,
+    ) -> Result<Expr, AllocError> {
         self.inner.binary_app(alloc, op, arg1, arg2)
     }
 
@@ -151,8 +151,8 @@ impl<R: Refusal, C: Connectives> Builder for Refusing<R, C> {
         self,
         alloc: Global,
         fn_name: Name,
-        args: Vec<Expr<()>>,
-    ) -> Result<Expr<()>, BuildFault<Refused>>
+        args: Vec<Expr>,
+    ) -> Result<Expr, BuildFault<Refused>>
         ensures { Gives bare_expr (λ e. bare_name e.name)
             ((refusing tree_ops C.and_of C.or_of R.refuses).call_of (bare_name fn_name)
             (map bare_expr args.items))
@@ -168,33 +168,33 @@ impl<R: Refusal, C: Connectives> Builder for Refusing<R, C> {
         }
     }
 
-    fn get_attr(self, alloc: Global, expr: Expr<()>, attr: RcStr) -> Result<Expr<()>, AllocError> {
+    fn get_attr(self, alloc: Global, expr: Expr, attr: RcStr) -> Result<Expr, AllocError> {
         self.inner.get_attr(alloc, expr, attr)
     }
 
     fn extended_has_attr(
         self,
         alloc: Global,
-        expr: Expr<()>,
+        expr: Expr,
         attrs: NonEmpty<RcStr>,
-    ) -> Result<Expr<()>, AllocError> {
+    ) -> Result<Expr, AllocError> {
         self.inner.extended_has_attr(alloc, expr, attrs)
     }
 
-    fn like(self, alloc: Global, expr: Expr<()>, pattern: Pattern) -> Result<Expr<()>, AllocError> {
+    fn like(self, alloc: Global, expr: Expr, pattern: Pattern) -> Result<Expr, AllocError> {
         self.inner.like(alloc, expr, pattern)
     }
 
     fn is_entity_type(
         self,
         alloc: Global,
-        expr: Expr<()>,
+        expr: Expr,
         entity_type: EntityType,
-    ) -> Result<Expr<()>, AllocError> {
+    ) -> Result<Expr, AllocError> {
         self.inner.is_entity_type(alloc, expr, entity_type)
     }
 
-    fn set(self, alloc: Global, members: Vec<Expr<()>>) -> Result<Expr<()>, AllocError>
+    fn set(self, alloc: Global, members: Vec<Expr>) -> Result<Expr, AllocError>
         ensures { IfOk result (λ e. bare_expr e ≡ Set (bare_exprs members.items)) }
     {
         self.inner.set(alloc, members)
@@ -203,8 +203,8 @@ impl<R: Refusal, C: Connectives> Builder for Refusing<R, C> {
     fn record(
         self,
         alloc: Global,
-        pairs: Vec<(RcStr, Expr<()>)>,
-    ) -> Result<Expr<()>, ExpressionConstructionError>
+        pairs: Vec<(RcStr, Expr)>,
+    ) -> Result<Expr, ExpressionConstructionError>
         ensures means { IsRising (keys_of pairs.items) → IfOk result (λ e.
             bare_expr e ≡ tree_ops.record_of (meant_pairs bare_expr pairs.items)) }
         ensures accepts { IsRising (keys_of pairs.items) → IfErr result (λ e. e ≡ error.Memory) }
