@@ -9,8 +9,8 @@ use std::alloc::Global;
 
 /// The outcome of an expression with its unknowns bound: a value, a fault or a refused call.
 ///
-/// First to substitute and then to evaluate has to give the same, and the expression of the value
-/// has to evaluate to the value.
+/// First to substitute and then to evaluate has to give the same, also by the one call that does
+/// both, and the expression of the value has to evaluate to the value.
 pub fn eval(alloc: Global, e: &Part, env: &Part) -> Result<String, NoAnswer> {
     evaluated(alloc, &expr(alloc, e)?, &plain_bindings(alloc, env)?)
 }
@@ -20,6 +20,10 @@ fn evaluated(alloc: Global, e: &Expr, values: &PlainValues) -> Result<String, No
     agree(
         are_same(&at_once, &in_turn(alloc, e, values)?),
         "at once and in turn",
+    )?;
+    agree(
+        are_same(&at_once, &by_one_call(alloc, e, values)?),
+        "at once and by one call",
     )?;
     is_kept(alloc, &at_once)?;
     answer_text(alloc, &at_once)
@@ -34,6 +38,10 @@ fn at_once(alloc: Global, e: &Expr, values: &PlainValues) -> Result<Evaluated, N
 
 fn in_turn(alloc: Global, e: &Expr, values: &PlainValues) -> Result<Evaluated, NoAnswer> {
     as_it_stands(alloc, &e.substitute(alloc, values)?)
+}
+
+fn by_one_call(alloc: Global, e: &Expr, values: &PlainValues) -> Result<Evaluated, NoAnswer> {
+    ended(e.substitute_into_expr::<Evaluator, PlainValue>(alloc, values))
 }
 
 // That of an expression with nothing bound.

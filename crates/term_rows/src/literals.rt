@@ -94,13 +94,14 @@ fn told(alloc: Global, uid: &EntityUID) -> Result<String, NoAnswer> {
         .end()
 }
 
-// A text by each call that makes it a literal; an entity, owned and shared; else the literal
-// alone.
+// What a literal holds, made a literal by each call that does so: a text by three, an entity owned
+// and shared.
 fn sources(alloc: Global, part: &Part) -> Result<String, NoAnswer> {
     match placed_literal(alloc, part)? {
+        Literal::Bool(truth) => Answer::new(alloc).word(&Literal::from(truth)).end(),
+        Literal::Long(number) => Answer::new(alloc).word(&Literal::from(number)).end(),
         Literal::String(text) => text_sources(alloc, text),
         Literal::EntityUID(uid) => entity_sources(alloc, uid),
-        literal => Answer::new(alloc).word(&literal).end(),
     }
 }
 

@@ -6,7 +6,7 @@ use cedar_builders::laws::{
     then_is_not_always_both,
 };
 use cedar_builders::{BuildFault, DuplicateKeyError, ExprBuilder, ExpressionConstructionError};
-use cedar_names::laws::compared_lists;
+use cedar_names::laws::{compared_lists, qualified_twice};
 use cedar_names::{FromNormalizedStr, Name};
 use cedar_sketch::{SExpression, Sketch};
 use cedar_terms::{BinaryOp, Literal, UnaryOp};
@@ -32,6 +32,7 @@ fn laws_are_called() {
     then_is_not_always_both();
     substituted_by_fold();
     compared_lists::<RcStr>();
+    qualified_twice();
 }
 
 // What was made; where nothing was, the test ends.

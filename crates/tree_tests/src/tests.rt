@@ -1,4 +1,5 @@
 //! The tests, in a file for each subject, and what they share.
+mod counting;
 mod keys;
 mod laws;
 mod literals;
@@ -29,11 +30,11 @@ fn is_equal<T: PartialEq + Drop>(a: T, b: T) -> bool {
     a == b
 }
 
-fn long(n: i64) -> Expr<()> {
+fn long(n: i64) -> Expr {
     Expr::val(Literal::Long(n))
 }
 
 // The unknown of this name, without a type.
-fn unknown(rt: &(impl Abort + AllocGlobal), name: &str) -> Expr<()> {
+fn unknown(rt: &(impl Abort + AllocGlobal), name: &str) -> Expr {
     Expr::unknown(Unknown::new_untyped(text(rt, name)))
 }

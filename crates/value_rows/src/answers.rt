@@ -10,11 +10,6 @@ pub fn agreed(holds: bool, what: &'static str) -> Result<(), NoAnswer> {
     }
 }
 
-/// Whether the two are equal.
-pub fn are_equal<T: PartialEq + Drop>(a: T, b: T) -> bool {
-    a == b
-}
-
 /// Puts an item behind those before it, with a comma between.
 pub fn list(text: &mut String, item: &str) -> Result<(), NoAnswer> {
     if !text.is_empty() {

@@ -10,21 +10,29 @@ use std::alloc::Global;
 /// The answer to a call that makes an expression of a value, or a value of an expression.
 pub fn answer(alloc: Global, call: &str, args: &[Part]) -> Result<String, NoAnswer> {
     match args {
-        [part] => of_one(alloc, call, part),
+        [part] => match call {
+            "toexpr" | "toexpr-placed" | "roundtrip" => of_value(alloc, call, &value(alloc, part)?),
+            "tryvalue" | "tryvalue-placed" | "trykind" => of_expr(alloc, call, expr(alloc, part)?),
+            "notvalue" => not_value(alloc, part),
+            _ => Err(NoAnswer::OtherCall),
+        },
         _ => Err(NoAnswer::OtherCall),
     }
 }
 
-fn of_one(alloc: Global, call: &str, part: &Part) -> Result<String, NoAnswer> {
+fn of_value(alloc: Global, call: &str, v: &KeyedValue) -> Result<String, NoAnswer> {
     match call {
-        "toexpr" => sketch(alloc, &written(alloc, &value(alloc, part)?)?),
-        "toexpr-placed" => placed(alloc, &written(alloc, &value(alloc, part)?)?),
-        "roundtrip" => returned(alloc, &value(alloc, part)?),
-        "tryvalue" => tried(alloc, expr(alloc, part)?),
-        "tryvalue-placed" => tried_with_places(alloc, expr(alloc, part)?),
-        "trykind" => tried_kind(alloc, expr(alloc, part)?),
-        "notvalue" => not_value(alloc, part),
-        _ => Err(NoAnswer::OtherCall),
+        "toexpr" => sketch(alloc, &written(alloc, v)?),
+        "toexpr-placed" => placed(alloc, &written(alloc, v)?),
+        _ => returned(alloc, v),
+    }
+}
+
+fn of_expr(alloc: Global, call: &str, e: Expr) -> Result<String, NoAnswer> {
+    match call {
+        "tryvalue" => tried(alloc, e),
+        "tryvalue-placed" => tried_with_places(alloc, e),
+        _ => tried_kind(alloc, e),
     }
 }
 

@@ -13,11 +13,15 @@ use std::rc::RcStr;
 /// The answer to a call on the places of values.
 pub fn answer(alloc: Global, call: &str, args: &[Part]) -> Result<String, NoAnswer> {
     match args {
-        [v] => match call {
-            "placedval" => placed_value(alloc, &value(alloc, v)?),
-            "copyval" => copied(alloc, &value(alloc, v)?),
-            _ => Err(NoAnswer::OtherCall),
-        },
+        [v] => of_one(alloc, call, &value(alloc, v)?),
+        _ => Err(NoAnswer::OtherCall),
+    }
+}
+
+fn of_one(alloc: Global, call: &str, v: &KeyedValue) -> Result<String, NoAnswer> {
+    match call {
+        "placedval" => placed_value(alloc, v),
+        "copyval" => copied(alloc, v),
         _ => Err(NoAnswer::OtherCall),
     }
 }

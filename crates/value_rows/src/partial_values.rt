@@ -1,5 +1,5 @@
 //! Partial values.
-use crate::answers::{agreed, are_equal};
+use crate::answers::agreed;
 use cedar_exprs::Expr;
 use cedar_names::Loc;
 use cedar_terms::Unknown;
@@ -26,7 +26,7 @@ pub fn answer(alloc: Global, call: &str, args: &[Part]) -> Result<String, NoAnsw
             [a, b] => match call {
                 "partial" => moved(alloc, item(alloc, b)?, maybe_place(alloc, a)?),
                 "partialexpr" => written(alloc, item(alloc, b)?, maybe_place(alloc, a)?),
-                "eqpartial" => boolean(alloc, are_equal(item(alloc, a)?, item(alloc, b)?)),
+                "eqpartial" => equal(alloc, &item(alloc, a)?, &item(alloc, b)?),
                 _ => Err(NoAnswer::OtherCall),
             },
             _ => Err(NoAnswer::OtherCall),
@@ -70,6 +70,10 @@ fn from_expr(alloc: Global, e: Expr) -> Result<Item, NoAnswer> {
     } else {
         Err(NoAnswer::NotTaken)
     }
+}
+
+fn equal(alloc: Global, a: &Item, b: &Item) -> Result<String, NoAnswer> {
+    boolean(alloc, *a == *b)
 }
 
 // Text and place of the item at this place, and what it is as a value.

@@ -14,18 +14,26 @@ pub fn answer(alloc: Global, call: &str, args: &[Part]) -> Result<String, NoAnsw
             &set_of(alloc, args)?,
         ),
         _ => match args {
-            [v] => match call {
-                "members" => members(alloc, &value(alloc, v)?),
-                _ => Err(NoAnswer::OtherCall),
-            },
-            [v, w] => match call {
-                "contains" => contains(alloc, &value(alloc, v)?, &value(alloc, w)?),
-                "subset" => subset(alloc, &value(alloc, v)?, &value(alloc, w)?),
-                "disjoint" => disjoint(alloc, &value(alloc, v)?, &value(alloc, w)?),
-                _ => Err(NoAnswer::OtherCall),
-            },
+            [v] => of_one(alloc, call, &value(alloc, v)?),
+            [v, w] => of_two(alloc, call, &value(alloc, v)?, &value(alloc, w)?),
             _ => Err(NoAnswer::OtherCall),
         },
+    }
+}
+
+fn of_one(alloc: Global, call: &str, v: &KeyedValue) -> Result<String, NoAnswer> {
+    match call {
+        "members" => members(alloc, v),
+        _ => Err(NoAnswer::OtherCall),
+    }
+}
+
+fn of_two(alloc: Global, call: &str, v: &KeyedValue, w: &KeyedValue) -> Result<String, NoAnswer> {
+    match call {
+        "contains" => boolean(alloc, set(v)?.contains(w)),
+        "subset" => boolean(alloc, set(v)?.is_subset(set(w)?)),
+        "disjoint" => disjoint(alloc, set(v)?, set(w)?),
+        _ => Err(NoAnswer::OtherCall),
     }
 }
 
@@ -36,18 +44,9 @@ fn set(v: &KeyedValue) -> Result<&Set<Keyed>, NoAnswer> {
     }
 }
 
-fn contains(alloc: Global, v: &KeyedValue, w: &KeyedValue) -> Result<String, NoAnswer> {
-    boolean(alloc, set(v)?.contains(w))
-}
-
-fn subset(alloc: Global, v: &KeyedValue, w: &KeyedValue) -> Result<String, NoAnswer> {
-    boolean(alloc, set(v)?.is_subset(set(w)?))
-}
-
-fn disjoint(alloc: Global, v: &KeyedValue, w: &KeyedValue) -> Result<String, NoAnswer> {
-    let (v, w) = (set(v)?, set(w)?);
-    let answer = v.is_disjoint(w);
-    agreed(w.is_disjoint(v) == answer, "the two ways round")?;
+fn disjoint(alloc: Global, a: &Set<Keyed>, b: &Set<Keyed>) -> Result<String, NoAnswer> {
+    let answer = a.is_disjoint(b);
+    agreed(b.is_disjoint(a) == answer, "the two ways round")?;
     boolean(alloc, answer)
 }
 

@@ -14,13 +14,17 @@ type Values = HashMap<RcStr, KeyedValue>;
 /// The answer to a call that builds with values put for unknowns.
 pub fn answer(alloc: Global, call: &str, args: &[Part]) -> Result<String, NoAnswer> {
     match args {
-        [e, env] => match call {
-            "valuesinto" => built(alloc, &expr(alloc, e)?, &bindings(alloc, env)?),
-            "valuesinto-placed" => built_placed(alloc, &expr(alloc, e)?, &bindings(alloc, env)?),
-            "valueswith-placed" => at_once_placed(alloc, &expr(alloc, e)?, &bindings(alloc, env)?),
-            "typedvaluesinto" => built_typed(alloc, &expr(alloc, e)?, &bindings(alloc, env)?),
-            _ => Err(NoAnswer::OtherCall),
-        },
+        [e, env] => with_values(alloc, call, &expr(alloc, e)?, &bindings(alloc, env)?),
+        _ => Err(NoAnswer::OtherCall),
+    }
+}
+
+fn with_values(alloc: Global, call: &str, e: &Expr, values: &Values) -> Result<String, NoAnswer> {
+    match call {
+        "valuesinto" => built(alloc, e, values),
+        "valuesinto-placed" => built_placed(alloc, e, values),
+        "valueswith-placed" => at_once_placed(alloc, e, values),
+        "typedvaluesinto" => built_typed(alloc, e, values),
         _ => Err(NoAnswer::OtherCall),
     }
 }
@@ -44,7 +48,7 @@ fn built_typed(alloc: Global, e: &Expr, values: &Values) -> Result<String, NoAns
     }
 }
 
-// The struct refuses nothing, so want of memory is all that can be the matter. The type of data is
+// The struct refuses nothing, so only memory can run out. The type of data is
 // a parameter: at a concrete one the check of the call's bound takes long.
 fn by_struct<T: Default + Copy>(
     alloc: Global,

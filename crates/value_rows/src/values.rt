@@ -1,5 +1,5 @@
 //! Comparisons of values, what is inside them, and what they say of themselves.
-use crate::answers::{agreed, are_equal};
+use crate::answers::agreed;
 use cedar_exprs::SubstituteValue;
 use cedar_terms::{EntityUID, StaticallyTyped, Type};
 use cedar_values::{ExtensionValue, RepresentableExtensionValue, ValueKind};
@@ -11,24 +11,28 @@ use std::collections::HashSet;
 /// The answer to a call on values.
 pub fn answer(alloc: Global, call: &str, args: &[Part]) -> Result<String, NoAnswer> {
     match args {
-        [v] => match call {
-            "valtype" => typed(alloc, &value(alloc, v)?),
-            "uids" => uids(alloc, &value(alloc, v)?),
-            "extval" => said(alloc, &value(alloc, v)?),
-            _ => Err(NoAnswer::OtherCall),
-        },
-        [v, w] => match call {
-            "cmpval" => compared(alloc, &value(alloc, v)?, &value(alloc, w)?),
-            "eqval" => boolean(alloc, are_equal(value(alloc, v)?, value(alloc, w)?)),
-            "eqloc" => equal_at_place(alloc, &value(alloc, v)?, &value(alloc, w)?),
-            _ => Err(NoAnswer::OtherCall),
-        },
+        [v] => of_one(alloc, call, &value(alloc, v)?),
+        [v, w] => of_two(alloc, call, &value(alloc, v)?, &value(alloc, w)?),
         _ => Err(NoAnswer::OtherCall),
     }
 }
 
-fn equal_at_place(alloc: Global, v: &KeyedValue, w: &KeyedValue) -> Result<String, NoAnswer> {
-    boolean(alloc, v.eq_and_same_source_loc(w))
+fn of_one(alloc: Global, call: &str, v: &KeyedValue) -> Result<String, NoAnswer> {
+    match call {
+        "valtype" => typed(alloc, v),
+        "uids" => uids(alloc, v),
+        "extval" => said(alloc, v),
+        _ => Err(NoAnswer::OtherCall),
+    }
+}
+
+fn of_two(alloc: Global, call: &str, v: &KeyedValue, w: &KeyedValue) -> Result<String, NoAnswer> {
+    match call {
+        "cmpval" => compared(alloc, v, w),
+        "eqval" => boolean(alloc, *v == *w),
+        "eqloc" => boolean(alloc, v.eq_and_same_source_loc(w)),
+        _ => Err(NoAnswer::OtherCall),
+    }
 }
 
 fn compared(alloc: Global, v: &KeyedValue, w: &KeyedValue) -> Result<String, NoAnswer> {

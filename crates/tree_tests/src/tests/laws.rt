@@ -17,6 +17,8 @@ fn laws_hold() {
     equal_expressions::<u8>();
     alike_expressions::<u8>();
     nodes_in_preorder::<u8>();
+    positions_by_children::<u8>();
+    data_by_children::<u8>();
     laws_of_the_builder::<u8>();
     clash_by_children();
     rebuilt_twice();
@@ -29,14 +31,14 @@ fn laws_hold() {
 }
 
 // Two pairs, from the later key to the earlier.
-fn pairs(rt: &(impl Abort + AllocGlobal), b: Expr<()>, a: Expr<()>) -> Vec<(RcStr, Expr<()>)> {
+fn pairs(rt: &(impl Abort + AllocGlobal), b: Expr, a: Expr) -> Vec<(RcStr, Expr)> {
     let mut pairs = Vec::new(rt.alloc());
     made(rt, pairs.push((text(rt, "b"), b)));
     made(rt, pairs.push((text(rt, "a"), a)));
     pairs
 }
 
-fn record(rt: &(impl Abort + AllocGlobal), b: Expr<()>, a: Expr<()>) -> Expr<()> {
+fn record(rt: &(impl Abort + AllocGlobal), b: Expr, a: Expr) -> Expr {
     made(rt, Expr::record(rt.alloc(), pairs(rt, b, a)))
 }
 

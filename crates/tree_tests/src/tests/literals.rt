@@ -20,16 +20,16 @@ fn literals_are_put(rt: HostRuntime) {
 }
 
 // The unknown x of this type.
-fn typed(rt: &(impl Abort + AllocGlobal), ty: Type) -> Expr<()> {
+fn typed(rt: &(impl Abort + AllocGlobal), ty: Type) -> Expr {
     Expr::unknown(Unknown::new_with_type(text(rt, "x"), ty))
 }
 
-fn put_typed(rt: &(impl Abort + AllocGlobal), ty: Type) -> Result<Expr<()>, SubstitutionError> {
+fn put_typed(rt: &(impl Abort + AllocGlobal), ty: Type) -> Result<Expr, SubstitutionError> {
     typed(rt, ty).substitute_typed(rt.alloc(), &x_is(rt, 1))
 }
 
 // Where a Boolean was expected and an integer came.
-fn is_clash(answer: &Result<Expr<()>, SubstitutionError>) -> bool {
+fn is_clash(answer: &Result<Expr, SubstitutionError>) -> bool {
     match answer {
         Err(SubstitutionError::TypeError { expected, actual }) => {
             *expected == Type::Bool && *actual == Type::Long

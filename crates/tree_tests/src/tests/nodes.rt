@@ -11,11 +11,11 @@ use test_support::{AsTheyStand, Nothing, Refusing};
 // Makes each node as it stands. It is no lawful builder.
 type Raw = Refusing<Nothing, AsTheyStand>;
 
-fn boolean(b: bool) -> Expr<()> {
+fn boolean(b: bool) -> Expr {
     Expr::val(Literal::Bool(b))
 }
 
-fn raw_conjunction(rt: &(impl Abort + AllocGlobal)) -> Expr<()> {
+fn raw_conjunction(rt: &(impl Abort + AllocGlobal)) -> Expr {
     ExprBuilder::with_data(()).with_expr_kind(ExprKind::And {
         left: shared(rt, boolean(true)),
         right: shared(rt, boolean(false)),
@@ -30,7 +30,7 @@ fn a_user_keeps_raw_nodes(rt: HostRuntime) {
 }
 
 // Whether the three children are one node.
-fn is_one(e: &Expr<()>) -> bool {
+fn is_one(e: &Expr) -> bool {
     match e.expr_kind() {
         ExprKind::If {
             test_expr,
@@ -42,7 +42,7 @@ fn is_one(e: &Expr<()>) -> bool {
 }
 
 // A conditional of one shared child.
-fn of_one(rt: &(impl Abort + AllocGlobal)) -> Expr<()> {
+fn of_one(rt: &(impl Abort + AllocGlobal)) -> Expr {
     let child = shared(rt, long(1));
     Expr::ite_arc(made(rt, child.clone()), made(rt, child.clone()), child)
 }

@@ -41,7 +41,7 @@ impl SubstituteValue for Stored {
     }
 }
 
-fn f_of_z(rt: &(impl Abort + AllocGlobal)) -> Expr<()> {
+fn f_of_z(rt: &(impl Abort + AllocGlobal)) -> Expr {
     let args = made(rt, vec![in rt.alloc(); unknown(rt, "z")]);
     let f = made(rt, Name::parse_unqualified_name(rt.alloc(), "f"));
     made(rt, Expr::call_extension_fn(rt.alloc(), f, args))
@@ -52,7 +52,7 @@ fn bind(
     rt: &(impl Abort + AllocGlobal),
     values: &mut HashMap<RcStr, Stored>,
     name: &str,
-    expr: Expr<()>,
+    expr: Expr,
 ) {
     let value = Stored::new(made(rt, RestrictedExpr::new(rt.alloc(), expr)));
     drop(made(rt, values.insert(text(rt, name), value)));
