@@ -39,6 +39,17 @@ impl Nest {
         }
     }
 
+    // Sums of a number and an unknown, which is open first and bound then.
+    fn of_sums(name: &'static str, level: &'static str, levels: usize) -> Nest {
+        Nest {
+            name,
+            beginning: "unknown x\n",
+            level,
+            levels,
+            ending: "eval\nlong 1\nbind x\neval\nsimplify\nshow\n",
+        }
+    }
+
     // Levels of a value, which is bound and put in.
     fn of_value(name: &'static str, level: &'static str, levels: usize) -> Nest {
         Nest {
@@ -67,6 +78,7 @@ fn main(rt: HostRuntime) -> io::Result<()> {
         Nest::of_unknown("set", "set 1\n", LEVELS),
         Nest::of_unknown("record", "record a\n", RECORDS),
         Nest::of_unknown("like", "like a*\n", LEVELS),
+        Nest::of_sums("+", "long 1\n+\n", LEVELS),
         Nest::of_value("bound set", "set 1\n", BOUND),
         Nest::of_value("bound record", "record a\n", BOUND),
     ];

@@ -35,13 +35,20 @@ fn show_error(rt: &HostRuntime, text: &str, error: &SyntaxError) -> io::Result<(
     println!(rt; "{}", error.excerpt(text))
 }
 
-/// Shows that depth ends no reading.
+const LEVELS: u32 = 100_000;
+
+/// Shows that depth ends neither reading nor printing.
 pub fn show_deep(rt: &HostRuntime) -> io::Result<()> {
-    let text = nested(rt.alloc(), 20_000)?;
+    let text = nested(rt.alloc(), LEVELS)?;
     match read_expr(rt.alloc(), &text) {
-        Ok(_) => println!(rt; "\n20000 conditionals in one another are read"),
+        Ok(expr) => show_length(rt, &expr),
         Err(error) => println!(rt; "\n{error}"),
     }
+}
+
+fn show_length(rt: &HostRuntime, expr: &Expr) -> io::Result<()> {
+    let length = policy_text(rt.alloc(), expr)?.text.len();
+    println!(rt; "\n{LEVELS} conditionals in one another are read, and printed in {length} bytes")
 }
 
 // Brackets, conditionals and signs, this many of each, in one another.
