@@ -25,10 +25,10 @@ use std::rc::RcStr;
 /// The outcome of an expression, where the unknowns that `values` binds are these values.
 ///
 /// The error is the first call of an extension function, children before parents and each in field
-/// order, or want of memory.
+/// order, or memory ran out.
 pub fn evaluate(
     alloc: Global,
-    expr: &Expr<()>,
+    expr: &Expr,
     values: &HashMap<RcStr, Value<NoExtension>>,
 ) -> Result<Outcome, BuildFault<CallRefused>>
     ensures outcome { Gives meaning_of (λ (refused : CallRefused). bare_name refused.name)

@@ -1,5 +1,5 @@
 //! The scripts of a corpus worked, and compared with their records.
-ghost use Rattle.std.specs.Prelude.{◌≡◌, ◌↔◌, ◌≤◌, IfErr, IfOk, IfSome, IsTrue, OnOk};
+ghost use Rattle.std.specs.Prelude.{◌≡◌, ◌↔◌, ◌<◌, ◌≤◌, IfErr, IfOk, IfSome, IsTrue, OnOk, false};
 ghost use Rattle.std.specs.Io.KnownBytes.{IsAtEnd};
 ghost use Rattle.cedar_likeness.specs.Comparisons.{AreAlike, IsInputFault, status_of};
 
@@ -19,7 +19,10 @@ pub struct Tally {
 impl Tally {
     // One script more.
     fn count(&mut self, alike: bool)
-        ensures { self.old.different ≤ self.old.scripts → self.new.different ≤ self.new.scripts }
+        ensures counts { self.old.different ≤ self.old.scripts
+            → self.new.different ≤ self.new.scripts }
+        ensures alike { IsTrue alike → self.new.different ≡ self.old.different }
+        ensures differs { alike ≡ false → 0 < self.new.different }
     {
         self.scripts = self.scripts.saturating_add(1);
         if !alike {
