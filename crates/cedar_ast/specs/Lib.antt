@@ -12,7 +12,7 @@ pub use Rattle.cedar_builders.specs.Lawful
 pub use Rattle.cedar_builders.specs.Ops
 pub use Rattle.cedar_builders.specs.Trees
 pub use Rattle.cedar_builders.specs.TypeClash
-pub use Rattle.cedar_exprs.specs.BuiltNode
+pub use Rattle.cedar_exprs.specs.MadeNode
 pub use Rattle.cedar_exprs.specs.RecordPairs
 pub use Rattle.cedar_exprs.specs.Refusals
 pub use Rattle.cedar_exprs.specs.RestrictedExprs
@@ -20,11 +20,15 @@ pub use Rattle.cedar_value_trees.specs.BareValue
 pub use Rattle.cedar_value_trees.specs.ValueExpr
 pub use Rattle.cedar_value_trees.specs.ValueOrder
 pub use Rattle.cedar_value_trees.specs.ValueTypes
+pub use Rattle.cedar_values.specs.BareCalls
 pub use Rattle.cedar_values.specs.BareValues
 pub use Rattle.cedar_values.specs.BoundedTexts
 pub use Rattle.cedar_values.specs.Holders
+pub use Rattle.cedar_values.specs.Kinds
 pub use Rattle.cedar_values.specs.LiteralUids
+pub use Rattle.cedar_values.specs.NotReadable
 pub use Rattle.cedar_values.specs.PartialValues
+pub use Rattle.cedar_values.specs.Places
 pub use Rattle.cedar_values.specs.Records
 pub use Rattle.cedar_values.specs.Sets
 pub use Rattle.cedar_values.specs.ValueMaps
@@ -33,8 +37,10 @@ pub use Rattle.cedar_calls.specs.Calls
 pub use Rattle.cedar_calls.specs.Extensions
 pub use Rattle.cedar_calls.specs.Functions
 pub use Rattle.cedar_calls.specs.NamedFunctions
+pub use Rattle.cedar_calls.specs.Objects
 pub use Rattle.cedar_calls.specs.OutputValues
 pub mod Construction
 pub mod Exprs
 pub mod Evaluations
+pub mod FunctionTypes
 pub mod Simplifications

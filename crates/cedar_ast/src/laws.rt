@@ -15,6 +15,7 @@ pub use cedar_terms::laws::{
     equal_operators, equal_terms, hashed_entities, hashed_literals, ordered_entities,
     ordered_operators, pattern_texts_differ,
 };
+pub use cedar_validation::laws::types_of_known;
 pub use cedar_value_trees::laws::{
     expressions_read_back, plain_where_none, reading_gives_one_value, then_is_both_of_values,
     values_are_ordered,

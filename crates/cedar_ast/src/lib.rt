@@ -1,7 +1,7 @@
-//! The term layer of Cedar's policy language in one crate: every item of the libraries below, under
-//! the name that it has in the module `ast` of the crate `cedar-policy-core`.
+//! The term layer of Cedar's policy language in one crate: what the module `ast` of the crate
+//! `cedar-policy-core` has, under its names there.
 //!
-//! The words of contracts stay in the `specs` of the library that defines them.
+//! Its `specs` pass on the words that contracts of users need.
 #![tactic(auto)]
 
 pub mod evaluator;
@@ -15,11 +15,11 @@ pub use cedar_builders::{
     SubstitutionError,
 };
 pub use cedar_calls::{
-    BinaryExtensionFunctionObject, BinaryFunction, EvaluationError, Extension, ExtensionFunction,
-    ExtensionFunctionObject, ExtensionFunctions, ExtensionOutputValue, Extensions, NoFunction,
-    NullaryExtensionFunctionObject, NullaryFunction, TernaryExtensionFunctionObject,
-    TernaryFunction, UnaryExtensionFunctionObject, UnaryFunction, VariadicExtensionFunctionObject,
-    VariadicFunction,
+    BinaryExtensionFunctionObject, BinaryFunction, BoxedFunction, EvaluationError, Extension,
+    ExtensionFunction, ExtensionFunctionObject, ExtensionFunctions, ExtensionOutputValue,
+    Extensions, FunctionBox, NoFunction, NullaryExtensionFunctionObject, NullaryFunction,
+    TernaryExtensionFunctionObject, TernaryFunction, UnaryExtensionFunctionObject, UnaryFunction,
+    VariadicExtensionFunctionObject, VariadicFunction,
 };
 pub use cedar_exprs::{
     CallStyle, Expr, ExprBuilder, ExprIterator, ExprKind, ExprShapeOnly, ExprValidationError,

@@ -249,7 +249,7 @@ impl State {
             ↔ (depth self.old < vec_len keys.entry) }
     {
         let values = self.pop_many(alloc, keys.len())?;
-        self.push(build_record(alloc, keys, values)?)
+        self.push(make_keyed_record(alloc, keys, values)?)
     }
 
     // Takes the top as a value, and binds the name to it.
@@ -462,7 +462,7 @@ fn share_texts(alloc: Global, texts: &[&str]) -> Result<Vec<RcStr>, AllocError>
     Ok(shared)
 }
 
-// Takes the literal out of an expression that is one.
+// Takes the value of an expression of literals, sets and records.
 fn into_value(alloc: Global, expr: Expr) -> Result<Value, Refusal>
     ensures value { IfOk result (λ v.
         IsValueOf ⟦<NoExtension as Ord>⟧.cmp (bare_expr expr) (bare_value v)) }
@@ -471,8 +471,8 @@ fn into_value(alloc: Global, expr: Expr) -> Result<Value, Refusal>
     Ok(Value::try_from_expr(alloc, expr)?)
 }
 
-// Builds the record of keys, each with the value at its index.
-fn build_record(alloc: Global, keys: Vec<&str>, values: Vec<Expr>) -> Result<Expr, Refusal>
+// Makes the record of keys, each with the value at its index.
+fn make_keyed_record(alloc: Global, keys: Vec<&str>, values: Vec<Expr>) -> Result<Expr, Refusal>
     ensures made { IfOk result (λ e. bare_expr e ≡ record_of keys.entry.items values.items) }
     ensures refused { IfErr result (λ e. e ≢ Refusal.TooFewExpressions) }
 {

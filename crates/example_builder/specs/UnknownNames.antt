@@ -5,7 +5,7 @@ use Rattle.std.specs.Rc.{rc_str_bytes}
 use Rattle.cedar_ast.specs.Names.{BareName}
 use Rattle.cedar_ast.specs.BareExpr.{Text}
 use Rattle.cedar_ast.specs.Ops.{Ops}
-use Rattle.example_builder.specs.declared.builder.Names.{Names}
+use Rattle.example_builder.specs.declared.names.Names.{Names}
 
 -- the texts of the names, in order
 abbrev pub texts_of : Names → List Text

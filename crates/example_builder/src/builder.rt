@@ -1,6 +1,6 @@
 //! A builder of the example's own: what it makes of an expression is the list of the names of the
 //! unknowns that stand in it.
-ghost use Rattle.std.specs.Prelude.{◌≡◌, ◌++◌, List, [], map, IfOk, IfErr, Err, None, ⊤, refl};
+ghost use Rattle.std.specs.Prelude.{◌≡◌, List, map, IfOk, IfErr, Err, None, ⊤, refl};
 ghost use Rattle.cedar_ast.specs.Names.{BareName};
 ghost use Rattle.cedar_ast.specs.PlainNames.{bare_name};
 ghost use Rattle.cedar_ast.specs.Answers.{Gives};
@@ -10,6 +10,7 @@ ghost use Rattle.cedar_ast.specs.Keys.{keys_of, meant_pairs, IsRising, HasRepeat
 ghost use Rattle.cedar_ast.specs.Construction as error;
 ghost use Rattle.example_builder.specs.UnknownNames.{texts_of, unknown_names_ops};
 
+use crate::names::{CallRefused, Names};
 use cedar_ast::expr_builder::ExprBuilder;
 use cedar_ast::{
     BinaryOp, BuildFault, EntityType, ExpressionConstructionError, LawfulExprBuilder, Literal, Loc,
@@ -17,39 +18,6 @@ use cedar_ast::{
 };
 use std::alloc::{AllocError, Global};
 use std::rc::RcStr;
-
-/// Names of unknowns, in the order in which they stand. A name that stands twice is there twice.
-#[derive(Debug, Drop)]
-pub struct Names {
-    /// The names.
-    pub names: Vec<RcStr>,
-}
-
-impl Names {
-    // No name.
-    fn none(alloc: Global) -> Names
-        ensures { texts_of result ≡ [] }
-    {
-        Names {
-            names: Vec::new(alloc),
-        }
-    }
-
-    // These names and then the others.
-    fn join(mut self, mut others: Names) -> Result<Names, AllocError>
-        ensures { IfOk result (λ found. texts_of found ≡ texts_of self ++ texts_of others) }
-    {
-        self.names.append(&mut others.names)?;
-        Ok(self)
-    }
-}
-
-/// Why an expression has no list of names: it calls this function.
-#[derive(Debug, Drop)]
-pub struct CallRefused {
-    /// The name of the function that is called.
-    pub fn_name: Name,
-}
 
 /// The builder: of `x < 2 && y == x` it makes the names `x`, `y`, `x`.
 #[derive(Debug, Drop)]

@@ -2,6 +2,7 @@
 #![tactic(auto)]
 
 mod builder;
+mod names;
 
 ghost use Rattle.cedar_ast.specs.PlainNames.{bare_name};
 ghost use Rattle.cedar_ast.specs.Literals.{bare_literal};
@@ -13,7 +14,8 @@ ghost use Rattle.cedar_ast.specs.Exprs.{bare_expr};
 ghost use Rattle.cedar_ast.specs.RestrictedExprs.{env_of};
 ghost use Rattle.example_builder.specs.UnknownNames.{texts_of, unknown_names_ops};
 
-use crate::builder::{CallRefused, Names, UnknownNames};
+use crate::builder::UnknownNames;
+use crate::names::{CallRefused, Names};
 use cedar_ast::{BuildFault, Expr, Literal, Unknown};
 use std::alloc::{AllocError, Global};
 use std::collections::HashMap;
