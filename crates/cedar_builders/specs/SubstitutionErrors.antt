@@ -10,7 +10,7 @@ abbrev pub types_of : SubstitutionError → Option TwoTypes
 types_of (TypeError expected actual) = Some (bare_type expected, bare_type actual)
 types_of Memory = None
 
--- the error names the types that were found to differ, or it is want of memory
+-- the error names the types that were found to differ, or memory ran out
 abbrev pub IsClashError : Option TwoTypes → SubstitutionError → Type 0
 IsClashError found (TypeError expected actual) = found ≡ Some (bare_type expected, bare_type actual)
 IsClashError found Memory = ⊤

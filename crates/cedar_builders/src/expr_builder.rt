@@ -28,7 +28,7 @@ use std::fmt;
 use std::rc::RcStr;
 use thiserror::Error;
 
-/// Why an expression was not built: the builder's own error, or want of memory.
+/// Why an expression was not built: the builder's own error, or memory ran out.
 ///
 /// Its text is that of the builder's own error, or `no memory`.
 #[derive(Debug, Drop, Error)]

@@ -17,7 +17,7 @@ use Rattle.cedar_tokens.specs.declared.token.Span.{Span}
 use Rattle.cedar_tokens.specs.declared.token.Token.{Token}
 use Rattle.cedar_tokens.specs.declared.tokens.Tokens.{Tokens}
 
--- the refusal is about this piece; want of memory is about none
+-- the refusal is about this piece; that memory ran out is about none
 abbrev pub IsAbout : Span → Refusal → Type 0
 IsAbout span (refusal.Syntax s problem) = s ≡ span
 IsAbout span refusal.Memory = ⊤
@@ -34,7 +34,7 @@ pub record IsPieceIn (text : List ℕ) (e : SyntaxError) : Type 0 where
   pub line : IsCharBoundary text e.start → e.line ≡ line_at text e.start
   pub column : IsCharBoundary text e.start → e.column ≡ column_at text e.start
 
--- the error tells of a piece of the text; want of memory tells of none
+-- the error tells of a piece of the text; that memory ran out tells of none
 abbrev pub IsToldIn : List ℕ → ReadError → Type 0
 IsToldIn text (told.Syntax e) = IsPieceIn text e
 IsToldIn text told.Memory = ⊤

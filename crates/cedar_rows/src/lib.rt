@@ -31,7 +31,7 @@ impl From<AllocError> for RowFault {
 /// Reads rows to the end, and writes a line for each: the row itself where it is empty or a heading
 /// (`#` in front), else its answer.
 ///
-/// Where a row meets want of memory, it is answered again, and the answer stands behind
+/// Where memory runs out in a row, it is answered again, and the answer stands behind
 /// `refused, then `. What is no call gives `?? ROW`, answers that have to agree and do not give
 /// `!! WHAT: ROW`.
 pub fn run<R: Read, W: Write>(

@@ -11,7 +11,7 @@ use crate::refusal::Refusal;
 use crate::token::Token;
 use cedar_terms::PatternElem;
 
-/// A text is cut into tokens in one way, and one that is cut so is refused only for want of memory.
+/// A text is cut into tokens in one way only. If it can be cut, only want of memory refuses it.
 pub fn tokens_are_unique()
     ensures same { (text : List ℕ) (ts us : List Token) →
         AreTokens text ts → AreTokens text us → AreSame ts us }

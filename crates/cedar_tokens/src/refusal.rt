@@ -9,7 +9,7 @@ use cedar_builders::BuildFault;
 use std::alloc::{AllocError, AllocFailed};
 use std::convert::Infallible;
 
-/// Why the reader stops: a problem with a piece of the text, or want of memory.
+/// Why the reader stops: a problem with a piece of the text, or memory ran out.
 #[derive(Debug, Drop)]
 pub enum Refusal {
     Syntax(Span, &'static str),

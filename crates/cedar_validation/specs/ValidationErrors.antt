@@ -20,7 +20,7 @@ fault_place (UnknownFunction name) = name_place name
 fault_place (MissingReceiver name) = name_place name
 fault_place e = None
 
--- the error names the fault that was found, or it is want of memory
+-- the error names the fault that was found, or memory ran out
 abbrev pub IsErrorOf : Option Fault → ExprValidationError → Type 0
 IsErrorOf found (UnknownFunction name) = found ≡ Some (unknown_function (bare_name name))
 IsErrorOf found (MissingReceiver name) = found ≡ Some (missing_receiver (bare_name name))

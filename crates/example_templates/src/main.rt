@@ -139,9 +139,9 @@ fn user_uid(alloc: Global, name: &str) -> Result<Literal, AllocError> {
 
 /// The template with each unknown that `values` binds replaced by its value. The slots stay.
 ///
-/// The contract is that of `substitute_typed` at literals. It says what is made, and that want of
-/// memory aside a template is refused exactly where a value has another type than its unknown is
-/// annotated with: the error names the two types.
+/// The contract is that of `substitute_typed` at literals. It says what is made, and that, unless
+/// memory runs out, a template is refused exactly where a value has another type than its unknown
+/// is annotated with: the error names the two types.
 fn fill(
     alloc: Global,
     template: &Expr,
