@@ -58,7 +58,11 @@ fn unevaluated(alloc: Global, node: &Expr) -> Result<usize, AllocError> {
 }
 
 fn size(alloc: Global, expr: &Expr) -> Result<usize, AllocError> {
-    Ok(expr.subexpressions(alloc)?.count())
+    let mut size: usize = 0;
+    for _node in expr.subexpressions(alloc)? {
+        size = size.saturating_add(1);
+    }
+    Ok(size)
 }
 
 fn is_boolean(expr: &Expr) -> bool {
