@@ -57,7 +57,7 @@ problem_of text =
 abbrev pub IsUnread : ℕ → List ℕ → Refusal → Type 0
 IsUnread at text e = HasNoToken text × IsToldAt at text (problem_of text) e
 
--- behind tokens and blanks something is left with which no token begins; that memory ran out says nothing
+-- behind tokens and blanks something is left with which no token begins, or memory ran out
 abbrev pub IsStuckIn : List ℕ → Refusal → Type 0
 IsStuckIn text (refusal.Syntax span problem) =
     (ts : List Token) × (rest : List ℕ) × AreTokensBefore 0 text ts rest × (0 < length rest) × HasNoBlank rest

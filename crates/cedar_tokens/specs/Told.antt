@@ -17,7 +17,7 @@ pub record IsProblemAt (text : List ℕ) (span : Span) (told : List ℕ) (e : Sy
   pub line : IsCharBoundary text span.start → e.line ≡ line_at text span.start
   pub column : IsCharBoundary text span.start → e.column ≡ column_at text span.start
 
--- a problem is told with its place, and that memory ran out as such
+-- a problem is told with its place, and if memory ran out, that is told
 abbrev pub IsToldOf : Refusal → List ℕ → ReadError → Type 0
 IsToldOf (refusal.Syntax span problem) text (told.Syntax e) = IsProblemAt text span problem.now e
 IsToldOf refusal.Memory text told.Memory = ⊤

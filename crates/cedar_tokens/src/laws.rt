@@ -11,7 +11,8 @@ use crate::refusal::Refusal;
 use crate::token::Token;
 use cedar_terms::PatternElem;
 
-/// A text is cut into tokens in one way only. If it can be cut, only want of memory refuses it.
+/// A text is cut into tokens in one way only. If it can be cut, it is refused only when memory runs
+/// out.
 pub fn tokens_are_unique()
     ensures same { (text : List ℕ) (ts us : List Token) →
         AreTokens text ts → AreTokens text us → AreSame ts us }
