@@ -58,7 +58,8 @@ fn is_all_digits(text: &str) -> bool {
     !text.is_empty() && text.bytes().all(|byte| byte.is_ascii_digit())
 }
 
-/// The name that is no more than one identifier.
+/// The name that is no more than one identifier, as each text is that is handed on here. Any other
+/// would be refused as if memory had run out.
 pub fn name(alloc: Global, text: &str) -> Result<Name, AllocError>
     ensures { IfOk result (λ n. bare_name n ≡ unqualified text.now) }
 {
