@@ -7,6 +7,7 @@ pub mod MadeNode
 pub mod RecordPairs
 pub mod Walks
 pub mod Children
+pub mod FirstNodes
 pub mod NotRestricted
 pub mod RestrictedExprs
 pub mod Refusals

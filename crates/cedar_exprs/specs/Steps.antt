@@ -1,13 +1,14 @@
 -- Steps of a drop, by the nodes that they leave.
-use Rattle.std.specs.Prelude.{◌≡◌, ℕ, ◌+◌, ◌<◌, ◌≤◌, suc, ⊤, Bool, true, false, List, [], ◌∷◌, Option, Some, None, IfSome, Result, Ok, Err}
+use Rattle.std.specs.Prelude.{ℕ, ◌+◌, ◌<◌, ◌≤◌, suc, ⊤, Bool, true, false, List, Option, Some, None, IfSome}
+use Rattle.std.proofs.Common.{arith}
 use Rattle.std.specs.Global.{Global}
 use Rattle.std.specs.declared.rc.Rc.{Rc}
 use Rattle.std.specs.declared.rc.RcStr.{RcStr}
-use Rattle.cedar_builders.specs.Count.{count}
+use Rattle.cedar_builders.specs.Count.{count, count_is}
+use Rattle.dropped_rows.specs.Rows as rows
 use Rattle.cedar_exprs.specs.BareExpr.{ExprKind, bare_expr, bare_expr_kind}
 use Rattle.cedar_exprs.specs.declared.expr.Expr.{Expr}
 use Rattle.cedar_exprs.specs.declared.below.Below.{Below}
-use Rattle.cedar_exprs.specs.declared.row_items.Item.{Item}
 use Rattle.cedar_exprs.specs.declared.expr.KindOf.{KindOf}
 use Rattle.cedar_exprs.specs.declared.dropping.Left.{Left}
 use Rattle.cedar_exprs.specs.declared.dropping.Step.{Step}
@@ -25,12 +26,10 @@ if_node None = 0
 if_node (Some e) = nodes e.value
 
 abbrev pub row_nodes : {T : Type 0} → List (Expr T) → ℕ
-row_nodes [] = 0
-row_nodes (e ∷ es) = nodes e + row_nodes es
+row_nodes = rows.row_nodes nodes
 
 abbrev pub field_nodes : {T : Type 0} → List (RcStr Global × Expr T) → ℕ
-field_nodes [] = 0
-field_nodes (e ∷ es) = nodes e.1 + field_nodes es
+field_nodes = rows.pair_nodes nodes
 
 -- the nodes of a node with this below it
 abbrev pub below_nodes : {T : Type 0} → Below T → ℕ
@@ -42,8 +41,11 @@ below_nodes (Below.Row es) = suc (row_nodes es.value.items)
 below_nodes (Below.Fields es) = suc (field_nodes es.value.entries)
 
 abbrev pub if_row : {T : Type 0} → Option (Below T) → ℕ
-if_row None = 0
-if_row (Some b) = below_nodes b
+if_row = rows.waiting_nodes below_nodes
+
+-- an expression has a node
+pub has_nodes : {T : Type 0} (e : Expr T) → 0 < nodes e
+has_nodes e = let is = count_is (bare_expr e) in omega (arith, is)
 
 -- whether nothing stands below a node of this kind
 abbrev pub is_leaf : {E : Type 0} → KindOf E → Bool
@@ -52,17 +54,6 @@ is_leaf (KindOf.Var v) = true
 is_leaf (KindOf.Slot s) = true
 is_leaf (KindOf.Unknown u) = true
 is_leaf _ = false
-
--- from a row of m nodes, beside w that wait, to one of n: as many nodes and a part of the row, or fewer nodes
-abbrev pub IsItem : {T : Type 0} → ℕ → ℕ → ℕ → Item T → Type 0
-IsItem m w n (Item.Of b) = (below_nodes b ≤ m) × (below_nodes b + n ≤ m + w)
-IsItem m w n (Item.After b) = below_nodes b + n < m + w
-IsItem m w n (Item.None rows) = if_row rows + n ≤ m + w
-
--- from a row of m nodes to one of n, into which w were put: the kind whose place they took, or they themselves
-abbrev pub IsPut : {T : Type 0} → ℕ → ℕ → ℕ → Result (ExprKind T) (Below T) → Type 0
-IsPut m w n (Ok old) = (kind_nodes old ≤ m) × (kind_nodes old + n ≡ m + w)
-IsPut m w n (Err next) = (below_nodes next ≡ w) × (n ≡ m)
 
 -- the nodes of all that is left
 abbrev pub all_nodes : {T : Type 0} → Left T → ℕ

@@ -1,10 +1,11 @@
 //! What stands below a node that a drop is done with.
-ghost use Rattle.std.specs.Prelude.{◌≡◌, IsTrue};
-ghost use Rattle.cedar_exprs.specs.Steps.{below_nodes, is_leaf, kind_nodes};
+ghost use Rattle.std.specs.Prelude.{◌≡◌, IfSome, IsTrue};
+ghost use Rattle.cedar_exprs.specs.Steps.{below_nodes, is_leaf, kind_nodes, nodes};
 
 use crate::expr::{Expr, ExprKind};
 use cedar_terms::{UnaryOp, Var};
 use std::collections::BTreeMap;
+use std::mem;
 use std::rc::{Rc, RcStr};
 
 // What stands below a node that is done with.
@@ -15,6 +16,34 @@ pub(crate) enum Below<T> {
     Three(Rc<Expr<T>>, Rc<Expr<T>>, Rc<Expr<T>>),
     Row(Rc<Vec<Expr<T>>>),
     Fields(Rc<BTreeMap<RcStr, Expr<T>>>),
+}
+
+impl<T: Drop> Expr<T> {
+    // What stands below the expression. A leaf is dropped, and gives none.
+    #[inline(always)]
+    pub(crate) fn into_below(self) -> Option<Below<T>>
+        ensures { IfSome result (λ below. below_nodes below ≡ nodes self) }
+    {
+        if self.is_leaf() {
+            drop_leaf(self.into_parts().0);
+            None
+        } else {
+            Some(strip(self.into_parts().0))
+        }
+    }
+
+    // Puts something else below the node, and gives what stood there. Where it was a leaf, that is
+    // dropped and gives none.
+    #[inline(always)]
+    pub(crate) fn replace_below(&mut self, below: Below<T>) -> Option<Below<T>>
+        ensures put { nodes self.new ≡ below_nodes below }
+        ensures taken { IfSome result (λ old. below_nodes old ≡ nodes self.old) }
+    {
+        match strip(mem::replace(&mut self.expr_kind, kind_over(below))) {
+            Below::Nothing => None,
+            old => Some(old),
+        }
+    }
 }
 
 // Drops all of a kind but what stands below it.

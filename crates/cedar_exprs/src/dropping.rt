@@ -14,8 +14,9 @@ ghost use Rattle.cedar_exprs.specs.Steps.{
 
 use crate::below::{Below, drop_leaf, strip};
 use crate::expr::{Expr, ExprKind};
-use crate::row_items::{Item, last_branch, last_branch_value, take_item, take_value};
+use crate::row_items::{last_branch, last_branch_value, take_item, take_value};
 use cedar_terms::UnaryOp;
+use dropped_rows::Taken;
 use std::collections::BTreeMap;
 use std::mem;
 use std::rc::{Rc, RcStr};
@@ -289,17 +290,17 @@ fn open_row<T: Drop>(
     let mut row = row;
     match Rc::get_mut(&mut row) {
         Some(items) => match take_item(items, rows) {
-            Item::Of(below) => Step::Into(Left {
+            Taken::Below(below) => Step::Into(Left {
                 below,
                 waiting,
                 rows: Some(Below::Row(row)),
             }),
-            Item::After(below) => Step::On(Left {
+            Taken::AfterLeaf(below) => Step::On(Left {
                 below,
                 waiting,
                 rows: Some(Below::Row(row)),
             }),
-            Item::None(rows) => Step::Row(row, go_on(waiting, rows)),
+            Taken::Nothing(rows) => Step::Row(row, go_on(waiting, rows)),
         },
         None => Step::Row(row, go_on(waiting, rows)),
     }
@@ -339,17 +340,17 @@ fn open_fields<T: Drop>(
     let mut fields = fields;
     match Rc::get_mut(&mut fields) {
         Some(pairs) => match take_value(pairs, rows) {
-            Item::Of(below) => Step::Into(Left {
+            Taken::Below(below) => Step::Into(Left {
                 below,
                 waiting,
                 rows: Some(Below::Fields(fields)),
             }),
-            Item::After(below) => Step::On(Left {
+            Taken::AfterLeaf(below) => Step::On(Left {
                 below,
                 waiting,
                 rows: Some(Below::Fields(fields)),
             }),
-            Item::None(rows) => Step::Fields(fields, go_on(waiting, rows)),
+            Taken::Nothing(rows) => Step::Fields(fields, go_on(waiting, rows)),
         },
         None => Step::Fields(fields, go_on(waiting, rows)),
     }

@@ -1,53 +1,33 @@
 -- The first node that is no literal, set or record, from a node to its children.
-use Rattle.std.proofs.Common.{◌≡◌, List, [], ◌∷◌, map, Bool, true, false, not, ◌&&◌, if◌then◌else◌, Option, Some, None, option_map, refl, sym, ap, ◌∙◌, subst, Global, BTreeMap, Vec, Result, Ok, Err}
-use Rattle.std.specs.List.{find, list_all}
+use Rattle.std.proofs.Common.{◌≡◌, List, ◌∷◌, map, true, false, Option, Some, None, option_map, refl, sym, ap, ◌∙◌, subst, Global, BTreeMap, Vec, Result, Ok, Err}
 use Rattle.std.specs.Option.{option_or, is_none}
 use Rattle.std.specs.Result.{MatchResult}
 use Rattle.std.specs.declared.rc.Rc.{Rc}
 use Rattle.std.specs.declared.rc.RcStr.{RcStr}
-use Rattle.std.proofs.lemmas.List.Folds.{find-append, list_all-map}
 use Rattle.cedar_names.specs.Place.{Place}
-use Rattle.cedar_builders.specs.Walks as bare
-use Rattle.cedar_builders.specs.Walks.{forward}
 use Rattle.cedar_exprs.specs.BareExpr.{ExprKind, bare_expr, expr_place, kind_of}
-use Rattle.cedar_exprs.specs.Walks.{kind_children, children, preorder}
+use Rattle.cedar_exprs.specs.FirstNodes.{InPreorder, at_node, decided, split}
+use Rattle.cedar_exprs.specs.Walks.{kind_children}
 use Rattle.cedar_exprs.specs.declared.expr.Expr.{Expr}
 use Rattle.cedar_exprs.specs.declared.expr.KindOf.TheVariants.{Set, Record}
 use Rattle.cedar_value_trees.specs.Reading.{is_readable_node, is_readable}
-use Rattle.cedar_values.specs.NotReadable.{is_not_readable, first_not_readable, first_not_readable_of, IsNotValueAt, IsAnswerWhere}
+use Rattle.cedar_values.specs.NotReadable.{first_not_readable, first_not_readable_of, IsNotValueAt, IsAnswerWhere}
 use Rattle.cedar_values.specs.declared.not_value.NotValue.{NotValue}
 use Rattle.cedar_values.specs.declared.not_value.NotValue.TheVariants as error
 use Rattle.cedar_values.proofs.ExprLevels.{bare_at_set, bare_at_record}
-
--- none is found exactly where all pass
-none_found : {A : Type 0} (p : A → Bool) (xs : List A) → is_none (find (λ x. not (p x)) xs) ≡ list_all p xs
-none_found p [] = refl
-none_found p (x ∷ xs) = go (p x) (none_found p xs)
-  where
-    go : (b : Bool) → is_none (find (λ x. not (p x)) xs) ≡ list_all p xs → is_none (if not b then Some x else find (λ x. not (p x)) xs) ≡ (b && list_all p xs)
-    go true h = h
-    go false h = refl
 
 is_none_is : {A : Type 0} (r : Option A) → is_none r ≡ true → r ≡ None
 is_none_is None h = refl
 is_none_is (Some x) h = cc
 
--- what is known of the nodes in preorder
-pub record InPreorder (T : Type 0) : Type 0 where
-  pub order : (e : Expr T) → preorder e ≡ e ∷ forward (map preorder (children e))
-  pub trees : (e : Expr T) → map bare_expr (preorder e) ≡ bare.preorder (bare_expr e)
-
 module _ {T : Type 0} (o : InPreorder T) where
-  at_node : (b : Bool) (e : Expr T) → is_readable_node (bare_expr e) ≡ b → first_not_readable e ≡ (if not b then Some e else first_not_readable_of (children e))
-  at_node b e h = ap (find is_not_readable) (o.order e) ∙ rw h refl
-
   -- a node of another kind is the first itself
   pub other : (e : Expr T) (loc : Option Place) → is_readable_node (bare_expr e) ≡ false → loc ≡ expr_place e → option_map expr_place (first_not_readable e) ≡ Some loc
-  other e loc h is = ap (option_map expr_place) (at_node false e h) ∙ ap Some (sym is)
+  other e loc h is = ap (option_map expr_place) (at_node o is_readable_node false e h) ∙ ap Some (sym is)
 
   -- a set and a record have the first of what is in them
   below : (e : Expr T) (k : ExprKind T) → kind_of e ≡ k → is_readable_node (bare_expr e) ≡ true → first_not_readable_of (kind_children k) ≡ first_not_readable e
-  below e k is h = sym (at_node true e h ∙ ap (λ k. first_not_readable_of (kind_children k)) is)
+  below e k is h = sym (at_node o is_readable_node true e h ∙ ap (λ k. first_not_readable_of (kind_children k)) is)
 
   pub passes_set : (e : Expr T) (es : Rc (Vec (Expr T) Global) Global) (v : Vec (Expr T) Global) → kind_of e ≡ Set es → v ≡ es.value → first_not_readable_of v.items ≡ first_not_readable e
   passes_set e es v is at =
@@ -59,18 +39,15 @@ module _ {T : Type 0} (o : InPreorder T) where
       ∙ below e (Record es) is (ap is_readable_node (bare_at_record e es is))
 
   -- no such node is found just in readable expressions
-  decided : (e : Expr T) → is_none (first_not_readable e) ≡ is_readable (bare_expr e)
-  decided e =
-      none_found (λ (d : Expr T). is_readable_node (bare_expr d)) (preorder e)
-      ∙ sym (list_all-map is_readable_node bare_expr (preorder e))
-      ∙ ap (list_all is_readable_node) (o.trees e)
+  all_pass : (e : Expr T) → is_none (first_not_readable e) ≡ is_readable (bare_expr e)
+  all_pass = decided o is_readable_node
 
   pub none_in_readable : (e : Expr T) → is_readable (bare_expr e) ≡ true → first_not_readable e ≡ None
-  none_in_readable e h = is_none_is _ (decided e ∙ h)
+  none_in_readable e h = is_none_is _ (all_pass e ∙ h)
 
   found_none : (e : Expr T) (r : Option (Expr T)) (loc : Option Place) → first_not_readable e ≡ r → option_map expr_place r ≡ Some loc → is_readable (bare_expr e) ≡ false
   found_none e None loc is h = cc
-  found_none e (Some x) loc is h = sym (decided e) ∙ ap is_none is
+  found_none e (Some x) loc is h = sym (all_pass e) ∙ ap is_none is
 
   -- an answer comes just of readable expressions
   pub answered : {A : Type 0} (e : Expr T) (P : A → Type 0) → ((a : A) → P a → is_readable (bare_expr e) ≡ true) → (r : Result A NotValue) → MatchResult r P (IsNotValueAt (first_not_readable e)) → IsAnswerWhere (is_readable (bare_expr e)) r
@@ -87,16 +64,7 @@ refused_first : {T : Type 0} (r s : Option (Expr T)) (d : NotValue) → IsNotVal
 refused_first r s (error.NotValue loc) h = place_of_first r s loc h
 refused_first r s error.Memory h = tt
 
-first_of_all : {T : Type 0} (e : Expr T) (es : List (Expr T)) → first_not_readable_of (e ∷ es) ≡ option_or (first_not_readable e) (first_not_readable_of es)
-first_of_all e es = find-append is_not_readable (preorder e) (forward (map preorder es))
-
 -- one turn: what is left begins with an expression
 module _ {T : Type 0} (all : List (Expr T)) (e : Expr T) (es : List (Expr T)) (w : Option (Expr T)) (steps : all ≡ e ∷ es) (left : first_not_readable_of all ≡ w) where
-  split : option_or (first_not_readable e) (first_not_readable_of es) ≡ w
-  split = sym (ap first_not_readable_of steps ∙ first_of_all e es) ∙ left
-
   pub refused : (d : NotValue) → IsNotValueAt (first_not_readable e) d → IsNotValueAt w d
-  refused d h = subst (λ r. IsNotValueAt r d) split (refused_first _ _ d h)
-
-  pub passed : first_not_readable e ≡ None → first_not_readable_of es ≡ w
-  passed h = ap (λ r. option_or r (first_not_readable_of es)) (sym h) ∙ split
+  refused d h = subst (λ r. IsNotValueAt r d) (split is_readable_node e all es w steps left) (refused_first _ _ d h)

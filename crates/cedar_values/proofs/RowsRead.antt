@@ -13,11 +13,12 @@ use Rattle.sorted_slices.specs.Classes.{IsClassesOf}
 use Rattle.cedar_builders.specs.BareExpr.{BareExpr, Set, Record, trees_of}
 use Rattle.cedar_builders.specs.Count.{count, total, count_is}
 use Rattle.cedar_builders.specs.Walks as bare
+use Rattle.cedar_exprs.specs.FirstNodes.{InPreorder, passed}
 use Rattle.cedar_exprs.specs.BareExpr.{bare_expr, bare_exprs, bare_fields, kind_of}
 use Rattle.cedar_exprs.specs.declared.expr.Expr.{Expr}
 use Rattle.cedar_exprs.specs.declared.expr.KindOf.TheVariants as Kind
 use Rattle.cedar_value_trees.specs.BareValue.{BareValue}
-use Rattle.cedar_value_trees.specs.Reading.{IsValueOf, AreValuesOf, ArePairsOf, is_readable}
+use Rattle.cedar_value_trees.specs.Reading.{IsValueOf, AreValuesOf, ArePairsOf, is_readable, is_readable_node}
 use Rattle.cedar_value_trees.specs.ValueOrder.{value_cmp}
 use Rattle.cedar_values.specs.BareValues as values
 use Rattle.cedar_values.specs.BareValues.{bare_value, bare_value_kind}
@@ -40,7 +41,7 @@ use Rattle.cedar_values.specs.declared.value.ValueKind.{ValueKind}
 use Rattle.cedar_values.specs.declared.value.ValueKind.TheVariants as ValueOf
 use Rattle.cedar_values.proofs.Entries.{above}
 use Rattle.cedar_values.proofs.ExprLevels.{bare_at_record, bare_at_set}
-use Rattle.cedar_values.proofs.FirstFault.{InPreorder, none_in_readable, passed, passes_record, passes_set, refused}
+use Rattle.cedar_values.proofs.FirstFault.{none_in_readable, passes_record, passes_set, refused}
 use Rattle.cedar_values.proofs.Levels.{value_tree}
 use Rattle.cedar_values.proofs.Readings.{are_pairs, are_values, one_more_kept, same_texts, set_read, record_read, zip_push}
 use denote.Ref.{Bor}
@@ -186,7 +187,7 @@ module _ {X : Type 0} (R : X → X → Ordering) where
     past [] vs d left h k = refused (d ∷ left) d left _ refl refl x k
     past (s ∷ seen) [] d left h k = absurd h
     past (s ∷ seen) (v ∷ vs) d left h k =
-        subst (λ w. IsNotValueAt w x) (passed (s ∷ seen ++ d ∷ left) s (seen ++ d ∷ left) _ refl refl (none_in_readable o s (readable (bare_expr s) (bare_value v) h.0))) (past seen vs d left h.1 k)
+        subst (λ w. IsNotValueAt w x) (passed is_readable_node s (s ∷ seen ++ d ∷ left) (seen ++ d ∷ left) _ refl refl (sym (none_in_readable o s (readable (bare_expr s) (bare_value v) h.0)))) (past seen vs d left h.1 k)
 
     values_read : (seen : List (RcStr Global × Expr Unit)) (vs : List (RcStr Global × Value X)) → AllZip (IsReadPair R) seen vs → AllZip (IsRead R) (map (λ e. e.1) seen) (map (λ v. v.1) vs)
     values_read [] [] h = tt

@@ -1,25 +1,19 @@
 -- The first node that is no literal, set or record (`NotValue` of Cedar's `value.rs`).
-use Rattle.std.specs.Prelude.{◌≡◌, ⊤, Bool, true, false, not, List, map, Option, Some, option_map, Result, Ok, Err}
-use Rattle.std.specs.List.{find}
-use Rattle.cedar_builders.specs.Walks.{forward}
-use Rattle.cedar_exprs.specs.BareExpr.{bare_expr, expr_place}
-use Rattle.cedar_exprs.specs.Walks.{preorder}
+use Rattle.std.specs.Prelude.{◌≡◌, ⊤, Bool, true, false, List, Option, Some, option_map, Result, Ok, Err}
+use Rattle.cedar_exprs.specs.BareExpr.{expr_place}
+use Rattle.cedar_exprs.specs.FirstNodes.{first_failing, first_failing_of}
 use Rattle.cedar_exprs.specs.declared.expr.Expr.{Expr}
 use Rattle.cedar_value_trees.specs.Reading.{is_readable_node}
 use Rattle.cedar_values.specs.declared.not_value.NotValue.{NotValue}
 use Rattle.cedar_values.specs.declared.not_value.NotValue.TheVariants as error
 
--- whether the outermost node is of another kind
-abbrev pub is_not_readable : {T : Type 0} → Expr T → Bool
-is_not_readable e = not (is_readable_node (bare_expr e))
-
 -- the first such node in preorder
 abbrev pub first_not_readable : {T : Type 0} → Expr T → Option (Expr T)
-first_not_readable e = find is_not_readable (preorder e)
+first_not_readable = first_failing is_readable_node
 
 -- the same in a list of expressions
 abbrev pub first_not_readable_of : {T : Type 0} → List (Expr T) → Option (Expr T)
-first_not_readable_of es = find is_not_readable (forward (map preorder es))
+first_not_readable_of = first_failing_of is_readable_node
 
 -- the refusal has the place of the node that was found, or memory ran out
 abbrev pub IsNotValueAt : {T : Type 0} → Option (Expr T) → NotValue → Type 0

@@ -1,23 +1,28 @@
 //! How a value is dropped.
 ghost use Rattle.std.specs.Prelude.{◌≡◌, ℕ, ◌+◌, ◌<◌, ◌≤◌, suc, IfSome};
-ghost use Rattle.cedar_values.specs.Counts.{entry_nodes, kind_nodes, nodes_of};
-ghost use Rattle.cedar_values.specs.Drops.{IsItem, IsStep, all_nodes, waiting_nodes};
-
-use crate::row_items::{
-    Item, drop_leaf, is_leaf, last_branch, last_branch_value, take_member, take_value,
+ghost use Rattle.dropped_rows.specs.Rows.{IsTaken};
+ghost use Rattle.cedar_values.specs.Counts.{kind_nodes};
+ghost use Rattle.cedar_values.specs.Drops.{
+  IsStep,
+  all_nodes,
+  entry_nodes,
+  row_nodes,
+  value_nodes,
+  waiting_nodes,
 };
+
+use crate::row_items::{last_branch, last_branch_value, take_member, take_value};
 use crate::set::Set;
 use crate::value::{Value, ValueKind};
+use dropped_rows::Taken;
 use std::collections::BTreeMap;
 use std::rc::{Rc, RcStr};
 
 // Drops a kind with all that it alone owns.
 #[cycle(dropped)]
 pub(crate) fn drop_kind<X: Drop>(kind: ValueKind<X>) {
-    if is_leaf(&kind) {
-        drop_leaf(kind);
-    } else {
-        drop_branch(kind);
+    if let Some(branch) = unless_leaf(kind) {
+        drop_branch(branch);
     }
 }
 
@@ -118,8 +123,8 @@ fn only<X>(kind: ValueKind<X>) -> Left<X>
 // Into a member of a set, whose row then waits.
 #[inline(never)]
 fn open_members<X: Drop>(row: Rc<Vec<Value<X>>>, waiting: Option<ValueKind<X>>) -> Step<X>
-    ensures { IsStep (suc (nodes_of row.value.items))
-        (suc (nodes_of row.value.items) + waiting_nodes waiting) result }
+    ensures { IsStep (suc (row_nodes row.value.items))
+        (suc (row_nodes row.value.items) + waiting_nodes waiting) result }
 {
     let mut row = row;
     match Rc::get_mut(&mut row) {
@@ -127,7 +132,7 @@ fn open_members<X: Drop>(row: Rc<Vec<Value<X>>>, waiting: Option<ValueKind<X>>) 
             take_member(members, waiting),
             ValueKind::Set(Set::of_row(row)),
         ),
-        None => opened(Item::None(waiting), ValueKind::Set(Set::of_row(row))),
+        None => opened(Taken::Nothing(waiting), ValueKind::Set(Set::of_row(row))),
     }
 }
 
@@ -140,31 +145,31 @@ fn open_pairs<X: Drop>(row: Rc<BTreeMap<RcStr, Value<X>>>, waiting: Option<Value
     let mut row = row;
     match Rc::get_mut(&mut row) {
         Some(pairs) => opened(take_value(pairs, waiting), ValueKind::Record(row)),
-        None => opened(Item::None(waiting), ValueKind::Record(row)),
+        None => opened(Taken::Nothing(waiting), ValueKind::Record(row)),
     }
 }
 
 // Into an item that was taken out of a row, which then waits.
-fn opened<X: Drop>(item: Item<X>, row: ValueKind<X>) -> Step<X>
-    ensures { (m w n : ℕ) → IsItem m w n item → kind_nodes row ≡ suc n
+fn opened<X: Drop>(item: Taken<ValueKind<X>>, row: ValueKind<X>) -> Step<X>
+    ensures { (m w n : ℕ) → IsTaken kind_nodes m w n item → kind_nodes row ≡ suc n
         → IsStep (suc m) (suc m + w) result }
 {
     match item {
-        Item::Of(kind) => Step::Into(Left {
+        Taken::Below(kind) => Step::Into(Left {
             kind,
             waiting: Some(row),
         }),
-        Item::After(kind) => Step::On(Left {
+        Taken::AfterLeaf(kind) => Step::On(Left {
             kind,
             waiting: Some(row),
         }),
-        Item::None(waiting) => Step::Row(row, go_on(waiting)),
+        Taken::Nothing(waiting) => Step::Row(row, go_on(waiting)),
     }
 }
 
 // The last member of a row that waits, but for leaves.
 fn resume_members<X: Drop>(row: Rc<Vec<Value<X>>>) -> Left<X>
-    ensures { all_nodes result ≤ suc (nodes_of row.value.items) }
+    ensures { all_nodes result ≤ suc (row_nodes row.value.items) }
 {
     let mut row = row;
     match Rc::get_mut(&mut row) {
@@ -242,5 +247,42 @@ fn drop_pairs<X: Drop>(row: Rc<BTreeMap<RcStr, Value<X>>>) {
             drop_kind(item.into_kind());
         }
         row.destroy_empty();
+    }
+}
+
+impl<X: Drop> Value<X> {
+    // The kind. A leaf is dropped, and gives none.
+    #[inline(always)]
+    pub(crate) fn into_branch(self) -> Option<ValueKind<X>>
+        ensures { IfSome result (λ kind. kind_nodes kind ≡ value_nodes self) }
+    {
+        unless_leaf(self.into_kind())
+    }
+
+    // The kind, in whose place another is put. Where it was a leaf, that is dropped and gives none.
+    #[inline(always)]
+    pub(crate) fn replace_branch(&mut self, kind: ValueKind<X>) -> Option<ValueKind<X>>
+        ensures put { value_nodes self.new ≡ kind_nodes kind }
+        ensures taken { IfSome result (λ old. kind_nodes old ≡ value_nodes self.old) }
+    {
+        unless_leaf(self.replace_kind(kind))
+    }
+}
+
+// Drops a kind that has no values inside.
+#[inline(always)]
+fn unless_leaf<X: Drop>(kind: ValueKind<X>) -> Option<ValueKind<X>>
+    ensures { IfSome result (λ branch. branch ≡ kind) }
+{
+    match kind {
+        ValueKind::Lit(literal) => {
+            drop(literal);
+            None
+        }
+        ValueKind::ExtensionValue(value) => {
+            drop(value);
+            None
+        }
+        branch => Some(branch),
     }
 }

@@ -1,81 +1,50 @@
 //! Items that are taken out of a row that is dropped: the members of a set or the values of a
 //! record.
-ghost use Rattle.std.specs.Prelude.{◌≡◌, ℕ, ◌+◌, ◌<◌, ◌≤◌, IsTrue, IfSome};
-ghost use Rattle.cedar_values.specs.Counts.{entry_nodes, kind_nodes, nodes_of};
-ghost use Rattle.cedar_values.specs.Drops.{IsItem, IsPut, is_leaf, waiting_nodes};
+ghost use Rattle.std.specs.Prelude.{◌+◌, ◌≤◌, IfSome};
+ghost use Rattle.dropped_rows.specs.Rows.{IsPut, IsTaken};
+ghost use Rattle.cedar_values.specs.Counts.{kind_nodes};
+ghost use Rattle.cedar_values.specs.Drops.{entry_nodes, row_nodes, waiting_nodes};
 
 use crate::value::{Value, ValueKind};
+use dropped_rows::{Taken, after_leaf};
 use std::collections::BTreeMap;
 use std::rc::RcStr;
-
-// A kind that is taken out of a row.
-pub(crate) enum Item<X> {
-    // Of an item.
-    Of(ValueKind<X>),
-    // Of an item, where a leaf was dropped before.
-    After(ValueKind<X>),
-    // Of none: all were leaves, and these are dropped. This waits.
-    None(Option<ValueKind<X>>),
-}
 
 // A member that is no leaf. If a row waits it stands in the first member's place from then on. If
 // none is taken, what is left of the row is leaves.
 pub(crate) fn take_member<X: Drop>(
     members: &mut Vec<Value<X>>,
     waiting: Option<ValueKind<X>>,
-) -> Item<X>
-    ensures { IsItem (nodes_of members.old.items) (waiting_nodes waiting)
-        (nodes_of members.new.items) result }
+) -> Taken<ValueKind<X>>
+    ensures { IsTaken kind_nodes (row_nodes members.old.items) (waiting_nodes waiting)
+        (row_nodes members.new.items) result }
 {
     match waiting {
         Some(next) => match put_first(members, next) {
-            Ok(kind) => {
-                if is_leaf(&kind) {
-                    drop_leaf(kind);
-                    after_leaf(last_branch(members), members.is_empty())
-                } else {
-                    Item::Of(kind)
-                }
-            }
-            Err(next) => Item::None(Some(next)),
+            Ok(Some(kind)) => Taken::Below(kind),
+            Ok(None) => after_leaf(last_branch(members), members.is_empty()),
+            Err(next) => Taken::Nothing(Some(next)),
         },
         None => match last_branch(members) {
-            Some(last) => Item::Of(last),
-            None => Item::None(None),
+            Some(last) => Taken::Below(last),
+            None => Taken::Nothing(None),
         },
     }
 }
 
-// Puts what waits into the first member's place: the member's kind, or, where there is no member,
+// Puts what waits into the first member's place: what stood there, or, where there is no member,
 // what waits.
 #[inline(always)]
 fn put_first<X: Drop>(
     members: &mut Vec<Value<X>>,
     next: ValueKind<X>,
-) -> Result<ValueKind<X>, ValueKind<X>>
-    ensures { IsPut (nodes_of members.old.items) (kind_nodes next) (nodes_of members.new.items)
-        result }
+) -> Result<Option<ValueKind<X>>, ValueKind<X>>
+    ensures { IsPut kind_nodes (row_nodes members.old.items) (kind_nodes next)
+        (row_nodes members.new.items) result }
 {
     match members.first_mut() {
-        Some(first) => Ok(first.replace_kind(next)),
+        Some(first) => Ok(first.replace_branch(next)),
         None => Err(next),
-    }
-}
-
-// What is taken after a first item that was a leaf: the last item, or, where that was the only one,
-// what waits below it.
-fn after_leaf<X>(last: Option<ValueKind<X>>, is_only: bool) -> Item<X>
-    ensures { (m w n : ℕ) → waiting_nodes last + n < m + w → IsItem m w n result }
-{
-    match last {
-        Some(last) => {
-            if is_only {
-                Item::None(Some(last))
-            } else {
-                Item::After(last)
-            }
-        }
-        None => Item::None(None),
     }
 }
 
@@ -83,14 +52,11 @@ fn after_leaf<X>(last: Option<ValueKind<X>>, is_only: bool) -> Item<X>
 #[inline(never)]
 pub(crate) fn last_branch<X: Drop>(members: &mut Vec<Value<X>>) -> Option<ValueKind<X>>
     ensures taken { IfSome result (λ last.
-        kind_nodes last + nodes_of members.new.items ≤ nodes_of members.old.items) }
-    ensures fewer { nodes_of members.new.items ≤ nodes_of members.old.items }
+        kind_nodes last + row_nodes members.new.items ≤ row_nodes members.old.items) }
+    ensures fewer { row_nodes members.new.items ≤ row_nodes members.old.items }
 {
     'leaves: while let Some(member) = members.pop() {
-        let kind = member.into_kind();
-        if is_leaf(&kind) {
-            drop_leaf(kind);
-        } else {
+        if let Some(kind) = member.into_branch() {
             return Some(kind);
         }
     }
@@ -101,25 +67,19 @@ pub(crate) fn last_branch<X: Drop>(members: &mut Vec<Value<X>>) -> Option<ValueK
 pub(crate) fn take_value<X: Drop>(
     pairs: &mut BTreeMap<RcStr, Value<X>>,
     waiting: Option<ValueKind<X>>,
-) -> Item<X>
-    ensures { IsItem (entry_nodes pairs.old.entries) (waiting_nodes waiting)
+) -> Taken<ValueKind<X>>
+    ensures { IsTaken kind_nodes (entry_nodes pairs.old.entries) (waiting_nodes waiting)
         (entry_nodes pairs.new.entries) result }
 {
     match waiting {
         Some(next) => match put_first_value(pairs, next) {
-            Ok(kind) => {
-                if is_leaf(&kind) {
-                    drop_leaf(kind);
-                    after_leaf(last_branch_value(pairs), pairs.is_empty())
-                } else {
-                    Item::Of(kind)
-                }
-            }
-            Err(next) => Item::None(Some(next)),
+            Ok(Some(kind)) => Taken::Below(kind),
+            Ok(None) => after_leaf(last_branch_value(pairs), pairs.is_empty()),
+            Err(next) => Taken::Nothing(Some(next)),
         },
         None => match last_branch_value(pairs) {
-            Some(last) => Item::Of(last),
-            None => Item::None(None),
+            Some(last) => Taken::Below(last),
+            None => Taken::Nothing(None),
         },
     }
 }
@@ -129,12 +89,12 @@ pub(crate) fn take_value<X: Drop>(
 fn put_first_value<X: Drop>(
     pairs: &mut BTreeMap<RcStr, Value<X>>,
     next: ValueKind<X>,
-) -> Result<ValueKind<X>, ValueKind<X>>
-    ensures { IsPut (entry_nodes pairs.old.entries) (kind_nodes next)
+) -> Result<Option<ValueKind<X>>, ValueKind<X>>
+    ensures { IsPut kind_nodes (entry_nodes pairs.old.entries) (kind_nodes next)
         (entry_nodes pairs.new.entries) result }
 {
     match pairs.first_entry() {
-        Some(first) => Ok(first.into_mut().replace_kind(next)),
+        Some(first) => Ok(first.into_mut().replace_branch(next)),
         None => Err(next),
     }
 }
@@ -150,31 +110,9 @@ pub(crate) fn last_branch_value<X: Drop>(
 {
     'leaves: while let Some((key, value)) = pairs.pop_last() {
         drop(key);
-        let kind = value.into_kind();
-        if is_leaf(&kind) {
-            drop_leaf(kind);
-        } else {
+        if let Some(kind) = value.into_branch() {
             return Some(kind);
         }
     }
     None
-}
-
-// Whether a kind has no values inside.
-pub(crate) fn is_leaf<X>(kind: &ValueKind<X>) -> bool
-    ensures { result ≡ is_leaf kind.now }
-{
-    matches!(kind, ValueKind::Lit(_) | ValueKind::ExtensionValue(_))
-}
-
-// Drops a kind that has no values inside.
-#[inline(always)]
-pub(crate) fn drop_leaf<X: Drop>(kind: ValueKind<X>)
-    requires { IsTrue (is_leaf kind) }
-{
-    match kind {
-        ValueKind::Lit(literal) => drop(literal),
-        ValueKind::ExtensionValue(value) => drop(value),
-        _kind => unreachable!(),
-    }
 }

@@ -1,6 +1,7 @@
 use Rattle.std.proofs.Common.{◌<◌, IfSome, arith, ap, subst}
-use Rattle.cedar_exprs.specs.Steps.{row_nodes, all_nodes}
-use Rattle.cedar_exprs.proofs.Fewer.{fewer, no_more, one_off, one_pair_off, nodes_of}
+use Rattle.dropped_rows.specs.Sums.{fewer, no_more, one_off, first_pair_off}
+use Rattle.cedar_exprs.specs.Steps.{nodes, row_nodes, all_nodes}
+use Rattle.cedar_exprs.proofs.Fewer.{nodes_of}
 use Rattle.cedar_exprs.proofs.dropping.+dropped.Goals as goal
 
 pub drop_below-down-smaller-in-Into : goal.drop_below-down-smaller-in-Into
@@ -23,14 +24,14 @@ drop_below-down-smaller g t c =
     fewer _ _ _ _ _ less (omega arith) (omega (arith, less, c.down.invariant))
 
 pub drop_row-each-preserved : goal.drop_row-each-preserved
-drop_row-each-preserved g t c = let less = one_off _ _ _ c.in-Some-pop.ensures.items in omega (arith, less, c.each.invariant)
+drop_row-each-preserved g t c = let less = one_off nodes _ _ _ c.in-Some-pop.ensures.items in omega (arith, less, c.each.invariant)
 
 pub drop_fields-each-preserved : goal.drop_fields-each-preserved
-drop_fields-each-preserved g t c = let less = one_pair_off _ _ _ _ c.in-Some-pop_first.ensures.removal in omega (arith, less, c.each.invariant)
+drop_fields-each-preserved g t c = let less = first_pair_off nodes _ _ _ _ c.in-Some-pop_first.ensures.removal in omega (arith, less, c.each.invariant)
 
 pub drop_row-drop_below-requires : goal.drop_row-drop_below-requires
 drop_row-drop_below-requires g t c κs within =
-    let less = one_off _ _ _ c.in-Some-pop.ensures.items in
+    let less = one_off nodes _ _ _ c.in-Some-pop.ensures.items in
     let same = nodes_of c.in-Some-pop.item _ c.into_parts.ensures.kind in
     let part = c.strip.ensures in
     let whole = ap (λ v. row_nodes v.items) c.in-Some.ensures in

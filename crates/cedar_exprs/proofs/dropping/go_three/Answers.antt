@@ -1,6 +1,5 @@
 use Rattle.std.proofs.Common.{arith, ap}
-use Rattle.cedar_exprs.specs.Steps.{nodes}
-use Rattle.cedar_exprs.proofs.Fewer.{has_nodes}
+use Rattle.cedar_exprs.specs.Steps.{nodes, has_nodes}
 use Rattle.cedar_exprs.proofs.dropping.go_three.Goals as goal
 
 pub returns-in-Some-unless_leaf-2 : goal.returns-in-Some-unless_leaf-2

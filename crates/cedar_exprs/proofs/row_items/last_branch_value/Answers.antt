@@ -1,13 +1,12 @@
 use Rattle.std.proofs.Common.{arith}
-use Rattle.cedar_exprs.proofs.Fewer.{last_pair_off, nodes_of}
+use Rattle.dropped_rows.specs.Sums.{last_pair_off}
+use Rattle.cedar_exprs.specs.Steps.{nodes}
 use Rattle.cedar_exprs.proofs.row_items.last_branch_value.Goals as goal
 
-pub returns-else-is_leaf : goal.returns-else-is_leaf
-returns-else-is_leaf g c =
-    let less = last_pair_off _ _ _ _ c.in-Some.ensures.removal in
-    let same = nodes_of c.in-Some.value _ c.into_parts-else-is_leaf.ensures.kind in
-    let part = c.strip.ensures in
-    record { taken = omega (arith, less, same, part, c.leaves.invariant); fewer = omega (arith, less, c.leaves.invariant) }
+pub returns-in-Some-into_below : goal.returns-in-Some-into_below
+returns-in-Some-into_below g c =
+    let less = last_pair_off nodes _ _ _ _ c.in-Some.ensures.removal in
+    record { taken = omega (arith, less, c.in-Some-into_below.ensures, c.leaves.invariant); fewer = omega (arith, less, c.leaves.invariant) }
 
 pub leaves-preserved : goal.leaves-preserved
-leaves-preserved g c = let less = last_pair_off _ _ _ _ c.in-Some.ensures.removal in omega (arith, less, c.leaves.invariant)
+leaves-preserved g c = let less = last_pair_off nodes _ _ _ _ c.in-Some.ensures.removal in omega (arith, less, c.leaves.invariant)

@@ -1,7 +1,7 @@
 use Rattle.std.proofs.Common.{◌<◌, IfSome, arith, suc, ap, subst, ◌∙◌}
-use Rattle.cedar_values.specs.Counts.{nodes_of, entry_nodes}
-use Rattle.cedar_values.specs.Drops.{all_nodes}
-use Rattle.cedar_values.proofs.Fewer.{fewer, no_more, one_off, one_pair_off, nodes_of_kind, set_nodes, record_nodes}
+use Rattle.dropped_rows.specs.Sums.{fewer, no_more, one_off, first_pair_off}
+use Rattle.cedar_values.specs.Drops.{value_nodes, row_nodes, entry_nodes, all_nodes}
+use Rattle.cedar_values.proofs.Fewer.{nodes_of_kind, set_nodes, record_nodes}
 use Rattle.cedar_values.proofs.dropping.+dropped.Goals as goal
 
 pub drop_branch-down-smaller-in-Into : goal.drop_branch-down-smaller-in-Into
@@ -20,28 +20,28 @@ drop_branch-drop_row-requires g t c κs within = (omega (arith, c.in-Row.ensures
 
 pub drop_row-drop_members-requires : goal.drop_row-drop_members-requires
 drop_row-drop_members-requires g t c κs within =
-    let all = set_nodes _ c.in-Set.set c.in-Set.is ∙ ap (λ vs. suc (nodes_of vs)) c.into_row.ensures in
+    let all = set_nodes _ c.in-Set.set c.in-Set.is ∙ ap (λ vs. suc (row_nodes vs)) c.into_row.ensures in
     (omega (arith, all, c.decreases), within)
 
 pub drop_row-drop_pairs-requires : goal.drop_row-drop_pairs-requires
 drop_row-drop_pairs-requires g t c κs within = let all = record_nodes _ c.in-Record.pairs c.in-Record.is in (omega (arith, all, c.decreases), within)
 
 pub drop_members-each-preserved : goal.drop_members-each-preserved
-drop_members-each-preserved g t c = let less = one_off _ _ _ c.in-Some-pop.ensures.items in omega (arith, less, c.each.invariant)
+drop_members-each-preserved g t c = let less = one_off value_nodes _ _ _ c.in-Some-pop.ensures.items in omega (arith, less, c.each.invariant)
 
 pub drop_pairs-each-preserved : goal.drop_pairs-each-preserved
-drop_pairs-each-preserved g t c = let less = one_pair_off _ _ _ _ c.in-Some-pop_first.ensures.removal in omega (arith, less, c.each.invariant)
+drop_pairs-each-preserved g t c = let less = first_pair_off value_nodes _ _ _ _ c.in-Some-pop_first.ensures.removal in omega (arith, less, c.each.invariant)
 
 pub drop_members-drop_kind-requires : goal.drop_members-drop_kind-requires
 drop_members-drop_kind-requires g t c κs within =
-    let less = one_off _ _ _ c.in-Some-pop.ensures.items in
+    let less = one_off value_nodes _ _ _ c.in-Some-pop.ensures.items in
     let same = nodes_of_kind c.in-Some-pop.item _ c.into_kind.ensures in
-    let whole = ap (λ v. nodes_of v.items) c.in-Some.ensures in
+    let whole = ap (λ v. row_nodes v.items) c.in-Some.ensures in
     (omega (arith, less, same, whole, c.each.invariant, c.decreases), within)
 
 pub drop_pairs-drop_kind-requires : goal.drop_pairs-drop_kind-requires
 drop_pairs-drop_kind-requires g t c κs within =
-    let less = one_pair_off _ _ _ _ c.in-Some-pop_first.ensures.removal in
+    let less = first_pair_off value_nodes _ _ _ _ c.in-Some-pop_first.ensures.removal in
     let same = nodes_of_kind c.in-Some-pop_first.item _ c.into_kind.ensures in
     let whole = ap (λ m. entry_nodes m.entries) c.in-Some.ensures in
     (omega (arith, less, same, whole, c.each.invariant, c.decreases), within)

@@ -1,6 +1,5 @@
 use Rattle.std.proofs.Common.{arith, ap, ◌∙◌}
-use Rattle.cedar_values.specs.Counts.{nodes_of, entry_nodes}
-use Rattle.cedar_values.specs.Drops.{waiting_nodes}
+use Rattle.cedar_values.specs.Drops.{row_nodes, entry_nodes, waiting_nodes}
 use Rattle.cedar_values.specs.Sets.{members}
 use Rattle.cedar_values.proofs.Fewer.{set_nodes, record_nodes}
 use Rattle.cedar_values.proofs.dropping.go_on.Goals as goal
@@ -8,8 +7,8 @@ use Rattle.cedar_values.proofs.dropping.go_on.Goals as goal
 pub returns-in-Some-Set : goal.returns-in-Some-Set
 returns-in-Some-Set g c =
     let waits = ap waiting_nodes c.in-Some-Set.is ∙ set_nodes _ c.in-Some-Set.set c.in-Some-Set.field-0-is in
-    let same = ap (λ s. nodes_of (members s)) c.in-Some-Set.set-is in
-    let row = ap nodes_of c.into_row.ensures in
+    let same = ap (λ s. row_nodes (members s)) c.in-Some-Set.set-is in
+    let row = ap row_nodes c.into_row.ensures in
     let all = c.resume_members.ensures in
     omega (arith, waits, same, row, all)
 

@@ -1,6 +1,5 @@
 use Rattle.std.proofs.Common.{◌+◌, arith, subst, suc, refl, ap}
-use Rattle.cedar_values.specs.Counts.{entry_nodes}
-use Rattle.cedar_values.specs.Drops.{IsStep, waiting_nodes}
+use Rattle.cedar_values.specs.Drops.{entry_nodes, IsStep, waiting_nodes}
 use Rattle.cedar_values.proofs.Fewer.{record_nodes, written_record}
 use Rattle.cedar_values.proofs.dropping.open_pairs.Goals as goal
 

@@ -1,9 +1,10 @@
 use Rattle.std.proofs.Common.{arith, subst}
-use Rattle.cedar_values.specs.Drops.{IsItem}
+use Rattle.dropped_rows.specs.Rows.{IsTaken}
+use Rattle.cedar_values.specs.Counts.{kind_nodes}
 use Rattle.cedar_values.proofs.dropping.opened.Goals as goal
 
-pub returns-in-Of : goal.returns-in-Of
-returns-in-Of g c m w n item row = let is = subst (IsItem m w n) c.in-Of.is item in (omega (arith, is.0), omega (arith, is.1, row))
+pub returns-in-Below : goal.returns-in-Below
+returns-in-Below g c m w n item row = let is = subst (IsTaken kind_nodes m w n) c.in-Below.is item in (omega (arith, is.0), omega (arith, is.1, row))
 
-pub returns-in-After : goal.returns-in-After
-returns-in-After g c m w n item row = let is = subst (IsItem m w n) c.in-After.is item in omega (arith, is, row)
+pub returns-in-AfterLeaf : goal.returns-in-AfterLeaf
+returns-in-AfterLeaf g c m w n item row = let is = subst (IsTaken kind_nodes m w n) c.in-AfterLeaf.is item in omega (arith, is, row)

@@ -4,7 +4,7 @@ use Rattle.cedar_value_trees.specs.Reading.{IsValueOf}
 use Rattle.cedar_values.specs.BareValues.{bare_value}
 use Rattle.cedar_values.specs.NotReadable.{IsNotValueAt, first_not_readable}
 use Rattle.cedar_values.specs.RowsRead.{row_expr}
-use Rattle.cedar_values.proofs.FirstFault.{InPreorder}
+use Rattle.cedar_exprs.specs.FirstNodes.{InPreorder}
 use Rattle.cedar_values.proofs.RowsRead.{Nested, back_fewer, course_back, course_into, into_fewer, nested_fault}
 use Rattle.cedar_values.proofs.from_expr.value_of.Goals as goal
 

@@ -1,10 +1,10 @@
 use Rattle.std.proofs.Common.{◌≤◌}
-use Rattle.cedar_values.specs.Counts.{nodes_of}
+use Rattle.cedar_values.specs.Drops.{row_nodes}
 use Rattle.cedar_values.proofs.row_items.last_branch.Given as goal
 
 -- no more values are left than there were
 abbrev pub invariant-leaves : goal.invariant-leaves
-invariant-leaves g l = nodes_of l.members.items ≤ nodes_of l.initial.members.items
+invariant-leaves g l = row_nodes l.members.items ≤ row_nodes l.initial.members.items
 
 abbrev pub decreases-leaves : goal.decreases-leaves
 decreases-leaves g l = goal.left-leaves g l

@@ -1,12 +1,12 @@
 use Rattle.std.proofs.Common.{arith}
-use Rattle.cedar_values.proofs.Fewer.{last_pair_off, nodes_of_kind}
+use Rattle.dropped_rows.specs.Sums.{last_pair_off}
+use Rattle.cedar_values.specs.Drops.{value_nodes}
 use Rattle.cedar_values.proofs.row_items.last_branch_value.Goals as goal
 
-pub returns-else-is_leaf : goal.returns-else-is_leaf
-returns-else-is_leaf g c =
-    let less = last_pair_off _ _ _ _ c.in-Some.ensures.removal in
-    let same = nodes_of_kind c.in-Some.value _ c.into_kind-kind.ensures in
-    record { taken = omega (arith, less, same, c.leaves.invariant); fewer = omega (arith, less, c.leaves.invariant) }
+pub returns-in-Some-into_branch : goal.returns-in-Some-into_branch
+returns-in-Some-into_branch g c =
+    let less = last_pair_off value_nodes _ _ _ _ c.in-Some.ensures.removal in
+    record { taken = omega (arith, less, c.in-Some-into_branch.ensures, c.leaves.invariant); fewer = omega (arith, less, c.leaves.invariant) }
 
 pub leaves-preserved : goal.leaves-preserved
-leaves-preserved g c = let less = last_pair_off _ _ _ _ c.in-Some.ensures.removal in omega (arith, less, c.leaves.invariant)
+leaves-preserved g c = let less = last_pair_off value_nodes _ _ _ _ c.in-Some.ensures.removal in omega (arith, less, c.leaves.invariant)

@@ -1,5 +1,5 @@
 use Rattle.std.proofs.Common.{◌≤◌, length}
-use Rattle.cedar_values.specs.Counts.{entry_nodes}
+use Rattle.cedar_values.specs.Drops.{entry_nodes}
 use Rattle.cedar_values.proofs.row_items.last_branch_value.Given as goal
 
 -- no more values are left than there were

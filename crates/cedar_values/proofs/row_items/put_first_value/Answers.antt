@@ -1,14 +1,17 @@
-use Rattle.std.proofs.Common.{arith, sym, ap, ◌∙◌}
-use Rattle.cedar_values.proofs.Fewer.{nodes_of_kind, has_first, first_replaced}
+use Rattle.std.proofs.Common.{sym, ap, ◌∙◌, ◌+◌}
+use Rattle.dropped_rows.specs.FirstItems.{put, value_fits, value_replaced}
+use Rattle.cedar_values.specs.BareValues.{bare_value}
+use Rattle.cedar_values.specs.Counts.{kind_nodes, has_nodes}
+use Rattle.cedar_values.specs.Drops.{value_nodes, entry_nodes}
 use Rattle.cedar_values.proofs.row_items.put_first_value.Goals as goal
 
 pub returns-in-Some : goal.returns-in-Some
 returns-in-Some g c =
     let entry = c.in-Some.ensures in
+    let pairs = c.args.pairs.now.entries in
+    let old = c.into_mut.result.now in
     let ends = c.pairs-in-Some-1.given.1 (sym entry.same_map) in
     let first = sym entry.value.0 ∙ c.into_mut.ensures.value in
-    let put = ap (λ m. m.entries) ends ∙ entry.update.1 _ in
-    let sum = first_replaced {X = g.row.X.Denot} c.args.pairs.now.entries _ _ c.into_mut.result.now _ c.replace_kind.result c.args.next entry.key first put c.replace_kind.ensures.taken (sym c.replace_kind.ensures.put) in
-    let found = has_first _ _ first in
-    let same = nodes_of_kind c.into_mut.result.now _ c.replace_kind.ensures.taken in
-    (omega (arith, found, same), sum)
+    let entries = ap (λ m. m.entries) ends ∙ entry.update.1 _ in
+    let all = value_replaced value_nodes pairs _ _ old _ entry.key first entries ∙ ap (λ n. entry_nodes pairs + n) c.replace_branch.ensures.put in
+    put kind_nodes _ _ _ (value_nodes old) c.replace_branch.result c.replace_branch.ensures.taken (has_nodes (bare_value old)) (value_fits value_nodes pairs old first) all

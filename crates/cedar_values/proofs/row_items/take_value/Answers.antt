@@ -1,14 +1,13 @@
-use Rattle.std.proofs.Common.{arith, ap}
+use Rattle.std.proofs.Common.{arith, ap, ◌∙◌, subst, Ok}
+use Rattle.dropped_rows.specs.Rows.{IsPut}
+use Rattle.dropped_rows.specs.Sums.{with_last}
+use Rattle.cedar_values.specs.Counts.{kind_nodes}
 use Rattle.cedar_values.specs.Drops.{waiting_nodes}
-use Rattle.cedar_values.proofs.Fewer.{some_nodes, with_last}
 use Rattle.cedar_values.proofs.row_items.take_value.Goals as goal
 
-pub returns-then-is_leaf : goal.returns-then-is_leaf
-returns-then-is_leaf g c =
-    let row = ap waiting_nodes c.in-Some.is in
-    let one = some_nodes c.in-Ok.kind in
-    let last = with_last c.last_branch_value.result _ _ c.last_branch_value.ensures.taken c.last_branch_value.ensures.fewer in
-    c.after_leaf.ensures _ _ _ (omega (arith, row, one, last, c.in-Ok.ensures))
-
-pub returns-else-is_leaf : goal.returns-else-is_leaf
-returns-else-is_leaf g c = let row = ap waiting_nodes c.in-Some.is in (c.in-Ok.ensures.0, omega (arith, row, c.in-Ok.ensures.1))
+pub returns-in-Ok-None : goal.returns-in-Ok-None
+returns-in-Ok-None g c =
+    let waits = ap waiting_nodes c.in-Some.is in
+    let put = subst (IsPut kind_nodes _ _ _) (c.in-Ok-None.is ∙ ap Ok c.in-Ok-None.field-0-is) c.put_first_value.ensures in
+    let last = with_last kind_nodes c.last_branch_value.result _ _ c.last_branch_value.ensures.taken c.last_branch_value.ensures.fewer in
+    c.after_leaf.ensures kind_nodes _ _ _ (omega (arith, waits, put, last))

@@ -1,7 +1,8 @@
 use Rattle.cedar_exprs.specs.BareExpr.{bare_expr}
 use Rattle.cedar_value_trees.specs.Reading.{IsValueOf}
 use Rattle.cedar_values.specs.BareValues.{bare_value}
-use Rattle.cedar_values.proofs.FirstFault.{InPreorder, answered}
+use Rattle.cedar_exprs.specs.FirstNodes.{InPreorder}
+use Rattle.cedar_values.proofs.FirstFault.{answered}
 use Rattle.cedar_values.proofs.value.Value.try_from_expr.Goals as goal
 
 pub returns-clause-readable : goal.returns-clause-readable

@@ -3,7 +3,7 @@ use Rattle.cedar_terms.specs.Literals.{bare_literal}
 use Rattle.cedar_values.specs.BareValues.{kind_of}
 use Rattle.cedar_values.specs.LiteralUids.{Gains, literal_uid, literal_uids}
 use Rattle.cedar_values.specs.Sets.{members}
-use Rattle.cedar_values.proofs.Fewer.{some_nodes}
+use Rattle.cedar_values.specs.Counts.{kind_has_nodes}
 use Rattle.cedar_values.proofs.Levels.{extension_tree, kind_of_literal}
 use Rattle.cedar_values.proofs.Uids.{Owes, kind_uids, nodes_put, nodes_taken, put_in, record_count, record_uids, set_count, set_uids, uids_in, uids_put, uids_taken}
 use Rattle.cedar_values.proofs.value.ValueKind.all_literal_uids.Goals as goal
@@ -11,7 +11,7 @@ use Rattle.cedar_values.proofs.value.ValueKind.all_literal_uids.Goals as goal
 pub walk-smaller-in-Continue-branch-2 : goal.walk-smaller-in-Continue-branch-2
 walk-smaller-in-Continue-branch-2 g c =
     let k = c.in-Some.kind in
-    omega (arith, nodes_taken c.walk.waiting.items c.pop.new.self.items k c.in-Some.ensures.items, some_nodes k.now)
+    omega (arith, nodes_taken c.walk.waiting.items c.pop.new.self.items k c.in-Some.ensures.items, kind_has_nodes k.now)
 
 pub walk-preserved-in-Continue-branch-2 : goal.walk-preserved-in-Continue-branch-2
 walk-preserved-in-Continue-branch-2 g c =
@@ -57,7 +57,7 @@ walk-preserved-in-Continue-branch-4 g c =
 pub walk-smaller : goal.walk-smaller
 walk-smaller g c =
     let k = c.in-Some.kind in
-    omega (arith, nodes_taken c.walk.waiting.items c.pop.new.self.items k c.in-Some.ensures.items, some_nodes k.now)
+    omega (arith, nodes_taken c.walk.waiting.items c.pop.new.self.items k c.in-Some.ensures.items, kind_has_nodes k.now)
 
 pub walk-preserved : goal.walk-preserved
 walk-preserved g c =

@@ -4,7 +4,8 @@ use Rattle.cedar_value_trees.specs.Reading.{IsValueOf, is_readable}
 use Rattle.cedar_values.specs.BareValues.{bare_value}
 use Rattle.cedar_values.specs.NotReadable.{IsAnswerWhere}
 use Rattle.cedar_values.specs.WellFormed.{kind_well_formed}
-use Rattle.cedar_values.proofs.FirstFault.{InPreorder, answered}
+use Rattle.cedar_exprs.specs.FirstNodes.{InPreorder}
+use Rattle.cedar_values.proofs.FirstFault.{answered}
 use Rattle.cedar_values.proofs.Levels.{value_kept}
 use Rattle.cedar_values.proofs.value.ValueKind.try_from_expr.Goals as goal
 
