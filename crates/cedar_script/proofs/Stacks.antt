@@ -1,10 +1,11 @@
 -- Stacks, whose top stands first.
-use Rattle.std.proofs.Common.{◌≡◌, ℕ, ◌+◌, ◌-◌, List, [], ◌∷◌, ◌++◌, length, take, drop, ap, sym, subst, ◌∙◌, arith}
+use Rattle.std.proofs.Common.{◌≡◌, ℕ, ◌+◌, ◌-◌, List, [], ◌∷◌, ◌++◌, length, take, drop, refl, ap, sym, subst, ◌∙◌, arith}
 use Rattle.std.specs.Prelude.{reverse, Result, Ok, Err, OnOk}
 use Rattle.std.proofs.lemmas.List.{reverse-append, reverse-reverse, length-reverse, take-append-drop, length-drop}
+use Rattle.std.proofs.lemmas.Result.{on_ok_weaker}
 use Rattle.std.proofs.Math.Seq.{take-append_seam, drop-append_seam}
 use Rattle.cedar_exprs.specs.declared.expr.Expr.{Expr}
-use Rattle.cedar_script.specs.Stack.{Stack, ReplacesMany}
+use Rattle.cedar_script.specs.Stack.{Stack, Pushes, ReplacesOne, ReplacesMany}
 
 pub reverse_push : {A : Type 0} → (xs : List A) (x : A) → reverse (xs ++ x ∷ []) ≡ x ∷ reverse xs
 reverse_push xs x = reverse-append xs (x ∷ [])
@@ -37,3 +38,8 @@ pub replaced : {A E : Type 0} (P : Stack → Expr Unit → Type 0) (count n : �
 replaced P count n old below new items e (Ok x) same taken rest holds pushed =
     subst (λ m. ReplacesMany m P old new) same (subst (ReplacesMany n P old) (sym pushed) (subst (λ xs. P xs e) taken holds, rest))
 replaced P count n old below new items e (Err x) same taken rest holds pushed = tt
+
+-- what is pushed onto a stack without its top stands in the top's place
+pub replaced_one : {A E : Type 0} (P : Expr Unit → Expr Unit → Type 0) (old below new : Stack) (a e : Expr Unit) (r : Result A E)
+    → old ≡ a ∷ below → P a e → OnOk r (new ≡ e ∷ below) → OnOk r (ReplacesOne P old new)
+replaced_one P old below new a e r top holds = on_ok_weaker r (λ pushed. subst (λ o. ReplacesOne P o new) (sym top) (subst (Pushes (P a) below) (sym pushed) (holds, refl)))

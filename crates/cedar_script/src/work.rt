@@ -12,7 +12,6 @@ ghost use Rattle.cedar_builders.specs.Fold.{on_one};
 ghost use Rattle.cedar_builders.specs.Trees.{tree_ops};
 ghost use Rattle.cedar_exprs.specs.BareExpr.{bare_expr, bare_exprs};
 ghost use Rattle.cedar_builders.specs.Keys.{keyed};
-ghost use Rattle.cedar_builders.specs.SubstitutionErrors.{IsClashError};
 ghost use Rattle.cedar_value_trees.specs.Reading.{IsValueOf};
 ghost use Rattle.cedar_values.specs.BareValues.{bare_value};
 ghost use Rattle.cedar_evaluator.specs.Texts.{outcome_text};
@@ -27,7 +26,7 @@ use crate::line::Command;
 use crate::refusal::Refusal;
 use cedar_builders::ExprBuilder as Builder;
 use cedar_evaluator::{Evaluator, evaluate};
-use cedar_exprs::{Expr, ExprBuilder, ExprKind, SubstitutionError};
+use cedar_exprs::{Expr, ExprBuilder, ExprKind};
 use cedar_names::{Name, NonEmpty};
 use cedar_simplifier::{Simplifier, simplify};
 use cedar_sketch::Sketch;
@@ -293,8 +292,7 @@ impl State {
         ensures depth { OnOk result (depth self.new ≡ depth self.old) }
         ensures too_few { IsErrOf result Refusal.TooFewExpressions ↔ (depth self.old < 1) }
     {
-        let top = self.pop()?;
-        let top = self.replace_bound(alloc, &top)?;
+        let top = self.pop()?.substitute(alloc, &self.bindings)?;
         self.push(top)
     }
 
@@ -310,8 +308,7 @@ impl State {
         ensures depth { OnOk result (depth self.new ≡ depth self.old) }
         ensures too_few { IsErrOf result Refusal.TooFewExpressions ↔ (depth self.old < 1) }
     {
-        let top = self.pop()?;
-        let top = self.replace_bound_typed(alloc, &top)?;
+        let top = self.pop()?.substitute_typed(alloc, &self.bindings)?;
         self.push(top)
     }
 
@@ -327,40 +324,8 @@ impl State {
         ensures depth { OnOk result (depth self.new ≡ depth self.old) }
         ensures too_few { IsErrOf result Refusal.TooFewExpressions ↔ (depth self.old < 1) }
     {
-        let top = self.pop()?;
-        let top = self.simplify_bound(alloc, &top)?;
-        self.push(top)
-    }
-
-    // What is left of the expression with what is bound.
-    fn simplify_bound(&self, alloc: Global, expr: &Expr) -> Result<Expr, AllocError>
-        ensures { IfOk result (λ e. bare_expr e
-            ≡ what_is_left ⟦<Simplifier as Builder>⟧.ops (environment (bindings_of self.now))
-            (bare_expr expr.now)) }
-    {
-        simplify(alloc, expr, &self.bindings)?.into_expr(alloc)
-    }
-
-    // Replaces each unknown of the expression whose name is bound.
-    fn replace_bound(&self, alloc: Global, expr: &Expr) -> Result<Expr, AllocError>
-        ensures { IfOk result (λ e.
-            fold tree_ops (environment (bindings_of self.now)) (bare_expr expr.now)
-            ≡ Ok (bare_expr e)) }
-    {
-        expr.substitute(alloc, &self.bindings)
-    }
-
-    // The same, if no value has another type than is expected of it.
-    fn replace_bound_typed(&self, alloc: Global, expr: &Expr) -> Result<Expr, SubstitutionError>
-        ensures made { IfOk result (λ e.
-            fold tree_ops (environment (bindings_of self.now)) (bare_expr expr.now)
-            ≡ Ok (bare_expr e)) }
-        ensures passed { OnOk result
-            (clash (environment (bindings_of self.now)) (bare_expr expr.now) ≡ None) }
-        ensures refused { IfErr result
-            (IsClashError (clash (environment (bindings_of self.now)) (bare_expr expr.now))) }
-    {
-        expr.substitute_typed(alloc, &self.bindings)
+        let left = simplify(alloc, &self.pop()?, &self.bindings)?;
+        self.push(left.into_expr(alloc)?)
     }
 
     // Shows the top, which stays.
