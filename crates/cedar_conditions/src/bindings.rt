@@ -80,22 +80,11 @@ impl Bindings {
     /// bindings.bind_json(alloc, "{\"limit\": 3, \"context\": {\"mfa\": true}}")?;
     /// ```
     ///
-    /// `docs/CONDITIONS.md` says which value each kind of JSON is. After an error the members
-    /// before the refused one are bound.
+    /// `docs/CONDITIONS.md` says which value each kind of JSON is. If the text is refused, nothing
+    /// is bound; if memory runs out, some names may be.
     pub fn bind_json(&mut self, alloc: Global, text: &str) -> Result<(), BindingsError> {
-        let json = serde_json::Value::from_str(alloc, text)?;
-        let Some(members) = json.as_object() else {
-            return Err(BindingsError::NoObject);
-        };
-        for (name, value) in members {
-            let name = RcStr::from_str(alloc, name)?;
-            match expr_of(alloc, value) {
-                Ok(expr) => self.bind(alloc, name, expr)?,
-                Err(NoValue::Because(problem)) => {
-                    return Err(BindingsError::NoValue { name, problem });
-                }
-                Err(NoValue::Memory) => return Err(BindingsError::Memory),
-            }
+        for (name, expr) in members(alloc, text)? {
+            self.bind(alloc, name, expr)?;
         }
         Ok(())
     }
@@ -110,6 +99,32 @@ impl Bindings {
             None => expr,
         };
         put(&mut self.read_as, name, read_as)
+    }
+}
+
+// The names that a JSON object has, and the expressions of what they stand for.
+fn members(alloc: Global, text: &str) -> Result<Vec<(RcStr, Expr)>, BindingsError> {
+    let json = serde_json::Value::from_str(alloc, text)?;
+    let Some(object) = json.as_object() else {
+        return Err(BindingsError::NoObject);
+    };
+    let mut members = Vec::with_capacity(alloc, object.len())?;
+    for (name, value) in object {
+        members.push(member(alloc, name, value)?)?;
+    }
+    Ok(members)
+}
+
+fn member(
+    alloc: Global,
+    name: &str,
+    value: &serde_json::Value,
+) -> Result<(RcStr, Expr), BindingsError> {
+    let name = RcStr::from_str(alloc, name)?;
+    match expr_of(alloc, value) {
+        Ok(expr) => Ok((name, expr)),
+        Err(NoValue::Because(problem)) => Err(BindingsError::NoValue { name, problem }),
+        Err(NoValue::Memory) => Err(BindingsError::Memory),
     }
 }
 
