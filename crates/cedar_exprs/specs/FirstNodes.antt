@@ -10,6 +10,7 @@ use Rattle.cedar_exprs.specs.BareExpr.{bare_expr}
 use Rattle.cedar_exprs.specs.Walks.{children, preorder}
 use Rattle.cedar_exprs.specs.declared.expr.Expr.{Expr}
 
+-- whether a node's bare tree fails the test
 abbrev pub fails : {T : Type 0} → (BareExpr → Bool) → Expr T → Bool
 fails passes e = not (passes (bare_expr e))
 
