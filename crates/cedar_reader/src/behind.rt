@@ -78,7 +78,7 @@ impl Reader<'_> {
             Some(pattern) => Ok(Some(self.nodes.like(left, pattern, token.span.stop)?)),
             None => Err(Refusal::Syntax(
                 token.span,
-                "this pattern has an escape that there is not",
+                "this pattern has an unknown escape, or a bare carriage return",
             )),
         }
     }

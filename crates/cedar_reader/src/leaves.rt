@@ -99,7 +99,10 @@ pub(crate) fn text_of(alloc: Global, token: Token<'_>) -> Result<RcStr, Refusal>
 {
     match read_text(alloc, inside(token))? {
         Some(text) => Ok(RcStr::from_str(alloc, &text)?),
-        None => Err(Refusal::Syntax(token.span, "this text has an escape that there is not")),
+        None => Err(Refusal::Syntax(
+            token.span,
+            "this text has an unknown escape, or a bare carriage return",
+        )),
     }
 }
 

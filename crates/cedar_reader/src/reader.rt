@@ -23,7 +23,7 @@ use crate::nodes::Nodes;
 use cedar_exprs::{Expr, ExprKind};
 use cedar_printer::Level;
 use cedar_terms::{Literal, UnaryOp};
-use cedar_tokens::{Kind, ReadError, Refusal, Token, Tokens, scan};
+use cedar_tokens::{Kind, ReadError, Refusal, Span, Token, Tokens, scan};
 use std::alloc::Global;
 use std::collections::HashMap;
 use std::mem;
@@ -47,7 +47,7 @@ pub fn read_expr(alloc: Global, text: &str) -> Result<Expr, ReadError>
 }
 
 /// The same, where an unknown or a variable of the request that `values` names is read as the
-/// expression there. It keeps the place at which it was read.
+/// expression there. The expression keeps the place of what was read.
 pub fn read_with_values(
     alloc: Global,
     text: &str,
@@ -198,14 +198,14 @@ impl Reader<'_> {
         Ok(Some(Held::member(self.nodes.variable(&path)?, path.span)))
     }
 
-    // A sign before its operand, of which the grammar has four at most in a row.
+    // A sign before its operand. The grammar has four at most in a row, and all of them alike.
     #[tactic(auto, using(crate::proofs::Greatest::greatest_push))]
     fn prefix(&mut self, op: UnaryOp, token: Token<'_>) -> Step
         ensures { MatchResult result
             (IsUpTo (max (open_start self.old) token.entry.span.start) self.new)
             (IsAbout token.entry.span) }
     {
-        let before = self.signs();
+        let before = self.signs(op, token.span)?;
         if before > 3 {
             return Err(Refusal::Syntax(token.span, "this is the fifth sign in a row"));
         }
@@ -214,11 +214,18 @@ impl Reader<'_> {
         Ok(None)
     }
 
-    // How many signs stand right before the operand.
-    fn signs(&self) -> u8 {
+    // How many of this sign stand right before the operand, where no other sign does.
+    fn signs(&self, op: UnaryOp, span: Span) -> Result<u8, Refusal>
+        ensures { IfErr result (IsAbout span) }
+    {
         match self.operations.last() {
-            Some(Operation::Prefix(_, _, before)) => before.saturating_add(1),
-            _ => 0,
+            Some(Operation::Prefix(other, _, before)) if *other == op => {
+                Ok(before.saturating_add(1))
+            }
+            Some(Operation::Prefix(_, _, _)) => {
+                Err(Refusal::Syntax(span, "a sign behind another sign needs brackets"))
+            }
+            _ => Ok(0),
         }
     }
 

@@ -4,12 +4,13 @@ use Rattle.std.specs.Prelude.{◌&&◌}
 use Rattle.std.specs.Char.{encode_utf8, is_not_whitespace, is_whitespace}
 use Rattle.std.specs.List.{starts_with}
 use Rattle.std.specs.Str.{IsTrimStart, NonePass, encode_utf8_all}
-use Rattle.std.specs.Str.Pattern.{FindsChar}
+use Rattle.std.specs.Str.Pattern.{FindsBy}
 use Rattle.std.proofs.lemmas.Bool.{eqb-true, false≢true}
+use Rattle.std.proofs.lemmas.Bool.Decides.{nat_tests}
 use Rattle.std.proofs.lemmas.List.{length-append, nil_from_length, take-append-drop}
 use Rattle.std.proofs.lemmas.Str.{encode_same, len_utf8_bounds, length-encode}
 use Rattle.std.proofs.lemmas.Str.Pattern.{drop_at_char}
-use Rattle.cedar_tokens.specs.Blanks.{BeginsComment, HasBlanks, HasNoSpace, IsBehindLine, IsInLine, nothing, space, comment, last_comment}
+use Rattle.cedar_tokens.specs.Blanks.{BeginsComment, HasBlanks, HasNoSpace, IsBehindLine, IsInLine, ends_line, nothing, space, comment, last_comment}
 
 assoc : (xs ys zs : List ℕ) → (xs ++ ys) ++ zs ≡ xs ++ (ys ++ zs)
 assoc xs ys zs = simp append_assoc
@@ -24,9 +25,9 @@ rest_fits (nothing text) = omega arith
 rest_fits (space c text rest w h) =
     let fits = rest_fits h in
     let l = length-append (encode_utf8 c) text in omega arith
-rest_fits (comment line text rest b i h) =
+rest_fits (comment line c text rest b i e h) =
     let fits = rest_fits h in
-    let l = length-append line (10 ∷ text) in omega arith
+    let l = length-append line (c ∷ text) in omega arith
 rest_fits (last_comment line b i) = omega arith
 
 -- behind nothing there is nothing
@@ -36,7 +37,7 @@ none_behind rest h = let fits = rest_fits h in nil_from_length rest (omega arith
 pub blanks_go_on : {text rest : List ℕ} → HasBlanks text rest → (next : List ℕ) → HasBlanks rest next → HasBlanks text next
 blanks_go_on (nothing text) next k = k
 blanks_go_on (space c text rest w h) next k = space c text next w (blanks_go_on h next k)
-blanks_go_on (comment line text rest b i h) next k = comment line text next b i (blanks_go_on h next k)
+blanks_go_on (comment line c text rest b i e h) next k = comment line c text next b i e (blanks_go_on h next k)
 blanks_go_on (last_comment line b i) next k = subst (λ r. HasBlanks line r) (sym (none_behind next k)) (last_comment line b i)
 
 -- ---- white space
@@ -71,28 +72,31 @@ two_slashes (x ∷ y ∷ r) h =
     let b = both_true_of (eqb 47 y) true a.1 in
     (r, ap (λ c. c ∷ y ∷ r) (sym (eqb-true 47 x a.0)) ∙ ap (λ c. 47 ∷ c ∷ r) (sym (eqb-true 47 y b.0)))
 
--- a line feed is no slash
-no_slash : (c d : ℕ) → c ≡ 10 → d ≡ 47 → c ≡ d → ⊥
-no_slash c d a b e = omega arith
+-- what ends a line is of ASCII, and no slash
+pub end_is_low : (c : ℕ) → ends_line c ≡ true → c < 128
+end_is_low c e = grind (arith, nat_tests, e)
+
+no_slash : (c : ℕ) → ends_line c ≡ true → c ≡ 47 → ⊥
+no_slash c e is = false≢true (ap ends_line (sym is) ∙ e)
 
 -- the line of a text that begins with two slashes does
-line_begins : (line later : List ℕ) → BeginsComment (line ++ (10 ∷ later)) → BeginsComment line
-line_begins [] later h = absurd (no_slash 10 47 refl refl (ap (λ t. get_or t 0 0) h.1))
-line_begins (x ∷ []) later h = absurd (no_slash 10 47 refl refl (ap (λ t. get_or t 1 0) h.1))
-line_begins (x ∷ y ∷ body) later h =
+line_begins : (line : List ℕ) (c : ℕ) (later : List ℕ) → ends_line c ≡ true → BeginsComment (line ++ (c ∷ later)) → BeginsComment line
+line_begins [] c later e h = absurd (no_slash c e (ap (λ t. get_or t 0 0) h.1))
+line_begins (x ∷ []) c later e h = absurd (no_slash c e (ap (λ t. get_or t 1 0) h.1))
+line_begins (x ∷ y ∷ body) c later e h =
     (body, ap (λ c. c ∷ y ∷ body) (ap (λ t. get_or t 0 0) h.1) ∙ ap (λ c. 47 ∷ c ∷ body) (ap (λ t. get_or t 1 0) h.1))
 
 line_skipped : (text later : List ℕ) → BeginsComment text → IsBehindLine text later → HasBlanks text later
 line_skipped text later begins h =
     ⊎_elim (λ e.
-    subst (λ t. HasBlanks t later) (sym e)
-    (comment h.0 later later (line_begins h.0 later (subst BeginsComment e begins)) h.1 (nothing later)))
+    subst (λ t. HasBlanks t later) (sym e.2)
+    (comment h.0 e.0 later later (line_begins h.0 e.0 later e.1 (subst BeginsComment e.2 begins)) h.1 e.1 (nothing later)))
     (λ e. subst (λ r. HasBlanks text r) (sym e.1) (last_comment text begins (subst IsInLine (sym e.0) h.1)))
     h.2
 
 pub line_shorter : (text later : List ℕ) → 0 < length text → IsBehindLine text later → length later < length text
 line_shorter text later some h =
-    ⊎_elim (λ e. let l = parts_length text h.0 (10 ∷ later) e in omega arith)
+    ⊎_elim (λ e. let l = parts_length text h.0 (e.0 ∷ later) e.2 in omega arith)
     (λ e. let l : length later ≡ 0 = ap length e.1 in omega arith)
     h.2
 
@@ -131,21 +135,23 @@ comment_followed line more h = (h.0 ++ more, ap (λ t. t ++ more) h.1)
 pub no_blank_left : {text rest : List ℕ} → HasBlanks text rest → HasNoSpace text → (BeginsComment text → ⊥) → rest ≡ text
 no_blank_left (nothing text) s k = refl
 no_blank_left (space c text rest w h) s k = absurd (s c text w refl)
-no_blank_left (comment line text rest b i h) s k = absurd (k (comment_followed line (10 ∷ text) b))
+no_blank_left (comment line c text rest b i e h) s k = absurd (k (comment_followed line (c ∷ text) b))
 no_blank_left (last_comment line b i) s k = absurd (k b)
 
 -- ---- lines
 
--- what `split_once` says of a line feed
+-- what `split_once` says of the first character that ends a line
 pub line_found : (text front later : List ℕ)
-    → (i : ℕ) × (j : ℕ) × FindsChar 10 text (Some (i, j)) × (front ≡ take i text) × (later ≡ drop j text)
+    → (i : ℕ) × (j : ℕ) × FindsBy ends_line text (Some (i, j)) × (front ≡ take i text) × (later ≡ drop j text)
     × (i ≤ j) × (length front ≡ i) × (length later + j ≡ length text)
     → IsBehindLine text later
-line_found text front later h = (
-  take h.0 text,
-  h.2.0,
-  inl (sym (take-append-drop h.0 text) ∙ ap (λ t. take h.0 text ++ t) (drop_at_char 10 text h.0 h.1 h.2.1 (omega arith) ∙ ap (λ t. 10 ∷ t) (sym h.4))),
-)
+line_found text front later h =
+    let end = h.2.1 in
+    let split = drop_at_char end.0 text h.0 h.1 end.2 (end_is_low end.0 end.1) in (
+      take h.0 text,
+      h.2.0,
+      inl (end.0, end.1, sym (take-append-drop h.0 text) ∙ ap (λ t. take h.0 text ++ t) (split ∙ ap (λ t. end.0 ∷ t) (sym h.4))),
+    )
 
-pub no_line_found : (text later : List ℕ) → FindsChar 10 text None → later ≡ [] → IsBehindLine text later
+pub no_line_found : (text later : List ℕ) → FindsBy ends_line text None → later ≡ [] → IsBehindLine text later
 no_line_found text later h e = (text, h, inr (refl, e))

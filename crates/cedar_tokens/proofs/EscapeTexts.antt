@@ -90,10 +90,10 @@ control_is_small c h = grind (arith, nat_tests)
 differs : (c k : ℕ) → (c == k) ≡ false → c ≡ k → ⊥
 differs c k e h = grind (arith, nat_tests)
 
-last_level : (c : ℕ) → (c == 92) ≡ false → Writes (if is_control c then code_text (hexadecimal c) else c ∷ []) c
-last_level c n = elim (is_control c) as (λ v. is_control c ≡ v → Writes (if v then code_text (hexadecimal c) else c ∷ []) c) [
+last_level : (c : ℕ) → (c == 13) ≡ false → (c == 92) ≡ false → Writes (if is_control c then code_text (hexadecimal c) else c ∷ []) c
+last_level c m n = elim (is_control c) as (λ v. is_control c ≡ v → Writes (if v then code_text (hexadecimal c) else c ∷ []) c) [
   | true ↦ λ e. code_written c (control_is_small c e)
-  | false ↦ λ e. itself (differs c 92 n)
+  | false ↦ λ e. itself (differs c 13 m) (differs c 92 n)
 ] refl
 
 char_written : (c : ℕ) → Writes (escape_char c) c
@@ -102,11 +102,11 @@ char_written c =
     level c 0 _ _ (by_letter refl) (λ _.
     level c 9 _ _ (by_letter refl) (λ _.
     level c 10 _ _ (by_letter refl) (λ _.
-    level c 13 _ _ (by_letter refl) (λ _.
+    level c 13 _ _ (by_letter refl) (λ m.
     level c 34 _ _ (by_letter refl) (λ _.
     level c 39 _ _ (by_letter refl) (λ _.
     level c 92 _ _ (by_letter refl) (λ n.
-    last_level c n)))))))
+    last_level c m n)))))))
 
 -- ---- an escape is a text
 
@@ -196,7 +196,7 @@ elem_written (elems.Char c) =
       | true ↦ λ h. (refl, ap (λ n. elems.Char n) (sym (eqb-true c 42 h)))
       | false ↦ λ h. (char_written c, rw h refl)
     ] refl
-elem_written elems.Wildcard = (itself (λ h. absurd (omega (arith, h))), refl)
+elem_written elems.Wildcard = (itself (λ h. absurd (omega (arith, h))) (λ h. absurd (omega (arith, h))), refl)
 
 elems_written : (es : List PatternElem) → IsInsideOfPattern (pattern_text es) es
 elems_written [] = ([], refl, refl)

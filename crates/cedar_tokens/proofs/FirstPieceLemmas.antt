@@ -27,9 +27,12 @@ first_value d ds = ap (λ n. digits_value_after 16 n ds) (zero_of (digit_value d
 
 -- ---- each way to write a character is read
 
-itself_read : (c : ℕ) (r : List ℕ) → c ≢ 92 → piece_at (c ∷ r) ≡ Some (Char c, r)
+itself_read : (c : ℕ) (r : List ℕ) → c ≢ 13 → c ≢ 92 → piece_at (c ∷ r) ≡ Some (Char c, r)
 unfolding piece_at
-itself_read c r n = let e : (c == 92) ≡ false = grind (arith, nat_tests) in rw e refl
+itself_read c r m n =
+    let e : (c == 92) ≡ false = grind (arith, nat_tests) in
+    let k : (c == 13) ≡ false = grind (arith, nat_tests) in
+    rw (e, k) refl
 
 -- a letter with no escape is none that has one
 no_letter : (k l c : ℕ) → letter_escape k ≡ None → letter_escape l ≡ Some c → (l == k) ≡ false
@@ -83,7 +86,7 @@ code_read (d ∷ ds) r some few all ok =
 
 char_read : (w : List ℕ) (c : ℕ) (r : List ℕ) → Writes w c → piece_at (w ++ r) ≡ Some (Char c, r)
 unfolding piece_at escape_at
-char_read w c r (itself n) = itself_read c r n
+char_read w c r (itself m n) = itself_read c r m n
 char_read w c r (by_letter {l} h) = letter_read l c r h
 char_read w c r (by_two_digits {h} {l} a b) = ap (option_map (λ x. (Char x.0, x.1))) (two_digits_read h l r a b)
 char_read w c r (by_code ds some few all ok) = ap (option_map (λ x. (Char x.0, x.1))) (code_read ds r some few all ok)
@@ -260,12 +263,13 @@ escape_sound (l ∷ cs) p r h =
     (chosen (l == 120) _ _ (p, r) k.1))
     (chosen (l == 42) _ _ (p, r) h)
 
-itself_sound : (c : ℕ) (cs : List ℕ) (p : Piece) (r : List ℕ) → (c == 92) ≡ false → found (Char c) cs ≡ Some (p, r)
+itself_sound : (c : ℕ) (cs : List ℕ) (p : Piece) (r : List ℕ) → (c == 92) ≡ false → (c == 13) ≡ false → found (Char c) cs ≡ Some (p, r)
     → (w : List ℕ) × (c ∷ cs ≡ w ++ r) × IsPieceText w p
-itself_sound c cs p r e h =
+itself_sound c cs p r e k h =
     let s = same_pair (Char c) p cs r h in
     let n : c ≢ 92 = grind (arith, nat_tests) in
-    (c ∷ [], ap (λ t. c ∷ t) s.1, subst (λ q. IsPieceText (c ∷ []) q) s.0 (itself n))
+    let m : c ≢ 13 = grind (arith, nat_tests) in
+    (c ∷ [], ap (λ t. c ∷ t) s.1, subst (λ q. IsPieceText (c ∷ []) q) s.0 (itself m n))
 
 pub piece_sound : (cs : List ℕ) (p : Piece) (r : List ℕ) → piece_at cs ≡ Some (p, r) → (w : List ℕ) × (cs ≡ w ++ r) × IsPieceText w p
 unfolding piece_at
@@ -274,5 +278,6 @@ piece_sound (c ∷ cs) p r h =
     ⊎_elim (λ k.
     let e = escape_sound cs p r k.1 in
     (92 ∷ e.0, ap (λ b. b ∷ cs) (eqb-true c 92 k.0) ∙ ap (λ t. 92 ∷ t) e.1, e.2))
-    (λ k. itself_sound c cs p r k.0 k.1)
-    (chosen (c == 92) (escape_at cs) (Some (Char c, cs)) (p, r) h)
+    (λ k. ⊎_elim (λ m. absurd (none_some (p, r) m.1)) (λ m. itself_sound c cs p r k.0 m.0 m.1)
+    (chosen (c == 13) None (Some (Char c, cs)) (p, r) k.1))
+    (chosen (c == 92) (escape_at cs) (if c == 13 then None else Some (Char c, cs)) (p, r) h)

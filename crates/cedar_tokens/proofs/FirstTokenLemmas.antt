@@ -54,16 +54,17 @@ prefix_passes p (b ∷ bs) = elim (p b) as (λ v. p b ≡ v → list_all p (take
 word_ascii : (b : ℕ) → goes_on b ≡ true → b < 128
 word_ascii b h = grind (arith, nat_tests)
 
--- what a word goes on with is ASCII
-in_word : (b : ℕ) (bs : List ℕ) → b < 128 → (k : ℕ) → k ≤ prefix_len goes_on bs → get_or (b ∷ bs) k 0 < 128
-in_word b bs h zero l = h
-in_word b bs h (suc k) l = word_ascii (get_or bs k 0) (prefix_len_passes goes_on bs k 0 (omega arith))
-
 letter_ascii : (b : ℕ) → begins_word b ≡ true → b < 128
 letter_ascii b h = grind (arith, nat_tests)
 
 digit_ascii : (b : ℕ) → is_ascii_digit b ≡ true → b < 128
 digit_ascii b h = grind (arith, nat_tests)
+
+-- what goes on with ASCII is ASCII
+module _ (p : ℕ → Bool) (ascii : (b : ℕ) → p b ≡ true → b < 128) where
+  in_ascii : (b : ℕ) (bs : List ℕ) → b < 128 → (k : ℕ) → k ≤ prefix_len p bs → get_or (b ∷ bs) k 0 < 128
+  in_ascii b bs h zero l = h
+  in_ascii b bs h (suc k) l = ascii (get_or bs k 0) (prefix_len_passes p bs k 0 (omega arith))
 
 -- ---- texts between quotes
 
@@ -246,17 +247,22 @@ sign_not_cut text n u h = elim (sign_of n text) as (λ o. sign_of n text ≡ o �
 abbrev pub IsFirst : List ℕ → Kind → ℕ → Type 0
 IsFirst text k n = (n ≤ length text) × EndsInAscii text n × IsTokenText (take n text) (full_kind k (take n text))
 
+prefix_first : (p : ℕ → Bool) → ((b : ℕ) → p b ≡ true → b < 128) → (k : Kind) (b : ℕ) (bs : List ℕ) → b < 128
+    → IsTokenText (b ∷ take (prefix_len p bs) bs) (full_kind k (b ∷ take (prefix_len p bs) bs))
+    → IsFirst (b ∷ bs) k (prefix_len p bs + 1)
+prefix_first p ascii k b bs h t =
+    let i = prefix_len p bs in
+    let l : i ≤ length bs = prefix_len-le-length p bs in
+    let n : suc i ≡ i + 1 = omega arith in (
+      omega arith,
+      (i, refl, omega arith, in_ascii p ascii b bs h i (omega arith)),
+      subst (λ m. IsTokenText (take m (b ∷ bs)) (full_kind k (take m (b ∷ bs)))) n t,
+    )
+
 word_first : (k : Kind) (b : ℕ) (bs : List ℕ) → b < 128
     → IsTokenText (b ∷ take (prefix_len goes_on bs) bs) (full_kind k (b ∷ take (prefix_len goes_on bs) bs))
     → IsFirst (b ∷ bs) k (prefix_len goes_on bs + 1)
-word_first k b bs h t =
-    let p = prefix_len goes_on bs in
-    let l : p ≤ length bs = prefix_len-le-length goes_on bs in
-    let n : suc p ≡ p + 1 = omega arith in (
-      omega arith,
-      (p, refl, omega arith, in_word b bs h p (omega arith)),
-      subst (λ m. IsTokenText (take m (b ∷ bs)) (full_kind k (take m (b ∷ bs)))) n t,
-    )
+word_first = prefix_first goes_on word_ascii
 
 quoted_first : (bs : List ℕ) (m : ℕ) → quoted_len false bs ≡ Some m → IsFirst (34 ∷ bs) kinds.Quoted (m + 1)
 quoted_first bs m e =
@@ -319,7 +325,9 @@ lexeme_first (b ∷ bs) k n e =
     subst (λ c. IsFirst (c ∷ bs) k n) (sym (eqb-true b 63 q))
     (given (63 ∷ bs) kinds.Slot k (p + 1) n (word_first kinds.Slot 63 bs (omega arith) (slot (take p bs) (prefix_passes goes_on bs))) f)) (λ _ e.
     chosen (is_ascii_digit b) _ _ _ e (λ q f.
-    given (b ∷ bs) kinds.Digits k (p + 1) n (word_first kinds.Digits b bs (digit_ascii b q) (digits b (take p bs) q (prefix_passes goes_on bs))) f) (λ _ e.
+    let d = prefix_len is_ascii_digit bs in
+    given (b ∷ bs) kinds.Digits k (d + 1) n
+    (prefix_first is_ascii_digit digit_ascii kinds.Digits b bs (digit_ascii b q) (digits b (take d bs) q (prefix_passes is_ascii_digit bs))) f) (λ _ e.
     chosen (begins_word b) _ _ _ e (λ q f.
     given (b ∷ bs) kinds.Word k (p + 1) n (word_first kinds.Word b bs (letter_ascii b q) (word b (take p bs) q (prefix_passes goes_on bs))) f)
     (λ _ e. sign_first (b ∷ bs) k n e))))
@@ -329,7 +337,7 @@ lexeme_first (b ∷ bs) k n e =
 abbrev IsFoundFrom : List ℕ → ℕ → Type 0
 IsFoundFrom text n = (k : Kind) × (m : ℕ) × (lexeme_at text ≡ Some (k, m)) × (n ≤ m)
 
-pub at_digit : (b : ℕ) (bs : List ℕ) → is_ascii_digit b ≡ true → lexeme_at (b ∷ bs) ≡ Some (kinds.Digits, prefix_len goes_on bs + 1)
+pub at_digit : (b : ℕ) (bs : List ℕ) → is_ascii_digit b ≡ true → lexeme_at (b ∷ bs) ≡ Some (kinds.Digits, prefix_len is_ascii_digit bs + 1)
 unfolding lexeme_at
 at_digit b bs h =
     let q : (b == 34) ≡ false = grind (arith, nat_tests) in
@@ -386,8 +394,8 @@ token_found (word b bs h all) text rest e =
     let covers = prefix_covers goes_on bs rest all in
     (kinds.Word, prefix_len goes_on (bs ++ rest) + 1, ap lexeme_at e ∙ at_letter b (bs ++ rest) h, omega arith)
 token_found (digits b bs h all) text rest e =
-    let covers = prefix_covers goes_on bs rest all in
-    (kinds.Digits, prefix_len goes_on (bs ++ rest) + 1, ap lexeme_at e ∙ at_digit b (bs ++ rest) h, omega arith)
+    let covers = prefix_covers is_ascii_digit bs rest all in
+    (kinds.Digits, prefix_len is_ascii_digit (bs ++ rest) + 1, ap lexeme_at e ∙ at_digit b (bs ++ rest) h, omega arith)
 token_found (slot bs all) text rest e =
     let covers = prefix_covers goes_on bs rest all in
     (kinds.Slot, prefix_len goes_on (bs ++ rest) + 1, ap lexeme_at e ∙ at_slot (bs ++ rest), omega arith)

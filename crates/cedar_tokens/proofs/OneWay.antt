@@ -6,11 +6,10 @@ use Rattle.std.proofs.lemmas.Bool.{false≢true}
 use Rattle.std.proofs.lemmas.Bool.Decides.{nat_tests}
 use Rattle.std.proofs.lemmas.List.{nil_from_length}
 use Rattle.std.proofs.lemmas.Option.{some_pair_parts}
-use Rattle.std.proofs.lemmas.Str.{char_from_byte, encode_same, len_utf8_bounds, length-encode}
-use Rattle.std.proofs.lemmas.Str.Pattern.{NoCharPasses-char}
+use Rattle.std.proofs.lemmas.Str.{NoCharPasses-byte, char_from_byte, encode_same, len_utf8_bounds, length-encode}
 use Rattle.std.proofs.Math.Seq.{get_or-append_seam}
 use Rattle.std.specs.Prelude.{◌&&◌, nat_lt}
-use Rattle.cedar_tokens.proofs.BlankLemmas.{comment_followed, no_blank_left, rest_fits}
+use Rattle.cedar_tokens.proofs.BlankLemmas.{comment_followed, end_is_low, no_blank_left, rest_fits}
 use Rattle.cedar_tokens.proofs.FirstPieceLemmas.{both}
 use Rattle.cedar_tokens.proofs.FirstTokenLemmas.{at_digit, at_letter, at_quote, at_sign, at_slot, sign_there}
 use Rattle.cedar_tokens.proofs.Signs.{begins_sign, found_passes, is_sign, sign_fits, sign_kept}
@@ -23,7 +22,7 @@ use Rattle.cedar_tokens.specs.declared.refusal.Refusal.TheVariants as refusal
 use Rattle.cedar_tokens.specs.declared.token.Kind.{Kind}
 use Rattle.cedar_tokens.specs.declared.token.Kind.TheVariants as kinds
 use Rattle.cedar_tokens.specs.declared.token.Token.{Token}
-use Rattle.cedar_tokens.specs.Blanks.{BeginsComment, HasBlanks, HasNoBlank, IsInLine, nothing, space, comment, last_comment}
+use Rattle.cedar_tokens.specs.Blanks.{BeginsComment, HasBlanks, HasNoBlank, IsInLine, ends_line, nothing, space, comment, last_comment}
 
 -- ---- blanks
 
@@ -39,28 +38,30 @@ space_is_no_slash text rest s k =
     let none : is_whitespace 47 ≡ true = subst (λ d. is_whitespace d ≡ true) (c ∙ first) s.1 in
     false≢true none
 
--- no line feed is in a line
-no_feed_in : (line front more : List ℕ) → IsInLine line → line ≡ front ++ (10 ∷ more) → ⊥
-no_feed_in line front more i e =
-    let l : length line ≡ length front + length (10 ∷ more) = ap length e ∙ length-append front (10 ∷ more) in
-    let here : get_or line (length front) 0 ≡ 10 = ap (λ t. get_or t (length front) 0) e ∙ get_or-append_seam front 10 more 0 in
-    NoCharPasses-char 10 line (length front) i (omega arith) (omega arith) here
+-- each byte does not end a line
+abbrev HasNoEnd : List ℕ → Type 0
+HasNoEnd line = (c : ℕ) (front more : List ℕ) → ends_line c ≡ true → line ≡ front ++ (c ∷ more) → ⊥
 
--- each byte is no line feed
-abbrev HasNoFeed : List ℕ → Type 0
-HasNoFeed line = (front more : List ℕ) → line ≡ front ++ (10 ∷ more) → ⊥
+-- nothing that ends a line is in one
+no_end_in : (line : List ℕ) → IsInLine line → HasNoEnd line
+no_end_in line i c front more ends e =
+    let l : length line ≡ length front + length (c ∷ more) = ap length e ∙ length-append front (c ∷ more) in
+    let here : get_or line (length front) 0 ≡ c = ap (λ t. get_or t (length front) 0) e ∙ get_or-append_seam front c more 0 in
+    let none = NoCharPasses-byte ends_line line (length front) i (omega arith) (omega (arith, here, end_is_low c ends)) in
+    false≢true (sym none ∙ (ap ends_line here ∙ ends))
 
-tail_has_none : (b : ℕ) (line : List ℕ) → HasNoFeed (b ∷ line) → HasNoFeed line
-tail_has_none b line h front more e = h (b ∷ front) more (ap (λ t. b ∷ t) e)
+tail_has_none : (b : ℕ) (line : List ℕ) → HasNoEnd (b ∷ line) → HasNoEnd line
+tail_has_none b line h c front more ends e = h c (b ∷ front) more ends (ap (λ t. b ∷ t) e)
 
 -- what stands behind the first line
-same_line : (line one : List ℕ) (more two : List ℕ) → HasNoFeed line → HasNoFeed one → line ++ (10 ∷ more) ≡ one ++ (10 ∷ two) → more ≡ two
-same_line [] [] more two h k e = cc
-same_line [] (y ∷ one) more two h k e = let q : 10 ≡ y = cc in absurd (k [] one (ap (λ b. b ∷ one) (sym q)))
-same_line (x ∷ line) [] more two h k e = let q : x ≡ 10 = cc in absurd (h [] line (ap (λ b. b ∷ line) q))
-same_line (x ∷ line) (y ∷ one) more two h k e =
-    let t : line ++ (10 ∷ more) ≡ one ++ (10 ∷ two) = cc in
-    same_line line one more two (tail_has_none x line h) (tail_has_none y one k) t
+same_line : (line one : List ℕ) (c d : ℕ) (more two : List ℕ) → HasNoEnd line → HasNoEnd one → ends_line c ≡ true → ends_line d ≡ true
+    → line ++ (c ∷ more) ≡ one ++ (d ∷ two) → more ≡ two
+same_line [] [] c d more two h k x y e = cc
+same_line [] (b ∷ one) c d more two h k x y e = let q : c ≡ b = cc in absurd (k c [] one x (ap (λ a. a ∷ one) (sym q)))
+same_line (a ∷ line) [] c d more two h k x y e = let q : a ≡ d = cc in absurd (h d [] line y (ap (λ b. b ∷ line) q))
+same_line (a ∷ line) (b ∷ one) c d more two h k x y e =
+    let t : line ++ (c ∷ more) ≡ one ++ (d ∷ two) = cc in
+    same_line line one c d more two (tail_has_none a line h) (tail_has_none b one k) x y t
 
 -- blanks that stand before are no end
 not_here : (text rest : List ℕ) → HasNoBlank text → HasBlanks text rest → length rest < length text → ⊥
@@ -73,40 +74,40 @@ after_space (nothing text) rest s none =
     let l : length text ≡ length (encode_utf8 s.0) + length rest = ap length s.2 ∙ length-append (encode_utf8 s.0) rest in
     absurd (not_here text rest none b (omega (arith, l, length-encode s.0, (len_utf8_bounds s.0).0)))
 after_space (space d text c w h) rest s none = subst (λ t. HasBlanks t c) (encode_same d s.0 text rest s.2).1 h
-after_space (comment line text c b i h) rest s none =
-    absurd (space_is_no_slash (line ++ (10 ∷ text)) rest s (comment_followed line (10 ∷ text) b))
+after_space (comment line d text c b i e h) rest s none =
+    absurd (space_is_no_slash (line ++ (d ∷ text)) rest s (comment_followed line (d ∷ text) b))
 after_space (last_comment line b i) rest s none = absurd (space_is_no_slash line rest s b)
 
--- the text begins with a comment and its line feed, and then this
+-- the text begins with a comment and what ends it, and then this
 abbrev BeginsLine : List ℕ → List ℕ → Type 0
-BeginsLine text rest = (line : List ℕ) × BeginsComment line × IsInLine line × (text ≡ line ++ (10 ∷ rest))
+BeginsLine text rest = (line : List ℕ) × (c : ℕ) × BeginsComment line × IsInLine line × (ends_line c ≡ true) × (text ≡ line ++ (c ∷ rest))
 
 after_line : {text c : List ℕ} → HasBlanks text c → (rest : List ℕ) → BeginsLine text rest → HasNoBlank c → HasBlanks rest c
 after_line (nothing text) rest s none =
     let b : HasBlanks text rest =
-    subst (λ t. HasBlanks t rest) (sym s.3) (comment s.0 rest rest s.1 s.2 (nothing rest)) in
-    let l : length text ≡ length s.0 + length (10 ∷ rest) = ap length s.3 ∙ length-append s.0 (10 ∷ rest) in
+    subst (λ t. HasBlanks t rest) (sym s.5) (comment s.0 s.1 rest rest s.2 s.3 s.4 (nothing rest)) in
+    let l : length text ≡ length s.0 + length (s.1 ∷ rest) = ap length s.5 ∙ length-append s.0 (s.1 ∷ rest) in
     absurd (not_here text rest none b (omega arith))
 after_line (space d text c w h) rest s none =
     absurd (space_is_no_slash (encode_utf8 d ++ text) text (d, w, refl)
-    (subst BeginsComment (sym s.3) (comment_followed s.0 (10 ∷ rest) s.1)))
-after_line (comment line text c b i h) rest s none =
+    (subst BeginsComment (sym s.5) (comment_followed s.0 (s.1 ∷ rest) s.2)))
+after_line (comment line d text c b i e h) rest s none =
     subst (λ t. HasBlanks t c)
-    (same_line line s.0 text rest (λ f m. no_feed_in line f m i) (λ f m. no_feed_in s.0 f m s.2) s.3) h
-after_line (last_comment line b i) rest s none = absurd (no_feed_in line s.0 rest i s.3)
+    (same_line line s.0 d s.1 text rest (no_end_in line i) (no_end_in s.0 s.3) e s.4 s.5) h
+after_line (last_comment line b i) rest s none = absurd (no_end_in line i s.1 s.0 rest s.4 s.5)
 
--- nothing stands behind a comment without a line feed
+-- nothing stands behind a comment that nothing ends
 after_last : {text c : List ℕ} → HasBlanks text c → BeginsComment text → IsInLine text → HasNoBlank c → c ≡ []
 after_last (nothing text) b i none = sym (none [] (last_comment text b i))
 after_last (space d text c w h) b i none = absurd (space_is_no_slash (encode_utf8 d ++ text) text (d, w, refl) b)
-after_last (comment line text c b' i' h) b i none = absurd (no_feed_in (line ++ (10 ∷ text)) line text i refl)
+after_last (comment line d text c b' i' e h) b i none = absurd (no_end_in (line ++ (d ∷ text)) i d line text e refl)
 after_last (last_comment line b' i') b i none = refl
 
 -- blanks end in one place
 pub blanks_one_way : {text b : List ℕ} → HasBlanks text b → HasNoBlank b → (c : List ℕ) → HasBlanks text c → HasNoBlank c → b ≡ c
 blanks_one_way (nothing text) none c k done = sym (none c k)
 blanks_one_way (space d text b w h) none c k done = blanks_one_way h none c (after_space k text (d, w, refl) done) done
-blanks_one_way (comment line text b q i h) none c k done = blanks_one_way h none c (after_line k text (line, q, i, refl) done) done
+blanks_one_way (comment line d text b q i e h) none c k done = blanks_one_way h none c (after_line k text (line, d, q, i, e, refl) done) done
 blanks_one_way (last_comment line b i) none c k done = sym (after_last k b i done)
 
 -- ---- what a token begins with

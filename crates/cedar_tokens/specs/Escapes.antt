@@ -18,10 +18,10 @@ letter_escape l =
     (if l == 114 then Some 13 else
     (if l == 34 || l == 39 || l == 92 then Some l else None))))
 
--- how a character may be written: as it is, unless it is a backslash; by a backslash and a letter; by `\x` and two
+-- how a character may be written: as it is, unless it is a carriage return or a backslash; by a backslash and a letter; by `\x` and two
 -- hexadecimal digits, below 80; by `\u{`, one to six hexadecimal digits and `}`
 pub data Writes : List ℕ → ℕ → Type 0 where
-  itself : {c : ℕ} → c ≢ 92 → Writes (c ∷ []) c
+  itself : {c : ℕ} → c ≢ 13 → c ≢ 92 → Writes (c ∷ []) c
   by_letter : {l c : ℕ} → letter_escape l ≡ Some c → Writes (92 ∷ l ∷ []) c
   by_two_digits : {h l : ℕ} → digit_value h < 8 → digit_value l < 16 → Writes (92 ∷ 120 ∷ h ∷ l ∷ []) (digit_value h * 16 + digit_value l)
   by_code : (ds : List ℕ) → 0 < length ds → length ds ≤ 6 → AllDigits 16 ds → IsScalar (digits_value 16 ds) → Writes (92 ∷ 117 ∷ 123 ∷ (ds ++ (125 ∷ []))) (digits_value 16 ds)

@@ -1,4 +1,4 @@
--- How a piece of a text is shown to who wrote it.
+-- How a piece of a text is shown to its author.
 use Rattle.std.specs.Prelude.{Bool, ◌&&◌, ◌||◌, ℕ, ◌==◌, nat_lt, List, [], ◌++◌, codes, drop, if◌then◌else◌, length, map, max, replicate, slice_index, take}
 use Rattle.std.specs.Fmt.{is_char_start}
 use Rattle.std.specs.Str.{chars}

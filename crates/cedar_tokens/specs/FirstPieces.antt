@@ -49,4 +49,4 @@ escape_at (l ∷ cs) =
 -- a piece
 unfoldable pub piece_at : List ℕ → Option (Piece × List ℕ)
 piece_at [] = None
-piece_at (c ∷ cs) = if c == 92 then escape_at cs else Some (Char c, cs)
+piece_at (c ∷ cs) = if c == 92 then escape_at cs else (if c == 13 then None else Some (Char c, cs))

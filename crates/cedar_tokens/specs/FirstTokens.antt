@@ -33,7 +33,7 @@ lexeme_at [] = None
 lexeme_at (b ∷ bs) =
     if b == 34 then option_map (λ n. (kinds.Quoted, n + 1)) (quoted_len false bs) else
     (if b == 63 then Some (kinds.Slot, prefix_len goes_on bs + 1) else
-    (if is_ascii_digit b then Some (kinds.Digits, prefix_len goes_on bs + 1) else
+    (if is_ascii_digit b then Some (kinds.Digits, prefix_len is_ascii_digit bs + 1) else
     (if begins_word b then Some (kinds.Word, prefix_len goes_on bs + 1) else
     longest_sign (b ∷ bs))))
 

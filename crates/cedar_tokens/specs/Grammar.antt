@@ -20,10 +20,10 @@ pub data IsBetweenQuotes : List ℕ → Type 0 where
   plain : (b : ℕ) (bs : List ℕ) → b ≢ 34 → b ≢ 92 → IsBetweenQuotes bs → IsBetweenQuotes (b ∷ bs)
   escaped : (b : ℕ) (bs : List ℕ) → IsBetweenQuotes bs → IsBetweenQuotes (92 ∷ b ∷ bs)
 
--- the text is a token of this kind; what begins with a digit goes on as a word does
+-- the text is a token of this kind
 pub data IsTokenText : List ℕ → Kind → Type 0 where
   word : (b : ℕ) (bs : List ℕ) → begins_word b ≡ true → list_all goes_on bs ≡ true → IsTokenText (b ∷ bs) (word_kind_of (b ∷ bs))
-  digits : (b : ℕ) (bs : List ℕ) → is_ascii_digit b ≡ true → list_all goes_on bs ≡ true → IsTokenText (b ∷ bs) kinds.Digits
+  digits : (b : ℕ) (bs : List ℕ) → is_ascii_digit b ≡ true → list_all is_ascii_digit bs ≡ true → IsTokenText (b ∷ bs) kinds.Digits
   slot : (bs : List ℕ) → list_all goes_on bs ≡ true → IsTokenText (63 ∷ bs) kinds.Slot
   quoted : (inside : List ℕ) → IsBetweenQuotes inside → IsTokenText (34 ∷ (inside ++ (34 ∷ []))) kinds.Quoted
   sign : (s : List ℕ) (kind : Kind) → sign_kind_of s ≡ Some kind → IsTokenText s kind

@@ -51,7 +51,7 @@ IsToldAt at text told refusal.Memory = ⊥
 -- what is told where no token begins
 abbrev pub problem_of : List ℕ → List ℕ
 problem_of text =
-    if slice_index text 0 == 34 then codes "this text has no closing quote" else codes "no expression has this character"
+    if slice_index text 0 == 34 then codes "this text has no closing quote" else codes "no part of an expression begins here"
 
 -- no token begins here, and the refusal tells so
 abbrev pub IsUnread : ℕ → List ℕ → Refusal → Type 0

@@ -87,7 +87,7 @@ impl From<AllocError> for ReadError {
     }
 }
 
-/// A piece of a text as it is shown to who wrote it: the line in which it begins, and carets below
+/// A piece of a text as it is shown to its author: the line in which it begins, and carets below
 /// the piece.
 ///
 /// ```text

@@ -12,7 +12,9 @@ use std::convert::Infallible;
 /// Why the reader stops: a problem with a piece of the text, or memory ran out.
 #[derive(Debug, Drop)]
 pub enum Refusal {
+    /// What is wrong with a piece of the text.
     Syntax(Span, &'static str),
+    /// Memory was wanted, and none was given.
     Memory,
 }
 

@@ -19,6 +19,7 @@ ghost use Rattle.std.specs.Prelude.{
   not,
   ⊤,
 };
+ghost use Rattle.std.specs.Char.{is_ascii_digit};
 ghost use Rattle.std.specs.List.{prefix_len};
 ghost use Rattle.std.specs.Str.{chars};
 ghost use Rattle.cedar_tokens.specs.Blanks.{
@@ -95,7 +96,7 @@ fn begins_comment(text: &str) -> bool
 fn behind_line(text: &str) -> &str
     ensures { IsBehindLine text.now result.now }
 {
-    match text.split_once('\n') {
+    match text.split_once(['\n', '\r']) {
         Some((_, later)) => later,
         None => "",
     }
@@ -151,7 +152,7 @@ fn lexeme(text: &str, start: usize) -> Result<(Kind, usize), Refusal>
         },
         [b'?', later @ ..] => Ok((Kind::Slot, word_length(later) + 1)),
         [first, later @ ..] if first.is_ascii_digit() => {
-            Ok((Kind::Digits, word_length(later) + 1))
+            Ok((Kind::Digits, digits_length(later) + 1))
         }
         [first, later @ ..] if starts_word(*first) => Ok((Kind::Word, word_length(later) + 1)),
         _ => sign(text, start),
@@ -165,11 +166,11 @@ fn sign(text: &str, start: usize) -> Result<(Kind, usize), Refusal>
         (λ x. longest_sign text.now ≡ Some x)
         (λ _. longest_sign text.now ≡ None) }
     ensures told { MatchResult result (λ _. ⊤)
-        (IsToldAt start text.now (codes "no expression has this character")) }
+        (IsToldAt start text.now (codes "no part of an expression begins here")) }
 {
     match sign_at(text) {
         Some(sign) => Ok(sign),
-        None => Err(refusal(text, start, "no expression has this character")),
+        None => Err(refusal(text, start, "no part of an expression begins here")),
     }
 }
 
@@ -193,6 +194,17 @@ fn word_length(bytes: &[u8]) -> usize
     ensures bound { result ≤ length bytes.now }
 {
     bytes.iter().take_while(|byte| is_in_word(**byte)).count()
+}
+
+// The length of the digits at the beginning.
+fn digits_length(bytes: &[u8]) -> usize
+    ensures exact { result ≡ prefix_len is_ascii_digit bytes.now }
+    ensures bound { result ≤ length bytes.now }
+{
+    bytes
+        .iter()
+        .take_while(|byte| byte.is_ascii_digit())
+        .count()
 }
 
 // The length up to and with the closing quote, if there is one.

@@ -4,48 +4,79 @@ ghost use Rattle.cedar_tokens.specs.FirstTokens.{longest_sign, sign_of};
 ghost use Rattle.cedar_tokens.specs.Kinds.{sign_kind_of, word_kind_of};
 
 /// What a token is.
-#[derive(Clone, Copy, PartialEq, Eq)]
+#[derive(Clone, Copy, Debug, PartialEq, Eq)]
 pub enum Kind {
     /// An identifier that is no word of the grammar.
     Word,
-    /// A decimal digit, with the letters, digits and underscores that follow.
+    /// Decimal digits.
     Digits,
     /// A text between double quotes, which the token has too.
     Quoted,
     /// A question mark, with the letters, digits and underscores that follow.
     Slot,
+    /// `true`.
     True,
+    /// `false`.
     False,
+    /// `if`.
     If,
+    /// `then`.
     Then,
+    /// `else`.
     Else,
+    /// `in`.
     In,
+    /// `is`.
     Is,
+    /// `like`.
     Like,
+    /// `has`.
     Has,
     /// `__cedar`, which may name nothing.
     Reserved,
+    /// `||`.
     OrSign,
+    /// `&&`.
     AndSign,
+    /// `==`.
     Equal,
+    /// `!=`.
     NotEqual,
+    /// `<=`.
     LessEqual,
+    /// `>=`.
     GreaterEqual,
+    /// `<`.
     Less,
+    /// `>`.
     Greater,
+    /// `+`.
     Plus,
+    /// `-`.
     Minus,
+    /// `*`.
     Times,
+    /// `!`.
     Not,
+    /// `.`.
     Dot,
+    /// `,`.
     Comma,
+    /// `::`.
     Colons,
+    /// `:`.
     Colon,
+    /// `(`.
     OpenRound,
+    /// `)`.
     CloseRound,
+    /// `[`.
     OpenSquare,
+    /// `]`.
     CloseSquare,
+    /// `{`.
     OpenCurly,
+    /// `}`.
     CloseCurly,
     /// The end of the text, which is no token of it.
     End,
@@ -54,7 +85,9 @@ pub enum Kind {
 /// A piece of a text, by the bytes where it begins and ends.
 #[derive(Clone, Copy, Debug)]
 pub struct Span {
+    /// The first byte of it.
     pub start: usize,
+    /// The first byte behind it.
     pub stop: usize,
 }
 
@@ -72,10 +105,13 @@ impl Span {
 }
 
 /// A token: what it is, its text, and where it stands.
-#[derive(Clone, Copy)]
+#[derive(Clone, Copy, Debug)]
 pub struct Token<'a> {
+    /// What it is.
     pub kind: Kind,
+    /// Its text.
     pub text: &'a str,
+    /// Where that stands.
     pub span: Span,
 }
 

@@ -34,7 +34,15 @@ true && (false && true) || (true || false)
 
 !!true
 
-!-!-principal
+!(-principal)
+
+!-principal
+
+1in [1, 2]
+
+if 1<2then 3 else 4
+
+true // a comment ends at a carriage return&& false
 
 !(principal in resource)
 
@@ -96,6 +104,8 @@ unknown("x") < 1 + unknown("a \"b\"")
 "abc
 
 1 == "\q"
+
+"a barecarriage return"
 
 "a\*"
 
