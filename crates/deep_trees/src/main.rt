@@ -1,6 +1,6 @@
-//! Chains of expressions, each one inside the next, that are made, substituted, built, shown,
-//! checked and dropped on the usual stack; and chains of values, whose expressions are written and
-//! read back.
+//! Chains of as many expressions as the argument says, each one inside the next, that are made,
+//! substituted, built, shown, checked and dropped on the usual stack; and chains of values, whose
+//! expressions are written and read back.
 #![tactic(auto)]
 
 mod checks;
@@ -14,8 +14,8 @@ use cedar_sketch::Sketch;
 use cedar_terms::{Literal, Pattern, PatternElem, Unknown, Var};
 use std::alloc::{AllocError, Global};
 use std::collections::HashMap;
-use std::io;
 use std::rc::RcStr;
+use std::{env, io};
 
 // How an expression stands in the next one.
 #[derive(Clone, Copy, Debug)]
@@ -32,27 +32,25 @@ enum Chain {
     Record,
 }
 
-const LEVELS: usize = 1_000_000;
-
-// Levels of records, which take most memory.
-const RECORDS: usize = 100_000;
-
 fn main(rt: HostRuntime) -> io::Result<()> {
+    let levels = levels(&rt)?;
+    // Records take most memory.
+    let records = levels / 10;
     let chains = [
-        (Chain::Not, "not", LEVELS),
-        (Chain::Left, "left operand", LEVELS),
-        (Chain::Right, "right operand", LEVELS),
-        (Chain::Test, "test of if", LEVELS),
-        (Chain::Else, "else of if", LEVELS),
-        (Chain::Get, "get", LEVELS),
-        (Chain::Like, "like", LEVELS),
-        (Chain::Call, "call", LEVELS),
-        (Chain::Set, "middle of a set", LEVELS),
-        (Chain::Record, "record", RECORDS),
+        (Chain::Not, "not", levels),
+        (Chain::Left, "left operand", levels),
+        (Chain::Right, "right operand", levels),
+        (Chain::Test, "test of if", levels),
+        (Chain::Else, "else of if", levels),
+        (Chain::Get, "get", levels),
+        (Chain::Like, "like", levels),
+        (Chain::Call, "call", levels),
+        (Chain::Set, "middle of a set", levels),
+        (Chain::Record, "record", records),
     ];
     for (chain, name, levels) in chains {
         let text = work(rt.alloc(), chain, levels)?;
-        println!(rt; "{name}: {levels} levels, shown in {} bytes", text.len())?;
+        println!(rt; "{name}: shown in {} bytes a level", each(&text, levels))?;
     }
     let innermost = [
         ("unknown in sets", unknown(rt.alloc())?),
@@ -60,25 +58,38 @@ fn main(rt: HostRuntime) -> io::Result<()> {
         ("call in sets", make_call(rt.alloc(), unknown(rt.alloc())?)?),
     ];
     for (name, expr) in innermost {
-        let found = check(rt.alloc(), expr)?;
+        let found = check(rt.alloc(), expr, levels)?;
         println!(rt;
-            "{name}: {LEVELS} levels, restricted: {}, valid: {}",
+            "{name}: restricted: {}, valid: {}",
             found.is_restricted, found.is_valid
         )?;
     }
     let nests = [
-        (Nest::Set, "set of values", LEVELS),
-        (Nest::Record, "record of values", RECORDS),
+        (Nest::Set, "set of values", levels),
+        (Nest::Record, "record of values", records),
     ];
     for (nest, name, levels) in nests {
         let shown = show_value(rt.alloc(), nest, levels)?;
         println!(rt;
-            "{name}: {levels} levels, entities: {}, shown in {} bytes",
+            "{name}: entities: {}, shown in {} bytes a level",
             shown.entities,
-            shown.text.len()
+            each(&shown.text, levels)
         )?;
     }
     Ok(())
+}
+
+// How many levels the argument asks for.
+fn levels(rt: &HostRuntime) -> io::Result<usize> {
+    let argument = env::args(rt)?.nth(1);
+    argument
+        .and_then(|word| word.parse().ok())
+        .ok_or(io::ErrorKind::InvalidInput.into())
+}
+
+// The bytes of a text for each level.
+fn each(text: &str, levels: usize) -> usize {
+    text.len().checked_div(levels).unwrap_or(0)
 }
 
 // The text of a chain over the unknown x, in which x is put in as `true`, and which is built again.
@@ -100,8 +111,8 @@ struct Checked {
 }
 
 // The expression inside sets.
-fn check(alloc: Global, innermost: Expr) -> Result<Checked, AllocError> {
-    let expr = make_over(alloc, Chain::Set, LEVELS, innermost)?;
+fn check(alloc: Global, innermost: Expr, levels: usize) -> Result<Checked, AllocError> {
+    let expr = make_over(alloc, Chain::Set, levels, innermost)?;
     Ok(Checked {
         is_restricted: is_restricted(alloc, expr.clone(alloc)?)?,
         is_valid: is_valid(alloc, expr)?,
