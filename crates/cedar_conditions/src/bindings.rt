@@ -96,7 +96,10 @@ impl Bindings {
                 put(&mut self.values, name.clone()?, value)?;
                 Expr::unknown(Unknown::new_untyped(name.clone()?))
             }
-            None => expr,
+            None => {
+                drop(self.values.remove(name.as_str()));
+                expr
+            }
         };
         put(&mut self.read_as, name, read_as)
     }

@@ -2,7 +2,6 @@
 ghost use Rattle.std.specs.Prelude.{◌≡◌};
 ghost use Rattle.cedar_conditions.specs.declared.json.NoValue.TheVariants.{Memory};
 
-use cedar_builders::ExpressionConstructionError;
 use cedar_exprs::Expr;
 use cedar_names::{FromNormalizedStr as _, Name, ParseErrors};
 use cedar_terms::{EntityType, EntityUID, Literal};
@@ -73,10 +72,13 @@ fn object_of(alloc: Global, members: &Map<String, Value>) -> Result<Expr, NoValu
     if let Some(call) = members.get("__extn") {
         return call_of(alloc, call);
     }
+    if members.contains_key("__expr") {
+        return Err(NoValue::Because("`__expr` is no value"));
+    }
     record_of(alloc, members)
 }
 
-// The record of some values.
+// The record of some values. As a map has a key once, only memory can be wanting.
 #[cycle(values)]
 fn record_of(alloc: Global, members: &Map<String, Value>) -> Result<Expr, NoValue> {
     let mut pairs = Vec::with_capacity(alloc, members.len())?;
@@ -84,11 +86,7 @@ fn record_of(alloc: Global, members: &Map<String, Value>) -> Result<Expr, NoValu
         let key = RcStr::from_str(alloc, key)?;
         pairs.push((key, expr_of(alloc, member)?))?;
     }
-    match Expr::record(alloc, pairs) {
-        Ok(record) => Ok(record),
-        Err(ExpressionConstructionError::Memory) => Err(NoValue::Memory),
-        Err(_) => Err(NoValue::Because("a key stands twice")),
-    }
+    Expr::record(alloc, pairs).map_err(|_| NoValue::Memory)
 }
 
 // The call that the member `__extn` of an object describes.

@@ -3,7 +3,6 @@
 
 use anyhow::Result;
 use cedar_conditions::{Bindings, evaluate_condition};
-use std::alloc::{AllocError, Global};
 use std::io::{BufRead as _, BufReader};
 
 fn main(rt: HostRuntime) -> Result<()> {
