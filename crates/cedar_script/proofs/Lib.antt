@@ -1,4 +1,5 @@
 pub mod Stacks
 pub mod Pairs
 pub mod Spelling
+pub mod Reading
 pub mod Bindings

@@ -1,6 +1,8 @@
 -- The words that ask for each command.
-use Rattle.std.specs.Prelude.{◌≡◌, List, [], ◌∷◌, None, Some, map, codes}
+use Rattle.std.specs.Prelude.{◌≡◌, ◌==◌, ◌⊎◌, List, [], ◌∷◌, ◌++◌, None, Some, map, codes}
+use Rattle.std.specs.List.{slice_split}
 use Rattle.std.specs.Borrow.{Bor}
+use Rattle.std.specs.Str.{chars}
 use Rattle.std.specs.Str.Parse.{digits_value, signed_digits_value}
 use Rattle.cedar_names.specs.Names.{IsNameOf}
 use Rattle.cedar_names.specs.PlainNames.{bare_name}
@@ -12,6 +14,7 @@ use Rattle.cedar_terms.specs.Types.{bare_type, type_text}
 use Rattle.cedar_terms.specs.declared.ops.UnaryOp.{UnaryOp}
 use Rattle.cedar_terms.specs.declared.ops.UnaryOp.TheVariants.{Not, Neg, IsEmpty}
 use Rattle.cedar_builders.specs.BareExpr.{Text}
+use Rattle.cedar_script.specs.Patterns.{spelling}
 use Rattle.cedar_script.specs.Words.{WritesCount, WritesLong}
 use Rattle.cedar_script.specs.declared.line.Command.{Command}
 use Rattle.cedar_script.specs.declared.line.Command.TheVariants.{Bool, Long, String, Var, Slot, Unknown, If, And, Or, RawAnd, RawOr, Unary, Binary, Call, Get, Has, ExtHas, Like, Is, Set, Record, Bind, Substitute, Typed, Show, Eval, Simplify}
@@ -76,3 +79,13 @@ Spells Typed ws = Alone (codes "typed") ws
 Spells Show ws = Alone (codes "show") ws
 Spells Eval ws = Alone (codes "eval") ws
 Spells Simplify ws = Alone (codes "simplify") ws
+
+-- the words of a text: what stands between its spaces
+abbrev pub words_of : Text → List Text
+words_of = slice_split (λ b. b == 32)
+
+-- the text asks for the command: behind `string` and `like` the rest of the line counts as it is, any other command is words
+abbrev pub Reads : Text → Command → Type 0
+Reads text (String s) = ((text ≡ codes "string") × (s.now ≡ [])) ⊎ (text ≡ codes "string " ++ s.now)
+Reads text (Like p) = ((text ≡ codes "like") × (p ≡ [])) ⊎ ((rest : Text) × (text ≡ codes "like " ++ rest) × (chars rest ≡ spelling p))
+Reads text command = Spells command (words_of text)

@@ -1,5 +1,5 @@
 //! The lines of the script, read as commands.
-ghost use Rattle.std.specs.Prelude.{◌≡◌, ◌≢◌, ◌==◌, ◌⊎◌, ◌∷◌, [], IfOk, OnErr, IfErr, false, slice_index};
+ghost use Rattle.std.specs.Prelude.{◌≡◌, ◌≢◌, ◌==◌, ◌⊎◌, ◌∷◌, [], IfOk, OnErr, IfErr, IsTrue, false, slice_index};
 ghost use Rattle.std.specs.Result.{OkIff};
 ghost use Rattle.std.specs.Str.Parse.{digits_value, signed_digits_value};
 ghost use Rattle.cedar_names.specs.Names.{IsNameOf, has_reserved};
@@ -11,7 +11,7 @@ ghost use Rattle.cedar_terms.specs.Ops.{binary_op_text, var_text};
 ghost use Rattle.cedar_terms.specs.Types.{bare_type, type_text};
 ghost use Rattle.cedar_terms.specs.declared.ops.BinaryOp.{BinaryOp};
 ghost use Rattle.cedar_terms.specs.declared.var.Var.{Var};
-ghost use Rattle.cedar_script.specs.CommandWords.{texts_now, Spells};
+ghost use Rattle.cedar_script.specs.CommandWords.{texts_now, words_of, Spells, Reads};
 ghost use Rattle.cedar_script.specs.Words.{IsNoName, WritesCount, WritesLong};
 
 use crate::pattern::parse_pattern;
@@ -89,7 +89,8 @@ impl<'a> Command<'a> {
     /// Words are separated by one space each, and none is empty; after `string` and `like` the rest
     /// of the line is taken as it is. What is no command is a bad line.
     pub fn parse(alloc: Global, text: &'a str) -> Result<Command<'a>, Refusal>
-        ensures { IfErr result (λ e. (e ≡ Refusal.BadLine) ⊎ (e ≡ Refusal.Memory)) }
+        ensures reads { IfOk result (λ command. Reads text.now command) }
+        ensures refused { IfErr result (λ e. (e ≡ Refusal.BadLine) ⊎ (e ≡ Refusal.Memory)) }
     {
         let Some((first, rest)) = text.split_once(' ') else {
             return parse_alone(alloc, text);
@@ -105,13 +106,16 @@ impl<'a> Command<'a> {
 }
 
 // Whether a text is a word: it is not empty, and has no space.
-fn is_word(text: &str) -> bool {
+fn is_word(text: &str) -> bool
+    ensures { IsTrue result → words_of text.now ≡ text.now ∷ [] }
+{
     !text.is_empty() && !text.as_bytes().contains(&b' ')
 }
 
 // The command that the words of a line spell, three or more.
 fn parse_each<'a>(alloc: Global, text: &'a str) -> Result<Command<'a>, Refusal>
-    ensures { IfErr result (λ e. (e ≡ Refusal.BadLine) ⊎ (e ≡ Refusal.Memory)) }
+    ensures spelled { IfOk result (λ command. Spells command (words_of text.now)) }
+    ensures refused { IfErr result (λ e. (e ≡ Refusal.BadLine) ⊎ (e ≡ Refusal.Memory)) }
 {
     let words: Vec<&str> = text.split(' ').collect(alloc)?;
     if words.iter().any(|word| word.is_empty()) {
