@@ -1,18 +1,10 @@
-//! Scripts that nest expressions very many levels deep, and that bind, substitute, simplify, show
-//! and evaluate them: each is worked on the usual stack.
+//! Scripts that nest expressions as many levels deep as the argument says, and that bind,
+//! substitute, simplify, show and evaluate them: each is worked on the usual stack.
 #![tactic(auto)]
 
 use cedar_script::{RunFault, run};
 use std::alloc::{AllocError, Global};
-use std::io;
-
-const LEVELS: usize = 1_000_000;
-
-// Levels of records, which take most memory.
-const RECORDS: usize = 100_000;
-
-// Levels of a value that is bound.
-const BOUND: usize = 10_000;
+use std::{env, io};
 
 // A script that nests an expression.
 #[derive(Drop)]
@@ -72,25 +64,39 @@ impl Nest {
 }
 
 fn main(rt: HostRuntime) -> io::Result<()> {
+    let levels = levels(&rt)?;
+    // Records take most memory, and a value that is bound is walked over most often.
+    let (records, bound) = (levels / 10, levels / 100);
     let nests = [
-        Nest::of_unknown("!", "!\n", LEVELS),
-        Nest::of_unknown("and", "bool true\nand\n", LEVELS),
-        Nest::of_unknown("set", "set 1\n", LEVELS),
-        Nest::of_unknown("record", "record a\n", RECORDS),
-        Nest::of_unknown("like", "like a*\n", LEVELS),
-        Nest::of_sums("+", "long 1\n+\n", LEVELS),
-        Nest::of_value("bound set", "set 1\n", BOUND),
-        Nest::of_value("bound record", "record a\n", BOUND),
+        Nest::of_unknown("!", "!\n", levels),
+        Nest::of_unknown("and", "bool true\nand\n", levels),
+        Nest::of_unknown("set", "set 1\n", levels),
+        Nest::of_unknown("record", "record a\n", records),
+        Nest::of_unknown("like", "like a*\n", levels),
+        Nest::of_sums("+", "long 1\n+\n", levels),
+        Nest::of_value("bound set", "set 1\n", bound),
+        Nest::of_value("bound record", "record a\n", bound),
     ];
     for nest in &nests {
-        let (name, levels) = (nest.name, nest.levels);
+        let name = nest.name;
         let script = nest.script(rt.alloc())?;
         match shown(rt.alloc(), &script) {
-            Ok(text) => println!(rt; "{name}: {levels} levels, shown in {} bytes", text.len())?,
+            Ok(text) => {
+                let each = text.len().checked_div(nest.levels).unwrap_or(0);
+                println!(rt; "{name}: shown in {each} bytes a level")?
+            }
             Err(fault) => println!(rt; "{name}: {fault}")?,
         }
     }
     Ok(())
+}
+
+// How many levels the argument asks for.
+fn levels(rt: &HostRuntime) -> io::Result<usize> {
+    let argument = env::args(rt)?.nth(1);
+    argument
+        .and_then(|word| word.parse().ok())
+        .ok_or(io::ErrorKind::InvalidInput.into())
 }
 
 // All that a script shows.
