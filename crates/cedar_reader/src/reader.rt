@@ -39,7 +39,8 @@ use std::rc::RcStr;
 ///
 /// It takes any name for that of a function or a method, `unknown("x")` for an unknown, and refuses
 /// only what is no expression: what is outside the grammar, an integer outside 64 bits, and a key
-/// that stands twice in a record. `true && false` stays as it stands. No depth of the text ends it.
+/// that stands twice in a record. Beyond the grammar it takes texts in quotes in a path behind `has`.
+/// `true && false` stays as it stands. No depth of the text ends it.
 pub fn read_expr(alloc: Global, text: &str) -> Result<Expr, ReadError>
     ensures { IfErr result (IsToldIn text.now) }
 {

@@ -1,5 +1,5 @@
 -- What a line asks for, by its words.
-use Rattle.std.proofs.Common.{◌≡◌, ◌≢◌, ℕ, zero, suc, ◌<◌, Bool, true, false, not, List, [], ◌∷◌, ◌++◌, length, get_or, refl, sym, ◌∙◌, ap, subst, arith, inl, inr}
+use Rattle.std.proofs.Common.{◌≡◌, ◌≢◌, ℕ, zero, suc, ◌<◌, Bool, true, false, not, List, [], ◌∷◌, length, get_or, Some, refl, sym, ◌∙◌, ap, subst, arith}
 use Rattle.std.specs.Bool.{◌==◌}
 use Rattle.std.specs.Prelude.{◌||◌, IsTrue, cond}
 use Rattle.std.specs.List.{All, list_any, onto_first}
@@ -7,6 +7,8 @@ use Rattle.std.proofs.lemmas.Bool.{true≢false}
 use Rattle.std.proofs.lemmas.Bool.Decides.{nat_tests}
 use Rattle.std.proofs.lemmas.Grind.{common_steps}
 use Rattle.std.proofs.lemmas.List.Splits.{slice_split_at, slice_split_none}
+use Rattle.std.proofs.lemmas.Str.Pattern.{IsSplitOnceResult, split_parts}
+use Rattle.std.specs.Borrow.{Bor}
 use Rattle.cedar_builders.specs.BareExpr.{Text}
 use Rattle.cedar_script.specs.CommandWords.{Alone, Reads, Spells, words_of}
 use Rattle.cedar_script.specs.declared.line.Command.{Command}
@@ -37,8 +39,11 @@ no_space_in text false is h = no_space_found text (sym is)
 pub one_word : (text : Text) → HasNoSpace text → words_of text ≡ text ∷ []
 one_word text h = slice_split_none (λ b. b == 32) text (none_is text h)
 
-pub first_word : (text first rest : Text) → text ≡ first ++ (32 ∷ rest) → HasNoSpace first → words_of text ≡ first ∷ words_of rest
-first_word text first rest e h = ap words_of e ∙ slice_split_at (λ b. b == 32) first 32 rest (none_is first h) refl
+-- what `split_once` says of a space: it stands behind the first word
+pub first_word : (text : Text) (x : Bor Text × Bor Text) → IsSplitOnceResult 32 text (Some x) → words_of text ≡ x.0.now ∷ words_of x.1.now
+first_word text x h =
+    let parts = split_parts 32 text (Some x) h (omega arith) in
+    ap words_of parts.0 ∙ slice_split_at (λ b. b == 32) x.0.now 32 x.1.now (none_is x.0.now parts.1) refl
 
 -- ---- what they ask for
 

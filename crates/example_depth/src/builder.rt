@@ -17,6 +17,8 @@ use std::convert::Infallible;
 use std::rc::RcStr;
 
 /// The builder: of `x < 2 && y == x` it makes 3.
+///
+/// It is not lawful: `true && false` is two deep, and `false` one.
 #[derive(Debug, Drop)]
 pub struct TreeDepth;
 
@@ -172,8 +174,6 @@ impl ExprBuilder for TreeDepth {
 }
 
 impl ExprBuilderInfallibleBuild for TreeDepth {}
-
-// No lawful builder: `true && false` is 2 deep, and `false` is 1 deep.
 
 // The depth of a node whose deepest child is this deep.
 fn one_above(depth: usize) -> usize
