@@ -15,11 +15,11 @@ is_restricted_node (Set es) = true
 is_restricted_node (Record fs) = true
 is_restricted_node e = false
 
--- whether every position is
+-- whether each node is a literal, an unknown, a set, a record or a call
 abbrev pub is_restricted : BareExpr → Bool
 is_restricted e = list_all is_restricted_node (preorder e)
 
--- every position is
+-- each node is a literal, an unknown, a set, a record or a call
 abbrev pub IsRestricted : BareExpr → Type 0
 IsRestricted e = IsTrue (is_restricted e)
 

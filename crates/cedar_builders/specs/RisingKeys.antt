@@ -14,6 +14,6 @@ abbrev pub NodeKeysRise : BareExpr → Type 0
 NodeKeysRise (Record fs) = IsRising (field_keys fs)
 NodeKeysRise e = ⊤
 
--- at every position
+-- the keys of each record in a tree rise
 abbrev pub KeysRise : BareExpr → Type 0
 KeysRise e = All NodeKeysRise (preorder e)

@@ -35,7 +35,7 @@ impl DuplicateKeyError {
         self.key.as_str()
     }
 
-    /// A copy.
+    /// A copy, which shares the key and takes no memory.
     pub fn clone(&self, _alloc: Global) -> Result<DuplicateKeyError, AllocError>
         ensures key { IfOk result (λ e. key_of e ≡ key_of self.now) }
         ensures context { IfOk result (λ e. context_of e ≡ context_of self.now) }
@@ -60,7 +60,7 @@ pub enum ExpressionConstructionError {
 }
 
 impl ExpressionConstructionError {
-    /// A copy.
+    /// A copy, which shares the key and takes no memory.
     pub fn clone(&self, alloc: Global) -> Result<ExpressionConstructionError, AllocError>
         ensures { IfOk result (SaysTheSame self.now) }
     {

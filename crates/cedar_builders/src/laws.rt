@@ -32,9 +32,9 @@ pub fn substituted_twice<B: LawfulExprBuilder>()
     ensures { SubstitutedTwice B.ops }
 {}
 
-/// One environment and then another binds what both together bind, where no tree that the first one
-/// binds holds an unknown that the second one binds. So it is for all values without extension
-/// values.
+/// One environment and then another binds what both together bind, where the first one binds
+/// restricted trees only and none of these holds an unknown that the second one binds. So it is for
+/// all values without extension values.
 pub fn then_is_both()
     ensures { ThenIsBoth }
 {}

@@ -13,7 +13,7 @@ use cedar_terms::SchemaType;
 use cedar_validation::{CallStyle, FunctionTable};
 use std::fmt;
 
-/// Some extensions. A name that several have is that of the first one's function.
+/// A table of extensions. Where several have a function of one name, the first extension's counts.
 #[derive(Drop)]
 pub struct Extensions<X: ExtensionFunctions> {
     extensions: Vec<Extension<X>>,

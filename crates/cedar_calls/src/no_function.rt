@@ -18,7 +18,7 @@ pub struct Refuser<T> {
     message: RcStr,
 }
 
-/// No function. An empty type of its own would leave calls that no one can make.
+/// What an extension type names where it has no function of some count of arguments.
 pub type NoFunction = Refuser<Infallible>;
 
 impl<T> Refuser<T> {

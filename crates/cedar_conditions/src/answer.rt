@@ -11,16 +11,17 @@ use std::alloc::{AllocError, Global};
 use std::collections::HashMap;
 use std::fmt;
 
-/// What comes of a condition, as text.
+/// What comes of a condition, as text in Cedar's syntax.
 #[derive(Debug, Drop)]
 pub enum Answer {
-    /// Its value.
+    /// Its value, as `policy_text` writes it.
     Value(String),
-    /// What is left of it.
+    /// What is left of it: a condition again.
     Left(String),
-    /// The fault which it has whatever else is bound, and where that comes up.
+    /// The fault which it has whatever else is bound: `line L, column C: PROBLEM`, and the line with
+    /// carets below the piece.
     Fault(String),
-    /// Why it can't be read, and where.
+    /// Why it can't be read, and where, in the same form.
     NoCondition(String),
 }
 
@@ -81,35 +82,34 @@ fn answer_expr(
         return Ok(Answer::Value(policy_text(alloc, &left)?.text));
     }
     match lasting_fault(alloc, &left)? {
-        Some(fault) => answer_fault(alloc, text, fault, &left),
+        Some(words) => answer_fault(alloc, text, words, &left),
         None => Ok(Answer::Left(policy_text(alloc, &left)?.text)),
     }
 }
 
-// The fault of what is left, if no binding, store of entities or function takes it away.
-fn lasting_fault(alloc: Global, left: &Expr) -> Result<Option<EvalFault>, AllocError> {
+// The fault of what is left, in words, if no binding, store of entities or function takes it away.
+fn lasting_fault(alloc: Global, left: &Expr) -> Result<Option<&'static str>, AllocError> {
     match evaluate(alloc, left, &HashMap::new(alloc)) {
-        Ok(outcome) => Ok(lasting(outcome.as_result().as_ref().err())),
+        Ok(outcome) => match outcome.as_result() {
+            Ok(_) => Ok(None),
+            Err(fault) => Ok(lasting(*fault)),
+        },
         Err(BuildFault::Build(_)) => Ok(None),
         Err(BuildFault::Memory) => Err(AllocError),
     }
 }
 
-fn lasting(fault: Option<&EvalFault>) -> Option<EvalFault> {
+fn lasting(fault: EvalFault) -> Option<&'static str> {
     match fault {
-        Some(EvalFault::Open | EvalFault::Store) | None => None,
-        Some(fault) => Some(*fault),
+        EvalFault::WrongType => Some("a value has the wrong type"),
+        EvalFault::Overflow => Some("an integer is outside 64 bits"),
+        EvalFault::Missing => Some("a record lacks the attribute"),
+        EvalFault::Open | EvalFault::Store => None,
     }
 }
 
 // A fault that is left, with its place.
-fn answer_fault(
-    alloc: Global,
-    text: &str,
-    fault: EvalFault,
-    left: &Expr,
-) -> Result<Answer, AllocError> {
-    let words = words(fault);
+fn answer_fault(alloc: Global, text: &str, words: &str, left: &Expr) -> Result<Answer, AllocError> {
     let text = match fault_place(alloc, text, left)? {
         Some(piece) => {
             let (line, column) = (piece.line(), piece.column());
@@ -118,14 +118,4 @@ fn answer_fault(
         None => String::from_str(alloc, words)?,
     };
     Ok(Answer::Fault(text))
-}
-
-fn words(fault: EvalFault) -> &'static str {
-    match fault {
-        EvalFault::WrongType => "a value has the wrong type",
-        EvalFault::Overflow => "an integer is outside 64 bits",
-        EvalFault::Missing => "a record lacks the attribute",
-        EvalFault::Open => "a part is not known",
-        EvalFault::Store => "the store of entities alone could answer",
-    }
 }

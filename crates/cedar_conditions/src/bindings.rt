@@ -91,17 +91,18 @@ impl Bindings {
 
     // Binds a name to an expression of literals, sets, records and calls.
     fn bind(&mut self, alloc: Global, name: RcStr, expr: Expr) -> Result<(), AllocError> {
-        let read_as = match value_of(alloc, &expr)? {
+        match value_of(alloc, &expr)? {
             Some(value) => {
+                let unknown = Expr::unknown(Unknown::new_untyped(name.clone()?));
                 put(&mut self.values, name.clone()?, value)?;
-                Expr::unknown(Unknown::new_untyped(name.clone()?))
+                put(&mut self.read_as, name, unknown)
             }
             None => {
+                put(&mut self.read_as, name.clone()?, expr)?;
                 drop(self.values.remove(name.as_str()));
-                expr
+                Ok(())
             }
-        };
-        put(&mut self.read_as, name, read_as)
+        }
     }
 }
 

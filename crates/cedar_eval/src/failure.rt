@@ -4,7 +4,7 @@ ghost use Rattle.cedar_eval.specs.declared.failure.Failure.TheVariants.{Memory};
 
 use anyhow::anyhow;
 use cedar_conditions::BindingsError;
-use std::alloc::{AllocError, AllocFailed};
+use std::alloc::AllocError;
 use std::io;
 use thiserror::Error;
 
@@ -58,14 +58,6 @@ impl From<AllocError> for Failure {
     ghost from_gives = { λ _ e. e ≡ Memory };
 
     fn from(_error: AllocError) -> Failure {
-        Failure::Memory
-    }
-}
-
-impl<T: Drop> From<AllocFailed<T>> for Failure {
-    ghost from_gives = { λ _ e. e ≡ Memory };
-
-    fn from(_refused: AllocFailed<T>) -> Failure {
         Failure::Memory
     }
 }

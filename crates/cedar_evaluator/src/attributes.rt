@@ -37,7 +37,8 @@ fn look_up<'a, X: Ord>(pairs: &'a BTreeMap<RcStr, Value<X>>, key: &RcStr) -> Opt
     pairs.get(key.as_str())
 }
 
-/// The value of an attribute, if the record has it, or why there are no attributes.
+/// The value of an attribute, if the record has it. Of an entity the store alone could tell it
+/// (`Store`); any other value is no record (`WrongType`).
 pub fn attribute<'a, X: Ord>(
     value: &'a Value<X>,
     key: &RcStr,
@@ -53,7 +54,8 @@ pub fn attribute<'a, X: Ord>(
     }
 }
 
-/// Whether a path of attributes is there.
+/// Whether a path of attributes is there: `Store` where it meets an entity, `WrongType` where it
+/// meets what is neither that nor a record.
 pub fn has_path<X: Ord>(value: &Value<X>, first: &RcStr, rest: &[RcStr]) -> Result<bool, EvalFault>
     ensures { on_one (λ b. truth {X = X} b) (faulted result)
         ≡ meant.has_path (Ok (bare_value value.now)) (rc_str_bytes first.now)

@@ -43,7 +43,7 @@ fn long<X>(made: Option<Integer>) -> Result<Literal, EvalFault>
     }
 }
 
-/// An operator on a value.
+/// An operator on a value: `WrongType` or `Overflow` where it gives none.
 pub fn apply_one<X: Ord>(op: UnaryOp, value: &Value<X>) -> Result<Literal, EvalFault>
     ensures { literal_outcome (faulted result) ≡ settled (apply_one op (bare_value value.now)) }
 {
@@ -198,7 +198,7 @@ fn contains_any<X: Ord + Drop>(left: &Value<X>, right: &Value<X>) -> Option<bool
     }
 }
 
-/// An operator on two values.
+/// An operator on two well formed values: `WrongType`, `Overflow`, or `Store` for `in` and tags.
 pub fn apply_two<X: Ord + Drop>(
     op: BinaryOp,
     left: &Value<X>,
@@ -224,7 +224,7 @@ pub fn apply_two<X: Ord + Drop>(
     }
 }
 
-/// Whether a pattern matches a text.
+/// Whether a pattern matches the text; none if the value is no text.
 pub fn is_like<X>(value: &Value<X>, pattern: &Pattern) -> Option<bool>
     ensures { tested result ≡ like_in pattern.now (bare_value value.now) }
 {
@@ -234,7 +234,7 @@ pub fn is_like<X>(value: &Value<X>, pattern: &Pattern) -> Option<bool>
     }
 }
 
-/// Whether an entity is of a type.
+/// Whether the entity is of a type; none if the value is no entity.
 pub fn is_of_type<X>(value: &Value<X>, ty: &EntityType) -> Option<bool>
     ensures { tested result ≡ is_in (bare_entity_type ty.now) (bare_value value.now) }
 {

@@ -2,9 +2,6 @@
 //! that it asks for.
 #![tactic(auto)]
 
-#[cfg(test)]
-mod tests;
-
 pub use cedar_ast as ast;
 use cedar_script::run;
 use std::io;

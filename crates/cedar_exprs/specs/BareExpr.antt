@@ -23,7 +23,7 @@ abbrev pub fields_at : List (RcStr Global × BareExpr) → BareFields
 fields_at [] = no_fields
 fields_at (e ∷ es) = field (rc_str_bytes e.0) e.1 (fields_at es)
 
--- the further attributes of a path
+-- the attributes of a path behind the first
 abbrev pub further : NonEmpty (RcStr Global) → List Text
 further ks = map rc_str_bytes ks.tail.items
 
@@ -74,12 +74,14 @@ bare_exprs es = trees_of (map bare_expr es)
 abbrev pub bare_fields : {T : Type 0} → List (RcStr Global × Expr T) → BareFields
 bare_fields es = fields_at (map (λ e. (e.0, bare_expr e.1)) es)
 
--- the outermost node: its kind, its place and its data
+-- the kind of an expression
 abbrev pub kind_of : {T : Type 0} → Expr T → ExprKind T
 kind_of {T} e = (out-Expr T e).expr_kind
 
+-- its place, if known
 abbrev pub expr_place : {T : Type 0} → Expr T → Option Place
 expr_place {T} e = (out-Expr T e).source_loc
 
+-- the data of its outermost node
 abbrev pub data_of : {T : Type 0} → Expr T → T
 data_of {T} e = (out-Expr T e).«data»

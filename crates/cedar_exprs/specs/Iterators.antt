@@ -20,6 +20,7 @@ abbrev pub unknown_of_kind : {E : Type 0} → KindOf E → Option Unknown
 unknown_of_kind (KindOf.Unknown u) = Some u
 unknown_of_kind k = None
 
+-- the unknown that an expression is
 abbrev pub unknown_of : {T : Type 0} → Expr T → Option Unknown
 unknown_of e = unknown_of_kind (kind_of e)
 
@@ -40,10 +41,11 @@ slot_at r = (r.id, option_copied r.loc)
 abbrev pub reserved : {T : Type 0} → ExprIterator T → ℕ
 reserved w = vec_capacity w.stack
 
--- the same for the walks over slots and over unknowns
+-- the entries that the walk over slots has room for
 abbrev pub reserved_by_slots : {T : Type 0} → Slots T → ℕ
 reserved_by_slots s = reserved s.walk
 
+-- the same for the walk over unknowns
 abbrev pub reserved_by_unknowns : {T : Type 0} → Unknowns T → ℕ
 reserved_by_unknowns u = reserved u.walk
 
@@ -51,8 +53,10 @@ reserved_by_unknowns u = reserved u.walk
 abbrev pub positions_left : {T : Type 0} → ExprIterator T → List (Expr T)
 positions_left w = given_by (referents w.stack.items)
 
+-- the slots that a walk has still to give, with their places
 abbrev pub slots_left : {T : Type 0} → Slots T → List (SlotId × Option Place)
 slots_left s = filter_map slot_of (positions_left s.walk)
 
+-- the unknowns that a walk has still to give
 abbrev pub unknowns_left : {T : Type 0} → Unknowns T → List Unknown
 unknowns_left u = filter_map unknown_of (positions_left u.walk)

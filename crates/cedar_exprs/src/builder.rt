@@ -32,8 +32,9 @@ use std::rc::{Rc, RcStr};
 
 /// Makes expressions, each with the builder's place and data on its outermost node.
 ///
-/// `and` and `or` of two Boolean literals make the literal of the result; every other call makes
-/// its node.
+/// `and` and `or` of two Boolean literals make the literal of the result; `noteq`, `greater` and
+/// `greatereq` make two nodes; every other call makes one. Most of its calls are those of the trait of
+/// the same name: `use cedar_ast::expr_builder::ExprBuilder as _;`.
 ///
 /// As the type argument of `into_expr` and its like it stands in a function that is generic in `T`:
 /// see there.
@@ -44,7 +45,7 @@ pub struct ExprBuilder<T> {
 }
 
 impl<T: Default + Copy> ExprBuilder<T> {
-    /// The builder with the place of this expression.
+    /// The builder with the place of this expression. It takes no memory.
     pub fn with_same_source_loc<U>(
         self,
         alloc: Global,
@@ -59,7 +60,7 @@ impl<T: Default + Copy> ExprBuilder<T> {
         })
     }
 
-    /// A copy.
+    /// A copy, which takes no memory.
     pub fn clone(&self, alloc: Global) -> Result<ExprBuilder<T>, AllocError>
         ensures place { IfOk result (λ b. builder_place b ≡ builder_place self.now) }
         ensures of_node { IfOk result (λ b. builder_data b ≡ builder_data self.now) }

@@ -132,7 +132,7 @@ pub struct SlotRef<'a> {
 }
 
 impl SlotRef<'_> {
-    /// The slot with a copy of its place.
+    /// The slot with a copy of its place, which takes no memory.
     pub fn to_slot(&self, alloc: Global) -> Result<Slot, AllocError>
         ensures id { IfOk result (λ slot. slot.id ≡ self.now.id) }
         ensures place { IfOk result (λ slot. slot.loc ≡ option_copied self.now.loc) }

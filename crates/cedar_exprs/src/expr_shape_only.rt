@@ -9,8 +9,8 @@ use std::alloc::{AllocError, Global};
 use std::cmp::Ordering;
 use std::hash::{Hash, Hasher};
 
-/// An expression, borrowed or owned, whose places and data do not count: it is equal to, orders
-/// before and hashes as others by `eq_shape`, `cmp_shape` and `hash_shape`.
+/// An expression, borrowed or owned, whose places and data do not count: it compares and hashes by
+/// `eq_shape`, `cmp_shape` and `hash_shape`.
 #[derive(Debug, Drop)]
 pub struct ExprShapeOnly<'a, T = ()> {
     held: Held<'a, T>,

@@ -28,7 +28,7 @@ impl<T> Expr<T> {
         }
     }
 
-    /// Whether it is a set whose members are all literals of entities, as those of the empty set.
+    /// Whether it is a set of literals of entities alone; the empty set is one.
     pub fn is_ref_set(&self) -> bool
         ensures { result ≡ is_ref_set (bare_expr self.now) }
     {

@@ -27,8 +27,8 @@ impl RestrictedExpr {
     ghost use Rattle.cedar_exprs.specs.RestrictedExprs.{expr_of, bare_restricted_expr};
     ghost use Rattle.cedar_exprs.specs.NotRestricted.{first_not_restricted, IsRefusalOf};
 
-    /// The same expression, known to be restricted. Memory is taken for the walk, and to copy the
-    /// place of a refusal. Where the walk is refused memory, it goes on by recursion.
+    /// The same expression, known to be restricted. Memory is taken for the walk alone. Where that is
+    /// refused memory, it begins again, by recursion.
     pub fn new(alloc: Global, expr: Expr) -> Result<RestrictedExpr, RestrictedExprError>
         ensures outcome { MatchResult result
             (λ r. expr_of r ≡ expr) (IsRefusalOf (first_not_restricted expr)) }
@@ -149,7 +149,7 @@ pub enum RestrictedExprError {
     /// in the order of their keys.
     #[error("not a restricted expression")]
     NotRestricted { loc: Option<Loc> },
-    /// There is such a node, which has a place, and no memory to copy it.
+    /// There is such a node, and its place is shared as often as can be counted.
     #[error("no memory")]
     Memory,
 }

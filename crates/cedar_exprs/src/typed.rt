@@ -20,8 +20,8 @@ use std::collections::HashMap;
 use std::rc::RcStr;
 
 impl Expr {
-    /// What `substitute` makes, where each value has the type that the unknown which it replaces is
-    /// annotated with, if it is. An unknown that `values` does not bind is never tested.
+    /// As `substitute`, but each value has to have the type that its unknown is annotated with;
+    /// without an annotation any does. An unknown that `values` does not bind is never tested.
     ///
     /// Else `TypeError` has the annotation and the type of the value of the leftmost unknown at
     /// which they differ, where the values of a record come in the order of their keys.

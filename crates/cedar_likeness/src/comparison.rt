@@ -4,7 +4,7 @@ ghost use Rattle.std.specs.Io.KnownBytes.{IsAtEnd};
 ghost use Rattle.cedar_likeness.specs.Comparisons.{AreAlike, IsInputFault, status_of};
 
 use crate::corpus::{Corpus, Malformed, Outcome, Record};
-use cedar_script::run;
+use cedar_script::{RunFault, run};
 use std::alloc::{AllocError, Global};
 use std::io::{self, Read, Write};
 use thiserror::Error;
@@ -130,6 +130,7 @@ fn is_as_recorded<W: Write>(
     let mut script = record.script;
     let (status, refusal) = match run(alloc, &mut script, &mut shown) {
         Ok(()) => (0, String::new(alloc)),
+        Err(RunFault::Memory) => return Err(CompareFault::Memory),
         Err(fault) => (fault.status(), fault.to_string(alloc)?),
     };
     let came = Outcome {

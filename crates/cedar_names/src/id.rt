@@ -232,7 +232,7 @@ impl Id {
         is_reserved_text(self.text.as_str())
     }
 
-    /// A copy, which shares the text.
+    /// A copy, which shares the text and takes no memory.
     pub fn clone(&self, _alloc: Global) -> Result<Id, AllocError>
         ensures { IfOk result (λ id. id ≡ self.now) }
     {
@@ -322,7 +322,7 @@ impl UnreservedId {
         self.id.into_smolstr()
     }
 
-    /// A copy, which shares the text.
+    /// A copy, which shares the text and takes no memory.
     pub fn clone(&self, alloc: Global) -> Result<UnreservedId, AllocError>
         ensures { IfOk result (λ u. u ≡ self.now) }
     {
@@ -431,7 +431,7 @@ impl AnyId {
         self.text.shared
     }
 
-    /// A copy, which shares the text.
+    /// A copy, which shares the text and takes no memory.
     pub fn clone(&self, _alloc: Global) -> Result<AnyId, AllocError>
         ensures { IfOk result (λ id. id ≡ self.now) }
     {

@@ -32,14 +32,14 @@ impl Model for Loc {
 }
 
 impl Loc {
-    /// The place `start..stop` of `src`, both in bytes.
+    /// The place `start..stop` of `src`, both in bytes. Nothing checks that it lies within `src`.
     pub fn new(start: usize, stop: usize, src: RcStr) -> Loc
         ensures { result ≡ record { start = start; stop = stop; src = rc_str_bytes src } }
     {
         Loc { start, stop, src }
     }
 
-    /// A copy, which shares the text.
+    /// A copy, which shares the text and takes no memory.
     pub fn clone(&self, _alloc: Global) -> Result<Loc, AllocError>
         ensures { IfOk result (λ l. l ≡ self.now) }
     {
@@ -51,7 +51,7 @@ impl Loc {
         })
     }
 
-    /// A copy of the place, if there is one.
+    /// A copy of the place, if there is one. It takes no memory.
     pub fn clone_option(alloc: Global, loc: Option<&Loc>) -> Result<Option<Loc>, AllocError>
         ensures copy { IfOk result (λ copy. copy ≡ option_copied loc.entry) }
         ensures takes { IfErr result (λ _. IsSome loc.entry) }

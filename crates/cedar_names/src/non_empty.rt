@@ -38,7 +38,7 @@ impl<T> NonEmpty<T> {
 }
 
 impl NonEmpty<RcStr> {
-    /// A copy, which shares the texts.
+    /// A copy, which shares the texts. Memory is taken for the list of those behind the first.
     #[tactic(auto, using(crate::proofs::Clones::map_clones))]
     pub fn clone(&self, _alloc: Global) -> Result<NonEmpty<RcStr>, AllocError>
         ensures { IfOk result (λ copy.

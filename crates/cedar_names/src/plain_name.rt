@@ -90,8 +90,7 @@ impl Name {
         self.name.qualify_with(alloc, namespace)
     }
 
-    /// As `qualify_with`, with a namespace that is not reserved either, so that the name made is
-    /// none.
+    /// As `qualify_with`, with a namespace that is not reserved either, so the answer is a `Name`.
     pub fn qualify_with_name(
         &self,
         alloc: Global,

@@ -84,7 +84,7 @@ pub struct Slot {
 }
 
 impl Slot {
-    /// A copy.
+    /// A copy, which takes no memory.
     pub fn clone(&self, alloc: Global) -> Result<Slot, AllocError>
         ensures { IfOk result (λ slot. slot ≡ self.now) }
     {

@@ -18,7 +18,7 @@ use Rattle.cedar_printer.specs.Ropes.{text_of}
 abbrev pub phrase_of : Phrase → Text × Level
 phrase_of p = (string_bytes p.text, p.level)
 
--- the same of a text in pieces
+-- a text in pieces, joined, and its level
 abbrev pub rope_phrase : RopePhrase → Text × Level
 rope_phrase p = (text_of p.text, p.level)
 

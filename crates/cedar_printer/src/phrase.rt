@@ -75,7 +75,7 @@ impl Level {
         }
     }
 
-    /// That of a literal.
+    /// That of a literal: `Unary` of a number, else `Member`.
     pub fn of_literal(literal: &Literal) -> Level
         ensures { result ≡ literal_level (bare_literal literal.now) }
     {
@@ -85,8 +85,8 @@ impl Level {
         }
     }
 
-    /// Those of an operator that stands between its operands: its own, and those that the operands
-    /// need at least. None of an operator that is written as a method.
+    /// Those of an operator that stands between its operands: its own, and the least ones of the left
+    /// and of the right operand. None of an operator that is written as a method.
     pub fn of_infix(op: BinaryOp) -> Option<(Level, Level, Level)>
         ensures { result ≡ infix_levels op }
     {

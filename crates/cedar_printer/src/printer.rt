@@ -32,6 +32,8 @@ use std::rc::RcStr;
 /// The contract is that of `into_expr` at the builder `PolicyText`: the fold of the expression's bare
 /// tree at the builder's operations. A text keeps `true && false` as it is, where substitution makes
 /// `false` of it: so the builder is not lawful, and texts are made of what was substituted before.
+/// An unknown's annotation is not written. A call of a function `unknown` on one text reads back as an
+/// unknown.
 pub fn policy_text(alloc: Global, expr: &Expr) -> Result<Phrase, AllocError>
     ensures { IfOk result (λ p.
         fold policy_text_ops empty (bare_expr expr.now) ≡ Ok (phrase_of p)) }

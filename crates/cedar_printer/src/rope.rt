@@ -1,5 +1,5 @@
 //! Texts in pieces.
-ghost use Rattle.std.specs.Prelude.{◌≡◌, ◌++◌, IfOk, OnOk, string_bytes};
+ghost use Rattle.std.specs.Prelude.{◌≡◌, ◌++◌, [], IfOk, IsTrue, OnOk, string_bytes};
 ghost use Rattle.cedar_printer.specs.Ropes.{text_of};
 
 use std::alloc::{AllocError, Global};
@@ -8,14 +8,17 @@ use std::mem;
 
 /// A text in pieces, which are joined once, when it is written.
 ///
-/// To put one behind another takes no copy of either, so that the text of a tree of any shape and
-/// depth is made in time proportional to its length.
+/// A long one is put behind another without a copy of either, and a short one is copied. So the
+/// text of a tree of any shape and depth is made in time proportional to its length.
 #[derive(Debug, Drop)]
 pub struct Rope {
     // What stands before the last piece.
     before: LinkedList<String>,
     last: String,
 }
+
+// What is no longer is copied behind another.
+const SHORT: usize = 128;
 
 impl Rope {
     /// A text of one piece.
@@ -42,10 +45,20 @@ impl Rope {
         self.last.push_str(text)
     }
 
+    // Whether the text is one piece, and short.
+    fn is_short(&self) -> bool
+        ensures { IsTrue result → self.now.before ≡ [] }
+    {
+        self.before.is_empty() && self.last.len() <= SHORT
+    }
+
     /// Puts another behind it.
     pub fn append(&mut self, other: Rope) -> Result<(), AllocError>
         ensures { OnOk result (text_of self.new ≡ text_of self.old ++ text_of other) }
     {
+        if other.is_short() {
+            return self.last.push_str(&other.last);
+        }
         let Rope { mut before, last } = other;
         self.before.push_back(mem::replace(&mut self.last, last))?;
         self.before.append(&mut before)

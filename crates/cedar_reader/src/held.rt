@@ -29,7 +29,7 @@ impl Held {
         }
     }
 
-    /// A comparison.
+    /// A test by `has`, `like` or `is`.
     pub(crate) fn relation(expr: Expr, span: Span) -> Held
         ensures expr { result.expr ≡ expr }
         ensures span { result.span ≡ span }

@@ -98,7 +98,7 @@ pub(crate) fn text_of(alloc: Global, token: Token<'_>) -> Result<RcStr, Refusal>
     ensures { IfErr result (IsAbout token.entry.span) }
 {
     match read_text(alloc, inside(token))? {
-        Some(text) => Ok(RcStr::from_str(alloc, &text)?),
+        Some(text) => Ok(RcStr::from_string(text)?),
         None => Err(Refusal::Syntax(
             token.span,
             "this text has an unknown escape, or a bare carriage return",

@@ -38,17 +38,18 @@ use std::rc::RcStr;
 /// ```
 ///
 /// It takes any name for that of a function or a method, `unknown("x")` for an unknown, and refuses
-/// only what is no expression: what is outside the grammar, an integer outside 64 bits, and a key
-/// that stands twice in a record. Beyond the grammar it takes texts in quotes in a path behind `has`.
-/// `true && false` stays as it stands. No depth of the text ends it.
+/// only what is no expression: what is outside the grammar, an integer outside 64 bits, a key that
+/// stands twice in a record, and a method of sets or tags with another number of arguments. Beyond
+/// the grammar it takes texts in quotes in a path behind `has`. `true && false` stays as it stands;
+/// `a is T in b` shares `a` between two tests. No depth of the text ends it.
 pub fn read_expr(alloc: Global, text: &str) -> Result<Expr, ReadError>
     ensures { IfErr result (IsToldIn text.now) }
 {
     read_with_values(alloc, text, &HashMap::new(alloc))
 }
 
-/// The same, where an unknown or a variable of the request that `values` names is read as the
-/// expression there. The expression keeps the place of what was read.
+/// As `read_expr`, but `unknown("x")` and the variable `x` are read as `values["x"]`; slots never are.
+/// The root of what is put in gets the place of what it replaces; its other nodes keep theirs.
 pub fn read_with_values(
     alloc: Global,
     text: &str,

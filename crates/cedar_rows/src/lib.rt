@@ -71,7 +71,11 @@ fn write_line<W: Write>(alloc: Global, writer: &mut W, row: &str) -> Result<(), 
 }
 
 fn write<W: Write>(writer: &mut W, line: &str) -> Result<(), RowFault> {
-    writeln!(writer, "{line}").map_err(|_| RowFault::Output)
+    match writeln!(writer, "{line}") {
+        Ok(()) => Ok(()),
+        Err(error) if error.kind() == io::ErrorKind::OutOfMemory => Err(RowFault::Memory),
+        Err(_) => Err(RowFault::Output),
+    }
 }
 
 // The answer to a row, which is answered twice where memory is refused the first time.

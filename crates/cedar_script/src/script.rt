@@ -54,6 +54,7 @@ impl RunFault {
 }
 
 /// Reads a script to its end, works its lines one after the other, and writes what they show.
+/// `docs/SCRIPT.md` describes the language.
 ///
 /// A refused line ends the run; what was shown before it stays. After an output fault nothing is
 /// known of how much of the last text went out.
@@ -104,7 +105,11 @@ fn write_line<W: Write>(writer: &mut W, mut text: String) -> Result<(), RunFault
         (Appends (W.contents writer.old) (W.contents writer.new) (string_bytes text ++ 10 ∷ [])) }
 {
     text.push('\n').map_err(|_| RunFault::Memory)?;
-    write_now(writer, text.as_bytes()).map_err(|_| RunFault::Output)
+    match write_now(writer, text.as_bytes()) {
+        Ok(()) => Ok(()),
+        Err(error) if error.kind() == io::ErrorKind::OutOfMemory => Err(RunFault::Memory),
+        Err(_) => Err(RunFault::Output),
+    }
 }
 
 // Writes all bytes, so that the writer keeps none back.

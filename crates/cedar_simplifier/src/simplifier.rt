@@ -35,7 +35,8 @@ use std::rc::RcStr;
 /// evaluator does not choose, and hold no call, since a call in it would be refused. Of
 /// `true && right` the right side is made only where that can be nothing but a Boolean or a fault.
 ///
-/// Nothing is refused. What is left has the places that it had.
+/// Nothing is refused, but a record of equal keys where a part is left. A node that is left keeps
+/// its place; a value that is known has none.
 ///
 /// ```rust
 /// fn simplified(alloc: Global, expr: &Expr) -> Result<Part, BuildFault<Infallible>> {

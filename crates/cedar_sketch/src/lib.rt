@@ -327,7 +327,8 @@ fn binary_opening(op: BinaryOp) -> &'static str
 
 /// The builder of texts: what it makes of `1 < 2 && true` is `(and (< 1 2) true)`.
 ///
-/// It makes every node as it stands: `(and true false)` is not `false`.
+/// It makes every node as it stands: `(and true false)` is not `false`. `docs/SCRIPT.md` lists the
+/// text of each kind.
 #[derive(Debug, Drop)]
 pub struct Sketch;
 

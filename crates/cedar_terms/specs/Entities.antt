@@ -21,6 +21,7 @@ pub record BareEntityUID : Type 0 where
   pub entity_type : BareName
   pub eid : List ℕ
 
+-- an entity without places
 abbrev pub bare_entity_uid : EntityUID → BareEntityUID
 bare_entity_uid u = record { entity_type = bare_entity_type u.ty; eid = rc_str_bytes u.eid }
 

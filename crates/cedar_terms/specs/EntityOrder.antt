@@ -12,12 +12,15 @@ use Rattle.std.proofs.lemmas.Bool.Decides.{Decides-and, Decides-like}
 use Rattle.cedar_names.specs.NameOrder.{name_eq, name_cmp, name_fed, name_cmp_total, name_ties, name_eq_decides}
 use Rattle.cedar_terms.specs.Entities.{BareEntityUID}
 
+-- whether entities are equal
 abbrev pub entity_uid_eq : BareEntityUID → BareEntityUID → Bool
 entity_uid_eq = eq_of_both (on (λ u. u.entity_type) name_eq) (on (λ u. u.eid) (pointwise nat_eq))
 
+-- the order of entities
 abbrev pub entity_uid_cmp : BareEntityUID → BareEntityUID → Ordering
 entity_uid_cmp = then_cmp (on (λ u. u.entity_type) name_cmp) (on (λ u. u.eid) (slice_cmp nat_cmp))
 
+-- what an entity feeds a hasher
 abbrev pub entity_uid_fed : BareEntityUID → HashWrites
 entity_uid_fed u = name_fed u.entity_type ++ fed.str u.eid
 

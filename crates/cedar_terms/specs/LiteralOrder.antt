@@ -37,6 +37,7 @@ literal_cmp (StringLit s) (StringLit t) = slice_cmp nat_cmp s t
 literal_cmp (EntityLit u) (EntityLit v) = entity_uid_cmp u v
 literal_cmp x y = nat_cmp (literal_number x) (literal_number y)
 
+-- what a literal feeds a hasher
 abbrev pub literal_fed : BareLiteral → HashWrites
 literal_fed (BoolLit b) = fed.u8 0 ++ fed.bool b
 literal_fed (LongLit n) = fed.u8 1 ++ fed.i64 n

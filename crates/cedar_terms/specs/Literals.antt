@@ -16,6 +16,7 @@ pub data BareLiteral : Type 0 where
   StringLit : List ℕ → BareLiteral
   EntityLit : BareEntityUID → BareLiteral
 
+-- a literal without places
 abbrev pub bare_literal : Literal → BareLiteral
 bare_literal (Variant.Bool b) = BoolLit b
 bare_literal (Variant.Long n) = LongLit n

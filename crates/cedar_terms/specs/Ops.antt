@@ -15,6 +15,7 @@ unary_op_text Unary.Not = codes "!"
 unary_op_text Unary.Neg = codes "-"
 unary_op_text Unary.IsEmpty = codes "isEmpty"
 
+-- the text of a binary operator
 abbrev pub binary_op_text : BinaryOp → List ℕ
 binary_op_text Binary.Eq = codes "=="
 binary_op_text Binary.Less = codes "<"
@@ -29,18 +30,20 @@ binary_op_text Binary.ContainsAny = codes "containsAny"
 binary_op_text Binary.GetTag = codes "getTag"
 binary_op_text Binary.HasTag = codes "hasTag"
 
+-- the text of a variable
 abbrev pub var_text : Var → List ℕ
 var_text Variable.Principal = codes "principal"
 var_text Variable.Action = codes "action"
 var_text Variable.Resource = codes "resource"
 var_text Variable.Context = codes "context"
 
--- the operators and variables in their orders
+-- the place of a unary operator among them, from 0 on
 abbrev pub unary_op_number : UnaryOp → ℕ
 unary_op_number Unary.Not = 0
 unary_op_number Unary.Neg = 1
 unary_op_number Unary.IsEmpty = 2
 
+-- the place of a binary operator among them, from 0 on
 abbrev pub binary_op_number : BinaryOp → ℕ
 binary_op_number Binary.Eq = 0
 binary_op_number Binary.Less = 1
@@ -55,6 +58,7 @@ binary_op_number Binary.ContainsAny = 9
 binary_op_number Binary.GetTag = 10
 binary_op_number Binary.HasTag = 11
 
+-- the place of a variable among them, from 0 on
 abbrev pub var_number : Var → ℕ
 var_number Variable.Principal = 0
 var_number Variable.Action = 1

@@ -21,6 +21,7 @@ elem_eq (Char c) Wildcard = false
 elem_eq Wildcard (Char d) = false
 elem_eq Wildcard Wildcard = true
 
+-- the order of elements: characters by code, and then the wildcard
 abbrev pub elem_cmp : PatternElem → PatternElem → Ordering
 elem_cmp (Char c) (Char d) = nat_cmp c d
 elem_cmp (Char c) Wildcard = Less

@@ -43,6 +43,7 @@ bare_schema_step (SchemaType-F.Record m) = SchemaRecord (attributes_of m.entries
 bare_schema_step (SchemaType-F.Entity ty) = SchemaEntity (bare_entity_type ty)
 bare_schema_step (SchemaType-F.Extension name) = SchemaExtension (bare_name name)
 
+-- a type of a schema without places
 abbrev pub bare_schema_type : SchemaType → BareSchemaType
 bare_schema_type = fold-SchemaType BareSchemaType bare_schema_step
 

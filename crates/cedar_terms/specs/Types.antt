@@ -18,6 +18,7 @@ pub data BareType : Type 0 where
   EntityOfType : BareName → BareType
   ExtensionType : BareName → BareType
 
+-- a type without places
 abbrev pub bare_type : «Type» → BareType
 bare_type Variant.Bool = BoolType
 bare_type Variant.Long = LongType

@@ -25,6 +25,7 @@ pub record BareUnknown : Type 0 where
   pub name : List ℕ
   pub annotation : Option BareType
 
+-- an unknown without places
 abbrev pub bare_unknown : Unknown → BareUnknown
 bare_unknown u = record {
   name = rc_str_bytes u.name;
@@ -35,6 +36,7 @@ bare_unknown u = record {
 abbrev pub annotation_place : Option «Type» → Option Place
 annotation_place a = option_and_then type_place a
 
+-- the place inside the annotation of an unknown, if there is one
 abbrev pub unknown_place : Unknown → Option Place
 unknown_place u = annotation_place u.type_annotation
 

@@ -112,7 +112,8 @@ impl fmt::Display for EntityType {
     }
 }
 
-/// An entity, by its type and its identifier, which compare in this order.
+/// An entity, by its type and its identifier, which compare in this order. Its text is as
+/// `User::"alice"`, with escapes in the identifier.
 #[derive(Debug, Drop)]
 pub struct EntityUID {
     ty: EntityType,

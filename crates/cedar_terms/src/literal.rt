@@ -160,7 +160,7 @@ impl Literal {
         matches!(self, Literal::EntityUID(_))
     }
 
-    /// A copy, which shares a text or an entity with this one.
+    /// A copy, which shares a text or an entity with this one and takes no memory.
     pub fn clone(&self, _alloc: Global) -> Result<Literal, AllocError>
         ensures bare { IfOk result (λ x. bare_literal x ≡ bare_literal self.now) }
         ensures place { IfOk result (λ x. literal_place x ≡ literal_place self.now) }

@@ -79,7 +79,7 @@ impl Pattern {
         Pattern::from_vec(alloc, elems)
     }
 
-    /// A second handle on the same elements.
+    /// A second handle on the same elements. It takes no memory.
     pub fn clone(&self, _alloc: Global) -> Result<Pattern, AllocError>
         ensures { IfOk result (λ p. p ≡ self.now) }
     {

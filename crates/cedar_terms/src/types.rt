@@ -35,8 +35,9 @@ use std::fmt;
 use std::hash::{Hash, Hasher};
 
 /// The type of a value at run time. Two entity types are equal where their names are; an entity
-/// type
-/// and an extension type never are. Types order as the kinds stand here, then by name.
+/// type and an extension type never are. Types order as the kinds stand here, then by name.
+///
+/// Its text is as `long` or ``(entity of type `User`)``, or the name of the extension type.
 #[derive(Debug, Drop)]
 pub enum Type {
     /// A Boolean.

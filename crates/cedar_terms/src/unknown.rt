@@ -26,7 +26,7 @@ use std::rc::RcStr;
 pub struct Unknown {
     /// The name.
     pub name: RcStr,
-    /// The type of the values that may take its place; none where any may.
+    /// The type that typed substitution asks of the value that takes its place; none where any may.
     pub type_annotation: Option<Type>,
 }
 
@@ -41,7 +41,8 @@ impl Unknown {
         }
     }
 
-    /// The unknown of this name, which values of this type may replace.
+    /// The unknown of this name, annotated with a type. Typed substitution refuses a value of another
+    /// type; substitution and evaluation look at no type.
     pub fn new_with_type(name: RcStr, ty: Type) -> Unknown
         ensures bare { bare_unknown result ≡
             record { name = rc_str_bytes name; annotation = Some (bare_type ty) } }

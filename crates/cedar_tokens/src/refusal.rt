@@ -19,7 +19,7 @@ pub enum Refusal {
 }
 
 impl Refusal {
-    /// What a caller is told of it.
+    /// What a caller is told of it, with its line and column in `text`: the text that was read.
     pub fn in_text(self, text: &str) -> ReadError
         ensures { IsToldOf self text.now result }
     {

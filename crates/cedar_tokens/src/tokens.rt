@@ -120,7 +120,8 @@ impl<'a> Tokens<'a> {
         }
     }
 
-    /// Takes the next one, which has to be of this kind.
+    /// Takes the next one if it is of this kind; else it takes none, and refuses with `problem` at that
+    /// token's span.
     pub fn expect(&mut self, kind: Kind, problem: &'static str) -> Result<Token<'a>, Refusal>
         ensures left { tokens_left self.new ≤ tokens_left self.old }
         ensures gives { MatchResult result

@@ -16,7 +16,7 @@ is_readable_node (Set es) = true
 is_readable_node (Record fs) = true
 is_readable_node e = false
 
--- whether every position is
+-- whether each node is a literal, a set or a record
 abbrev pub is_readable : BareExpr → Bool
 is_readable e = list_all is_readable_node (preorder e)
 
@@ -30,14 +30,14 @@ abbrev mutual
   IsValueOf {X} R (Record fs) t = (ps : BarePairs X) × ArePairsOf R fs ps × (t ≡ RecordValue ps)
   IsValueOf R e t = ⊥
 
-  -- one by one
+  -- these are values of expressions, one by one
   pub AreValuesOf : {X : Type 0} → (X → X → Ordering) → BareExprs → List (BareValue X) → Type 0
   AreValuesOf R no_trees [] = ⊤
   AreValuesOf R no_trees (t ∷ ts) = ⊥
   AreValuesOf R (tree e es) [] = ⊥
   AreValuesOf R (tree e es) (t ∷ ts) = IsValueOf R e t × AreValuesOf R es ts
 
-  -- the same keys, with the values one by one
+  -- the same keys, with values of their expressions
   pub ArePairsOf : {X : Type 0} → (X → X → Ordering) → BareFields → BarePairs X → Type 0
   ArePairsOf R no_fields no_pairs = ⊤
   ArePairsOf R no_fields (pair l t ps) = ⊥

@@ -26,13 +26,13 @@ abbrev mutual
   value_eq E (ExtensionValue a g) (ExtensionValue b h) = E a b
   value_eq E x y = false
 
-  -- one by one
+  -- whether values are the same, one by one
   pub values_eq : {X : Type 0} → (X → X → Bool) → BareValues X → BareValues X → Bool
   values_eq E no_values no_values = true
   values_eq E (value a as_) (value b bs) = value_eq E a b && values_eq E as_ bs
   values_eq E x y = false
 
-  -- one by one, keys and values
+  -- whether pairs are the same, keys and values, one by one
   pub pairs_eq : {X : Type 0} → (X → X → Bool) → BarePairs X → BarePairs X → Bool
   pairs_eq E no_pairs no_pairs = true
   pairs_eq E (pair k a as_) (pair l b bs) =

@@ -44,9 +44,10 @@ bare_set {X} = fold-Set X (BareValue X) (BareValues X) (BareValue X) kind_step s
 abbrev pub bare_value : {X : Type 0} → Value X → BareValue X
 bare_value {X} = fold-Value X (BareValue X) (BareValues X) (BareValue X) kind_step set_step value_step
 
--- the outermost of a value: its kind and its place
+-- the kind of a value
 abbrev pub kind_of : {X : Type 0} → Value X → ValueKind X
 kind_of v = v.kind
 
+-- the place of a value, if known
 abbrev pub value_place : {X : Type 0} → Value X → Option Place
 value_place v = v.loc

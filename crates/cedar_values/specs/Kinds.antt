@@ -16,6 +16,7 @@ is_set_with P (ValueKind-F.Set s) = P s
 is_set_with P (ValueKind-F.Record m) = ⊥
 is_set_with P (ValueKind-F.ExtensionValue e) = ⊥
 
+-- the kind is a set of which this holds
 abbrev pub IsSetWith : {X : Type 0} → (set.Set X → Type 0) → ValueKind X → Type 0
 IsSetWith {X} P k = is_set_with P (out-ValueKind X k)
 
@@ -26,6 +27,7 @@ is_record_with P (ValueKind-F.Set s) = ⊥
 is_record_with P (ValueKind-F.Record m) = P m.value.entries
 is_record_with P (ValueKind-F.ExtensionValue e) = ⊥
 
+-- the kind is a record whose entries have this
 abbrev pub IsRecordWith : {X : Type 0} → (List (RcStr Global × Value X) → Type 0) → ValueKind X → Type 0
 IsRecordWith {X} P k = is_record_with P (out-ValueKind X k)
 
@@ -38,5 +40,6 @@ is_copy (ValueKind-F.Record m) (ValueKind-F.Record n) = n.value.entries ≡ m.va
 is_copy (ValueKind-F.ExtensionValue a) (ValueKind-F.ExtensionValue b) = b.value ≡ a.value
 is_copy x y = ⊥
 
+-- the second kind is a copy of the first: an equal literal, the same members or entries, the same extension value
 abbrev pub IsCopy : {X : Type 0} → ValueKind X → ValueKind X → Type 0
 IsCopy {X} k l = is_copy (out-ValueKind X k) (out-ValueKind X l)

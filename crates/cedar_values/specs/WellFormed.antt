@@ -42,10 +42,10 @@ is_hashed {X} = para-Value X Bool Bool Bool kind_hashed set_hashed value_hashed
 unfoldable pub well_formed : {X : Type 0} → (X → X → Ordering) → Value X → Bool
 well_formed R v = is_well_formed R (bare_value v) && is_hashed v
 
--- whether a kind is
+-- whether a kind is well formed
 unfoldable pub kind_well_formed : {X : Type 0} → (X → X → Ordering) → ValueKind X → Bool
 kind_well_formed R k = is_well_formed R (bare_value_kind k) && is_kind_hashed k
 
--- whether a set is
+-- whether a set is well formed
 unfoldable pub set_well_formed : {X : Type 0} → (X → X → Ordering) → Set X → Bool
 set_well_formed R s = is_well_formed R (SetValue (bare_set s)) && is_set_hashed s

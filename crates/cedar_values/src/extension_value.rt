@@ -13,7 +13,7 @@ use cedar_terms::{StaticallyTyped, Type};
 use std::alloc::{AllocError, Global};
 use std::convert::Infallible;
 
-/// A value of an extension.
+/// A value of an extension. Where values are compared its type needs `Ord` too.
 pub trait ExtensionValue: Drop {
     ghost use Rattle.std.specs.Prelude.{ℕ, List, Bool};
     ghost use Rattle.cedar_names.specs.Names.{BareName};
@@ -35,7 +35,8 @@ pub trait ExtensionValue: Drop {
     fn typename(&self, alloc: Global) -> Result<Name, AllocError>
         ensures { IfOk result (λ n. bare_name n ≡ type_name self.now) };
 
-    /// Whether its type takes part in the overloading of operators.
+    /// Whether its type takes part in the overloading of operators. Nothing in these layers asks for
+    /// it.
     fn supports_operator_overloading(&self) -> bool
         ensures { result ≡ is_overloadable self.now };
 
@@ -117,7 +118,7 @@ pub struct Holder<T> {
     name: Name,
 }
 
-/// No extension values. An empty type of its own would leave calls that no one can make.
+/// The type for values without extension values: `Value` alone is `Value<NoExtension>`.
 pub type NoExtension = Holder<Infallible>;
 
 impl<T: Drop> ExtensionValue for Holder<T> {

@@ -85,7 +85,7 @@ impl<X: Drop> Set<X> {
         }
     }
 
-    /// A copy, which shares the members in both their forms.
+    /// A copy, which shares the members in both their forms and takes no memory.
     pub fn clone(&self, _alloc: Global) -> Result<Set<X>, AllocError>
         ensures members { IfOk result (λ s. members s ≡ members self.now) }
         ensures well_formed { IfOk result (λ s. (R : _) →
@@ -140,7 +140,8 @@ impl<X: Ord + Drop> Set<X> {
         Set::of_members(alloc, Vec::new(alloc), Some(literals))
     }
 
-    /// The set of some values: one of each that are the same, as it was handed in.
+    /// The set of some values: one of each that are the same, with its place. Of literals alone it is
+    /// the first; otherwise it is not said which.
     pub fn new(alloc: Global, values: Vec<Value<X>>) -> Result<Set<X>, AllocError>
         ensures classes { IfOk result (λ s. IsClassesOf (by_tree X.cmp) (members s) values.items) }
         ensures well_formed { IfOk result (λ s. IsTrue (list_all (well_formed X.cmp) values.items)

@@ -151,7 +151,7 @@ impl<X: Drop> Value<X> {
         }
     }
 
-    /// A copy, which shares what is inside.
+    /// A copy, which shares what is inside and takes no memory.
     pub fn clone(&self, alloc: Global) -> Result<Value<X>, AllocError>
         ensures tree { IfOk result (λ v. bare_value v ≡ bare_value self.now) }
         ensures place { IfOk result (λ v. value_place v ≡ value_place self.now) }
@@ -322,7 +322,7 @@ impl<X> ValueKind<X> {
 }
 
 impl<X: Drop> ValueKind<X> {
-    /// A copy, which shares what is inside.
+    /// A copy, which shares what is inside and takes no memory.
     pub fn clone(&self, alloc: Global) -> Result<ValueKind<X>, AllocError>
         ensures tree { IfOk result (λ k. bare_value_kind k ≡ bare_value_kind self.now) }
         ensures inside { IfOk result (λ k. IsCopy self.now k) }

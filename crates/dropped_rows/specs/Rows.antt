@@ -4,15 +4,17 @@ use Rattle.std.specs.Global.{Global}
 use Rattle.std.specs.declared.rc.RcStr.{RcStr}
 use Rattle.dropped_rows.specs.declared.Taken.{Taken}
 
--- the nodes of a row, of the values of a map, of what may wait; f and g give those of an item and of what stands below one
+-- the nodes of a row; f gives those of an item
 abbrev pub row_nodes : {I : Type 0} → (I → ℕ) → List I → ℕ
 row_nodes f [] = 0
 row_nodes f (x ∷ xs) = f x + row_nodes f xs
 
+-- the nodes of the values of a map
 abbrev pub pair_nodes : {I : Type 0} → (I → ℕ) → List (RcStr Global × I) → ℕ
 pair_nodes f [] = 0
 pair_nodes f (p ∷ ps) = f p.1 + pair_nodes f ps
 
+-- the nodes of what may wait; g gives those of what stands below an item
 abbrev pub waiting_nodes : {B : Type 0} → (B → ℕ) → Option B → ℕ
 waiting_nodes g None = 0
 waiting_nodes g (Some b) = g b

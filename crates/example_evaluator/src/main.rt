@@ -1,11 +1,13 @@
-//! Values and the evaluator: makes and reads values, asks what a rule comes to before all of its
-//! unknowns are known, and again when they are.
+//! Values, the evaluator and the partial evaluator: makes and reads values, and asks what a rule
+//! comes to, or what is left of it, before all of its unknowns are known, and again when they are.
 #![tactic(auto)]
 
 mod decision;
+mod left;
 mod values;
 
 use crate::decision::decide;
+use crate::left::{outcome_of_rest, what_is_left};
 use crate::values::{count_answers, has_number, numbers, worker};
 use cedar_ast::evaluator::{CallRefused, Outcome, evaluate};
 use cedar_ast::{BuildFault, Expr, Literal, PartialValue, Unknown, Value};
@@ -31,7 +33,14 @@ fn main(rt: HostRuntime) -> io::Result<()> {
     // At night the hour alone decides, and no badge changes that.
     show(&rt, "night", evaluate(alloc, &rule, &night))?;
     let at_night = decide(alloc, &rule, &night, &staff);
-    show(&rt, "night, staff", at_night)
+    show(&rt, "night, staff", at_night)?;
+
+    // What is left of the rule by the hour, and what that comes to with the badge.
+    for (when, hour) in [("morning", &morning), ("night", &night)] {
+        println!(rt; "{when}, left: {}", what_is_left(alloc, &rule, hour)?)?;
+        show(&rt, when, outcome_of_rest(alloc, &rule, hour, &staff))?;
+    }
+    Ok(())
 }
 
 // Prints a record with a set inside, what is in the set, and answers that are known in part.

@@ -14,7 +14,7 @@ pub fn show(rt: &HostRuntime, texts: &str) -> io::Result<()> {
         match read_expr(rt.alloc(), text) {
             Ok(expr) => show_tree(rt, &expr)?,
             Err(ReadError::Syntax(error)) => show_error(rt, text, &error)?,
-            Err(ReadError::Memory) => println!(rt; "no memory")?,
+            Err(ReadError::Memory) => return Err(AllocError.into()),
         }
     }
     Ok(())
@@ -42,7 +42,8 @@ pub fn show_deep(rt: &HostRuntime) -> io::Result<()> {
     let text = nested(rt.alloc(), LEVELS)?;
     match read_expr(rt.alloc(), &text) {
         Ok(expr) => show_length(rt, &expr),
-        Err(error) => println!(rt; "\n{error}"),
+        Err(ReadError::Syntax(error)) => println!(rt; "\n{error}"),
+        Err(ReadError::Memory) => Err(AllocError.into()),
     }
 }
 

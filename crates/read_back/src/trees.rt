@@ -1,10 +1,10 @@
 //! Trees that are printed and read again.
 use cedar_exprs::Expr;
 use cedar_printer::policy_text;
-use cedar_reader::{ReadError, read_expr};
+use cedar_reader::{ReadError, SyntaxError, read_expr};
 use row_parts::{NoAnswer, parts};
 use row_trees::expr;
-use std::alloc::Global;
+use std::alloc::{AllocError, Global};
 use std::io::{self, BufRead as _, BufReader};
 use thiserror::Error;
 
@@ -15,7 +15,7 @@ pub fn read_back(rt: &HostRuntime) -> io::Result<()> {
     for row in BufReader::new(rt.alloc(), rt.reader())?.lines(rt.alloc()) {
         let row = row?;
         trees = trees.saturating_add(1);
-        if let Err(failure) = compare(rt.alloc(), &row) {
+        if let Some(failure) = compare(rt.alloc(), &row)? {
             failed = failed.saturating_add(1);
             println!(rt; "{failure}: {row}")?;
         }
@@ -29,21 +29,27 @@ enum Failure {
     #[error("another tree is read")]
     Differs,
     #[error("what is printed is not read, {0}")]
-    Refused(ReadError),
+    Refused(SyntaxError),
     #[error("this is no tree")]
     NoTree,
 }
 
 // Prints the tree of a row, reads that and compares.
-fn compare(alloc: Global, row: &str) -> Result<(), Failure> {
-    let tree = match tree(alloc, row) {
-        Ok(tree) => tree,
-        Err(_) => return Err(Failure::NoTree),
-    };
-    match read_printed(alloc, &tree) {
-        Ok(read) if tree.eq_shape(&read) => Ok(()),
-        Ok(_) => Err(Failure::Differs),
-        Err(error) => Err(Failure::Refused(error)),
+fn compare(alloc: Global, row: &str) -> Result<Option<Failure>, AllocError> {
+    match tree(alloc, row) {
+        Ok(tree) => compare_tree(alloc, &tree),
+        Err(NoAnswer::Memory) => Err(AllocError),
+        Err(_) => Ok(Some(Failure::NoTree)),
+    }
+}
+
+fn compare_tree(alloc: Global, tree: &Expr) -> Result<Option<Failure>, AllocError> {
+    let text = policy_text(alloc, tree)?.text;
+    match read_expr(alloc, &text) {
+        Ok(read) if tree.eq_shape(&read) => Ok(None),
+        Ok(_) => Ok(Some(Failure::Differs)),
+        Err(ReadError::Syntax(error)) => Ok(Some(Failure::Refused(error))),
+        Err(ReadError::Memory) => Err(AllocError),
     }
 }
 
@@ -53,10 +59,4 @@ fn tree(alloc: Global, row: &str) -> Result<Expr, NoAnswer> {
         [part] => expr(alloc, part),
         _ => Err(NoAnswer::NotTaken),
     }
-}
-
-// What is read of the text of a tree.
-fn read_printed(alloc: Global, tree: &Expr) -> Result<Expr, ReadError> {
-    let text = policy_text(alloc, tree)?.text;
-    read_expr(alloc, &text)
 }

@@ -52,7 +52,7 @@ enum At<'a> {
     Escaped(Option<&'a str>, usize),
 }
 
-/// The parts of a row. No depth of its lists takes the machine's stack.
+/// The parts of a row. To read them takes none of the machine's stack, however deep its lists are.
 pub fn parts<'a>(alloc: Global, row: &'a str) -> Result<Vec<Part<'a>>, NoAnswer> {
     let mut parts = Vec::new(alloc);
     let mut open = Vec::new(alloc);

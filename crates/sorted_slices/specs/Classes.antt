@@ -41,7 +41,7 @@ TieWhereSame {K} R =
     (xs ys : List K) → IsStrictlySortedBy R xs → IsStrictlySortedBy R ys
     → HaveSameClasses R xs ys ↔ (slice_cmp R xs ys ≡ Equal)
 
--- and are equally long then
+-- strictly rising lists of the same classes are equally long
 abbrev pub AreAsLong : {K : Type 0} → (K → K → Ordering) → Type 0
 AreAsLong {K} R =
     (xs ys : List K) → IsStrictlySortedBy R xs → IsStrictlySortedBy R ys → HaveSameClasses R xs ys

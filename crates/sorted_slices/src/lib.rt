@@ -101,6 +101,3 @@ fn ends_before<T: Ord>(items: &[T], others: &[T]) -> bool
         _ => true,
     }
 }
-
-#[cfg(test)]
-mod tests;

@@ -1,7 +1,7 @@
 //! What the calls here read and answer alike.
 use row_parts::NoAnswer;
 
-/// Answers that have to agree: whether they do, and what they are.
+/// Refuses answers that have to agree and do not: `what` says which.
 pub fn agreed(holds: bool, what: &'static str) -> Result<(), NoAnswer> {
     if holds {
         Ok(())

@@ -2,7 +2,8 @@
 #![tactic(auto)]
 
 use anyhow::Result;
-use cedar_conditions::{Bindings, evaluate_condition};
+use cedar_conditions::{Bindings, BindingsError, evaluate_condition};
+use std::alloc::AllocError;
 use std::io::{BufRead as _, BufReader};
 
 fn main(rt: HostRuntime) -> Result<()> {
@@ -22,8 +23,10 @@ fn main(rt: HostRuntime) -> Result<()> {
 // The bindings of a line; where it has none, why.
 fn bound(rt: &HostRuntime, json: &str) -> Result<Bindings> {
     let mut bindings = Bindings::new(rt.alloc());
-    if let Err(error) = bindings.bind_json(rt.alloc(), json) {
-        println!(rt; "{error}")?;
+    match bindings.bind_json(rt.alloc(), json) {
+        Ok(()) => {}
+        Err(BindingsError::Memory) => return Err(AllocError.into()),
+        Err(error) => println!(rt; "{error}")?,
     }
     Ok(bindings)
 }

@@ -1,6 +1,6 @@
 //! Slices that are made to rise and asked, and each law called once.
-use crate::laws::{none_is_any, part_is_all, rising_lists_are_unique};
-use crate::{contains, into_rising, into_sorted, is_disjoint, is_rising, is_subset};
+use sorted_slices::laws::{none_is_any, part_is_all, rising_lists_are_unique};
+use sorted_slices::{contains, into_rising, into_sorted, is_disjoint, is_rising, is_subset};
 use std::alloc::{AllocError, Global};
 
 fn numbers(alloc: Global, n: u64) -> Result<Vec<u64>, AllocError> {

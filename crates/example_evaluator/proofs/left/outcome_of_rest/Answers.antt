@@ -1,8 +1,8 @@
 use Rattle.cedar_ast.specs.Evaluations.{both, meaning_of, plain_env}
 use Rattle.cedar_ast.specs.Exprs.{bare_expr}
 use Rattle.cedar_ast.specs.PlainNames.{bare_name}
-use Rattle.example_simplifier.proofs.Later.{gives_later}
-use Rattle.example_simplifier.proofs.decide.Goals as goal
+use Rattle.example_evaluator.proofs.Later.{gives_later}
+use Rattle.example_evaluator.proofs.left.outcome_of_rest.Goals as goal
 
 pub returns : goal.returns
 returns c =

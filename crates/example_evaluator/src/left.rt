@@ -1,0 +1,45 @@
+//! What is left of a rule where only a part of its unknowns is known.
+ghost use Rattle.cedar_ast.specs.Answers.{Gives};
+ghost use Rattle.cedar_ast.specs.Environment.{fold};
+ghost use Rattle.cedar_ast.specs.Evaluations.{both, plain_env};
+ghost use Rattle.cedar_ast.specs.Exprs.{bare_expr};
+
+use cedar_ast::evaluator::{CallRefused, Evaluator, Outcome, evaluate};
+use cedar_ast::expr_builder::ExprBuilder;
+use cedar_ast::simplifier::simplify;
+use cedar_ast::{BuildFault, Expr, Value};
+use cedar_sketch::Sketch;
+use std::alloc::{AllocError, Global};
+use std::collections::HashMap;
+use std::rc::RcStr;
+
+/// The text of the rule's value, if it is known, or of the expression that is left.
+pub fn what_is_left(
+    alloc: Global,
+    rule: &Expr,
+    now: &HashMap<RcStr, Value>,
+) -> Result<String, AllocError> {
+    let part = simplify(alloc, rule, now)?;
+    if let Some(value) = part.as_value() {
+        return format!(in alloc; "{value}");
+    }
+    part.into_expr(alloc)?
+        .into_expr::<Sketch>(alloc)?
+        .to_text(alloc)
+}
+
+/// What a rule comes to where two maps bind its unknowns: of what the first one leaves, the outcome
+/// with the second one.
+pub fn outcome_of_rest(
+    alloc: Global,
+    rule: &Expr,
+    now: &HashMap<RcStr, Value>,
+    later: &HashMap<RcStr, Value>,
+) -> Result<Outcome, BuildFault<CallRefused>>
+    ensures { let B = ⟦<Evaluator as ExprBuilder>⟧ in
+        let envs = both (plain_env now.now) (plain_env later.now) in
+        Gives B.meaning_of B.fault_of (fold B.ops envs (bare_expr rule.now)) result }
+{
+    let left = simplify(alloc, rule, now)?.into_expr(alloc)?;
+    evaluate(alloc, &left, later)
+}
