@@ -53,6 +53,6 @@ fn simplified(
     values: &HashMap<RcStr, Value>,
 ) -> Result<Part, CaseFault> {
     let part = simplify(alloc, expr, values)?;
-    expect(part.as_value().is_some() == matches!(rest, Rest::Closed))?;
+    expect(part.is_known() == matches!(rest, Rest::Closed))?;
     Ok(part)
 }

@@ -76,7 +76,7 @@ fn answer_expr(
     bindings: &Bindings,
 ) -> Result<Answer, AllocError> {
     let part = simplify(alloc, expr, &bindings.values)?;
-    let is_known = part.as_value().is_some();
+    let is_known = part.is_known();
     let left = part.into_expr(alloc)?;
     if is_known {
         return Ok(Answer::Value(policy_text(alloc, &left)?.text));

@@ -6,7 +6,7 @@ use thiserror::Error;
 /// Why an evaluation gives no value. `Open` may change where more unknowns are bound; the others
 /// never do. Its text is `fault: open`, `fault: type`, `fault: overflow`, `fault: missing` or
 /// `fault: store`.
-#[derive(Clone, Copy, Debug, PartialEq, Eq)]
+#[derive(Clone, Copy, Debug, PartialEq, Eq, Error)]
 pub enum EvalFault {
     /// A part is not known: a variable, a slot, or an unknown that is not bound.
     Open,

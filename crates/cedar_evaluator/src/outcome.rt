@@ -58,6 +58,14 @@ impl Outcome {
         &self.result
     }
 
+    /// The value, or why there is none, of a consumed outcome.
+    pub fn into_result(self) -> Result<Value<NoExtension>, EvalFault>
+        ensures same { result ≡ result_of self }
+        ensures well_formed { IfOk result (λ v. IsTrue (well_formed ⟦<NoExtension as Ord>⟧.cmp v)) }
+    {
+        self.result
+    }
+
     // A literal, or a fault.
     pub(crate) fn settle(settled: Result<Literal, EvalFault>) -> Outcome
         ensures { meaning_of result ≡ literal_outcome (faulted settled) }
@@ -157,14 +165,6 @@ impl Outcome {
         ensures { meaning_of result ≡ Ok (bare_value value) }
     {
         Outcome { result: Ok(value) }
-    }
-
-    // The value, or why there is none.
-    pub(crate) fn into_result(self) -> Result<Value<NoExtension>, EvalFault>
-        ensures same { result ≡ result_of self }
-        ensures well_formed { IfOk result (λ v. IsTrue (well_formed ⟦<NoExtension as Ord>⟧.cmp v)) }
-    {
-        self.result
     }
 
     // The value of an attribute.

@@ -6,7 +6,7 @@ use Rattle.cedar_builders.specs.Count.{total, count_is}
 use Rattle.cedar_builders.specs.Walks.{need, need_from}
 use Rattle.cedar_exprs.specs.BareExpr.{bare_expr}
 use Rattle.cedar_exprs.specs.Entries.{entries_at, entries_left, all_entries, nodes_left, IsAdded}
-use Rattle.cedar_exprs.specs.Steps.{nodes, row_nodes}
+use Rattle.cedar_exprs.specs.Steps.{nodes, item_nodes}
 use Rattle.cedar_exprs.specs.Walks.{children, needs}
 use Rattle.cedar_exprs.specs.declared.entries.Count.{Count}
 use Rattle.cedar_exprs.specs.declared.expr.Expr.{Expr}
@@ -24,12 +24,12 @@ later i j (n ∷ ns) =
     omega (arith, rest')
 
 module _ {T : Type 0} where
-  of_row : (es : List (Expr T)) → total (map bare_expr es) ≡ row_nodes es
+  of_row : (es : List (Expr T)) → total (map bare_expr es) ≡ item_nodes es
   of_row [] = refl
   of_row (e ∷ es) = ap (λ n. nodes e + n) (of_row es)
 
   -- a node and those below it
-  pub nodes_is : (e : Expr T) → nodes e ≡ suc (row_nodes (children e))
+  pub nodes_is : (e : Expr T) → nodes e ≡ suc (item_nodes (children e))
   nodes_is e = count_is (bare_expr e) ∙ ap (λ es. suc (total es)) (sym (children_bare e)) ∙ ap suc (of_row (children e))
 
   -- a node needs the entry that it has, and what its children need

@@ -2,7 +2,7 @@
 use Rattle.std.specs.Prelude.{◌≡◌, ℕ, ◌+◌, ◌≤◌, max, List, [], ◌∷◌}
 use Rattle.cedar_builders.specs.Walks.{need, need_from}
 use Rattle.cedar_exprs.specs.BareExpr.{bare_expr}
-use Rattle.cedar_exprs.specs.Steps.{nodes, row_nodes}
+use Rattle.cedar_exprs.specs.Steps.{nodes, item_nodes}
 use Rattle.cedar_exprs.specs.Walks.{needs}
 use Rattle.cedar_exprs.specs.declared.entries.Count.{Count}
 use Rattle.cedar_exprs.specs.declared.expr.Expr.{Expr}
@@ -28,4 +28,4 @@ nodes_left (p ∷ ps) = nodes p.0.now + nodes_left ps
 abbrev pub IsAdded : {T : Type 0} → Count T → ℕ → List (Expr T) → Count T → Type 0
 IsAdded old below es new =
     (all_entries new ≡ max (all_entries old) (need_from below (needs es)))
-    × (nodes_left new.left.items ≤ nodes_left old.left.items + row_nodes es)
+    × (nodes_left new.left.items ≤ nodes_left old.left.items + item_nodes es)

@@ -9,12 +9,14 @@ use Rattle.dropped_rows.specs.Rows as rows
 use Rattle.cedar_exprs.specs.BareExpr.{ExprKind, bare_expr, bare_expr_kind}
 use Rattle.cedar_exprs.specs.declared.expr.Expr.{Expr}
 use Rattle.cedar_exprs.specs.declared.below.Below.{Below}
+use Rattle.cedar_exprs.specs.declared.below.Row as below
+use Rattle.cedar_exprs.specs.declared.below.Row.TheVariants as row
 use Rattle.cedar_exprs.specs.declared.expr.KindOf.{KindOf}
 use Rattle.cedar_exprs.specs.declared.dropping.Left.{Left}
 use Rattle.cedar_exprs.specs.declared.dropping.Step.{Step}
-use Rattle.cedar_exprs.specs.declared.dropping.Step.TheVariants.{Into, On, Watched, Row, Fields, End}
+use Rattle.cedar_exprs.specs.declared.dropping.Step.TheVariants.{Into, On, Watched, Row, End}
 
--- the nodes of an expression, of a kind, of a node and a row that may wait, of the members of a row, of the values of a record
+-- the nodes of an expression, of a kind, of a node that may wait, of the items of a row, of the values of a record
 abbrev pub nodes : {T : Type 0} → Expr T → ℕ
 nodes e = count (bare_expr e)
 
@@ -25,20 +27,24 @@ abbrev pub if_node : {T : Type 0} → Option (Rc (Expr T) Global) → ℕ
 if_node None = 0
 if_node (Some e) = nodes e.value
 
-abbrev pub row_nodes : {T : Type 0} → List (Expr T) → ℕ
-row_nodes = rows.row_nodes nodes
+abbrev pub item_nodes : {T : Type 0} → List (Expr T) → ℕ
+item_nodes = rows.row_nodes nodes
 
 abbrev pub field_nodes : {T : Type 0} → List (RcStr Global × Expr T) → ℕ
 field_nodes = rows.pair_nodes nodes
 
--- the nodes of a node with this below it
+-- the nodes of a row
+abbrev pub row_nodes : {T : Type 0} → below.Row T → ℕ
+row_nodes (row.Items es) = item_nodes es.value.items
+row_nodes (row.Fields es) = field_nodes es.value.entries
+
+-- the nodes of a node with this below it, and of what may wait
 abbrev pub below_nodes : {T : Type 0} → Below T → ℕ
 below_nodes Below.Nothing = 1
 below_nodes (Below.One a) = suc (nodes a.value)
 below_nodes (Below.Two a b) = suc (nodes a.value + nodes b.value)
 below_nodes (Below.Three a b c) = suc (nodes a.value + (nodes b.value + nodes c.value))
-below_nodes (Below.Row es) = suc (row_nodes es.value.items)
-below_nodes (Below.Fields es) = suc (field_nodes es.value.entries)
+below_nodes (Below.Row r) = suc (row_nodes r)
 
 abbrev pub if_row : {T : Type 0} → Option (Below T) → ℕ
 if_row = rows.waiting_nodes below_nodes
@@ -64,6 +70,5 @@ abbrev pub IsStep : {T : Type 0} → ℕ → ℕ → Step T → Type 0
 IsStep k n (Into left) = (below_nodes left.below < k) × (all_nodes left ≤ n)
 IsStep k n (On left) = all_nodes left < n
 IsStep k n (Watched rest left) = (all_nodes left + below_nodes rest ≤ n) × (0 < all_nodes left) × (0 < below_nodes rest)
-IsStep k n (Row row next) = (row_nodes row.value.items < n) × IfSome next (λ left. all_nodes left < n)
-IsStep k n (Fields fields next) = (field_nodes fields.value.entries < n) × IfSome next (λ left. all_nodes left < n)
+IsStep k n (Row r next) = (row_nodes r < n) × IfSome next (λ left. all_nodes left < n)
 IsStep k n End = ⊤

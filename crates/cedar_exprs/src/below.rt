@@ -14,7 +14,14 @@ pub(crate) enum Below<T> {
     One(Rc<Expr<T>>),
     Two(Rc<Expr<T>>, Rc<Expr<T>>),
     Three(Rc<Expr<T>>, Rc<Expr<T>>, Rc<Expr<T>>),
-    Row(Rc<Vec<Expr<T>>>),
+    Row(Row<T>),
+}
+
+// A row of children.
+pub(crate) enum Row<T> {
+    // The members of a set, or the arguments of a call.
+    Items(Rc<Vec<Expr<T>>>),
+    // The values of a record, with their keys.
     Fields(Rc<BTreeMap<RcStr, Expr<T>>>),
 }
 
@@ -73,7 +80,7 @@ pub(crate) fn strip<T: Drop>(kind: ExprKind<T>) -> Below<T>
         ExprKind::BinaryApp { op: _, arg1, arg2 } => Below::Two(arg1, arg2),
         ExprKind::ExtensionFunctionApp { fn_name, args } => {
             drop(fn_name);
-            Below::Row(args)
+            Below::Row(Row::Items(args))
         }
         ExprKind::GetAttr { expr, attr } => {
             drop(attr);
@@ -87,8 +94,8 @@ pub(crate) fn strip<T: Drop>(kind: ExprKind<T>) -> Below<T>
             drop(pattern);
             Below::One(expr)
         }
-        ExprKind::Set(members) => Below::Row(members),
-        ExprKind::Record(fields) => Below::Fields(fields),
+        ExprKind::Set(members) => Below::Row(Row::Items(members)),
+        ExprKind::Record(fields) => Below::Row(Row::Fields(fields)),
         ExprKind::Is { expr, entity_type } => {
             drop(entity_type);
             Below::One(expr)
@@ -112,8 +119,8 @@ pub(crate) fn kind_over<T>(below: Below<T>) -> ExprKind<T>
             then_expr,
             else_expr,
         },
-        Below::Row(row) => ExprKind::Set(row),
-        Below::Fields(fields) => ExprKind::Record(fields),
+        Below::Row(Row::Items(items)) => ExprKind::Set(items),
+        Below::Row(Row::Fields(fields)) => ExprKind::Record(fields),
     }
 }
 

@@ -1,18 +1,20 @@
 //! How an expression is dropped.
 ghost use Rattle.std.specs.Prelude.{◌≡◌, ℕ, ◌+◌, ◌<◌, ◌≤◌, suc, IfSome};
+ghost use Rattle.dropped_rows.specs.Rows.{IsTaken};
 ghost use Rattle.cedar_exprs.specs.Steps.{
   nodes,
   kind_nodes,
   below_nodes,
   if_node,
   if_row,
-  row_nodes,
+  item_nodes,
   field_nodes,
+  row_nodes,
   all_nodes,
   IsStep,
 };
 
-use crate::below::{Below, drop_leaf, strip};
+use crate::below::{Below, Row, drop_leaf, strip};
 use crate::expr::{Expr, ExprKind};
 use crate::row_items::{last_branch, last_branch_value, take_item, take_value};
 use cedar_terms::UnaryOp;
@@ -55,13 +57,6 @@ fn drop_below<T: Drop>(below: Below<T>) {
                     None => return,
                 }
             }
-            Step::Fields(fields, next) => {
-                drop_fields(fields);
-                match next {
-                    Some(next) => left = next,
-                    None => return,
-                }
-            }
             Step::End => return,
         }
     }
@@ -86,10 +81,8 @@ enum Step<T> {
     // A weak pointer keeps the block of a node, so that the children beside it can't wait there:
     // these, and what is left beside them.
     Watched(Below<T>, Left<T>),
-    // Items that can't wait, and what is left beside them.
-    Row(Rc<Vec<Expr<T>>>, Option<Left<T>>),
-    // Keys and values that can't wait, and what is left beside them.
-    Fields(Rc<BTreeMap<RcStr, Expr<T>>>, Option<Left<T>>),
+    // A row that can't wait, and what is left beside it.
+    Row(Row<T>, Option<Left<T>>),
     // Nothing is left.
     End,
 }
@@ -107,8 +100,8 @@ fn enter<T: Drop>(left: Left<T>) -> Step<T>
         Below::One(child) => go_through(child, waiting, rows),
         Below::Two(first, second) => go_two(first, second, waiting, rows),
         Below::Three(first, second, third) => go_three(first, second, third, waiting, rows),
-        Below::Row(row) => open_row(row, waiting, rows),
-        Below::Fields(fields) => open_fields(fields, waiting, rows),
+        Below::Row(Row::Items(items)) => open_items(items, waiting, rows),
+        Below::Row(Row::Fields(fields)) => open_fields(fields, waiting, rows),
     }
 }
 
@@ -245,8 +238,8 @@ fn go_on<T: Drop>(waiting: Option<Rc<Expr<T>>>, rows: Option<Below<T>>) -> Optio
     match next_of(waiting) {
         Some(below) => Some(only(below, rows)),
         None => match rows {
-            Some(Below::Row(row)) => Some(resume_row(row)),
-            Some(Below::Fields(fields)) => Some(resume_fields(fields)),
+            Some(Below::Row(Row::Items(items))) => Some(resume_items(items)),
+            Some(Below::Row(Row::Fields(fields))) => Some(resume_fields(fields)),
             Some(below) => Some(only(below, None)),
             None => None,
         },
@@ -279,51 +272,18 @@ fn only<T>(below: Below<T>, rows: Option<Below<T>>) -> Left<T>
 
 // Into an item of a row, which then waits.
 #[inline(never)]
-fn open_row<T: Drop>(
-    row: Rc<Vec<Expr<T>>>,
+fn open_items<T: Drop>(
+    items: Rc<Vec<Expr<T>>>,
     waiting: Option<Rc<Expr<T>>>,
     rows: Option<Below<T>>,
 ) -> Step<T>
-    ensures { IsStep (suc (row_nodes row.value.items))
-        (suc (row_nodes row.value.items) + (if_node waiting + if_row rows)) result }
+    ensures { IsStep (suc (item_nodes items.value.items))
+        (suc (item_nodes items.value.items) + (if_node waiting + if_row rows)) result }
 {
-    let mut row = row;
-    match Rc::get_mut(&mut row) {
-        Some(items) => match take_item(items, rows) {
-            Taken::Below(below) => Step::Into(Left {
-                below,
-                waiting,
-                rows: Some(Below::Row(row)),
-            }),
-            Taken::AfterLeaf(below) => Step::On(Left {
-                below,
-                waiting,
-                rows: Some(Below::Row(row)),
-            }),
-            Taken::Nothing(rows) => Step::Row(row, go_on(waiting, rows)),
-        },
-        None => Step::Row(row, go_on(waiting, rows)),
-    }
-}
-
-// The last item of a row that waits, but for leaves. If it is the only one, it is taken to be the
-// row that waits below, and the row is done with.
-fn resume_row<T: Drop>(row: Rc<Vec<Expr<T>>>) -> Left<T>
-    ensures { all_nodes result ≤ suc (row_nodes row.value.items) }
-{
-    let mut row = row;
-    match Rc::get_mut(&mut row) {
-        Some(items) => match last_branch(items) {
-            Some(last) => {
-                if items.is_empty() {
-                    only(Below::Row(row), Some(last))
-                } else {
-                    only(last, Some(Below::Row(row)))
-                }
-            }
-            None => only(Below::Row(row), None),
-        },
-        None => only(Below::Row(row), None),
+    let mut items = items;
+    match Rc::get_mut(&mut items) {
+        Some(row) => opened(take_item(row, rows), waiting, Row::Items(items)),
+        None => opened(Taken::Nothing(rows), waiting, Row::Items(items)),
     }
 }
 
@@ -339,46 +299,88 @@ fn open_fields<T: Drop>(
 {
     let mut fields = fields;
     match Rc::get_mut(&mut fields) {
-        Some(pairs) => match take_value(pairs, rows) {
-            Taken::Below(below) => Step::Into(Left {
-                below,
-                waiting,
-                rows: Some(Below::Fields(fields)),
-            }),
-            Taken::AfterLeaf(below) => Step::On(Left {
-                below,
-                waiting,
-                rows: Some(Below::Fields(fields)),
-            }),
-            Taken::Nothing(rows) => Step::Fields(fields, go_on(waiting, rows)),
-        },
-        None => Step::Fields(fields, go_on(waiting, rows)),
+        Some(row) => opened(take_value(row, rows), waiting, Row::Fields(fields)),
+        None => opened(Taken::Nothing(rows), waiting, Row::Fields(fields)),
     }
 }
 
-// As `resume_row`, of a record.
+// Into an item that was taken out of a row, which then waits.
+fn opened<T: Drop>(item: Taken<Below<T>>, waiting: Option<Rc<Expr<T>>>, row: Row<T>) -> Step<T>
+    ensures { (m w n : ℕ) → IsTaken below_nodes m w n item → row_nodes row ≡ n
+        → IsStep (suc m) (suc m + (if_node waiting + w)) result }
+{
+    match item {
+        Taken::Below(below) => Step::Into(Left {
+            below,
+            waiting,
+            rows: Some(Below::Row(row)),
+        }),
+        Taken::AfterLeaf(below) => Step::On(Left {
+            below,
+            waiting,
+            rows: Some(Below::Row(row)),
+        }),
+        Taken::Nothing(rows) => Step::Row(row, go_on(waiting, rows)),
+    }
+}
+
+// The last item of a row that waits, but for leaves.
+fn resume_items<T: Drop>(items: Rc<Vec<Expr<T>>>) -> Left<T>
+    ensures { all_nodes result ≤ suc (item_nodes items.value.items) }
+{
+    let mut items = items;
+    match Rc::get_mut(&mut items) {
+        Some(row) => {
+            let last = last_branch(row);
+            resumed(last, row.is_empty(), Row::Items(items))
+        }
+        None => only(Below::Row(Row::Items(items)), None),
+    }
+}
+
+// The last value of a record that waits, but for leaves.
 fn resume_fields<T: Drop>(fields: Rc<BTreeMap<RcStr, Expr<T>>>) -> Left<T>
     ensures { all_nodes result ≤ suc (field_nodes fields.value.entries) }
 {
     let mut fields = fields;
     match Rc::get_mut(&mut fields) {
-        Some(pairs) => match last_branch_value(pairs) {
-            Some(last) => {
-                if pairs.is_empty() {
-                    only(Below::Fields(fields), Some(last))
-                } else {
-                    only(last, Some(Below::Fields(fields)))
-                }
+        Some(row) => {
+            let last = last_branch_value(row);
+            resumed(last, row.is_empty(), Row::Fields(fields))
+        }
+        None => only(Below::Row(Row::Fields(fields)), None),
+    }
+}
+
+// The last item of a row that waits, beside that row. If it was the only one, it is taken to be the
+// row that waits below, and the row is done with.
+fn resumed<T>(last: Option<Below<T>>, is_only: bool, row: Row<T>) -> Left<T>
+    ensures { all_nodes result ≡ if_row last + suc (row_nodes row) }
+{
+    match last {
+        Some(last) => {
+            if is_only {
+                only(Below::Row(row), Some(last))
+            } else {
+                only(last, Some(Below::Row(row)))
             }
-            None => only(Below::Fields(fields), None),
-        },
-        None => only(Below::Fields(fields), None),
+        }
+        None => only(Below::Row(row), None),
+    }
+}
+
+// Drops a row that can't wait.
+#[cycle(dropped)]
+fn drop_row<T: Drop>(row: Row<T>) {
+    match row {
+        Row::Items(items) => drop_items(items),
+        Row::Fields(fields) => drop_fields(fields),
     }
 }
 
 #[cycle(dropped)]
-fn drop_row<T: Drop>(row: Rc<Vec<Expr<T>>>) {
-    if let Some(mut row) = Rc::into_inner(row) {
+fn drop_items<T: Drop>(items: Rc<Vec<Expr<T>>>) {
+    if let Some(mut row) = Rc::into_inner(items) {
         'each: while let Some(item) = row.pop() {
             drop_below(strip(item.into_parts().0));
         }
@@ -388,12 +390,12 @@ fn drop_row<T: Drop>(row: Rc<Vec<Expr<T>>>) {
 
 #[cycle(dropped)]
 fn drop_fields<T: Drop>(fields: Rc<BTreeMap<RcStr, Expr<T>>>) {
-    if let Some(mut fields) = Rc::into_inner(fields) {
-        'each: while let Some((key, item)) = fields.pop_first() {
+    if let Some(mut row) = Rc::into_inner(fields) {
+        'each: while let Some((key, item)) = row.pop_first() {
             drop(key);
             drop_below(strip(item.into_parts().0));
         }
-        fields.destroy_empty();
+        row.destroy_empty();
     }
 }
 

@@ -4,10 +4,11 @@
 ghost use Rattle.std.specs.Prelude.{◌≡◌, ◌↔◌, ◌∷◌, IsTrue, map};
 ghost use Rattle.cedar_builders.specs.RisingKeys.{KeysRise};
 ghost use Rattle.cedar_builders.specs.Walks as bare;
-ghost use Rattle.cedar_builders.specs.Walks.{backward, forward};
+ghost use Rattle.cedar_builders.specs.Walks.{backward};
 ghost use Rattle.cedar_exprs.specs.ExprData.{SameData, data_tree, data_trees, holds};
 ghost use Rattle.cedar_exprs.specs.BareExpr.{bare_expr, data_of};
-ghost use Rattle.cedar_exprs.specs.Walks.{children, positions, preorder};
+ghost use Rattle.cedar_exprs.specs.FirstNodes.{InPreorder};
+ghost use Rattle.cedar_exprs.specs.Walks.{children, positions};
 ghost use Rattle.cedar_exprs.specs.declared.expr.Expr.{Expr};
 
 use crate::children::Children;
@@ -63,6 +64,5 @@ pub fn record_keys_rise<T>(expr: &Expr<T>)
 /// In preorder a node stands before the nodes of its children, the first child first. The bare trees
 /// of these nodes are the nodes of the bare tree.
 pub fn nodes_in_preorder<T>()
-    ensures order { (e : Expr T) → preorder e ≡ e ∷ forward (map preorder (children e)) }
-    ensures trees { (e : Expr T) → map bare_expr (preorder e) ≡ bare.preorder (bare_expr e) }
+    ensures { InPreorder T }
 {}

@@ -2,7 +2,7 @@
 //! or the values of a record.
 ghost use Rattle.std.specs.Prelude.{◌+◌, ◌≤◌, IfSome};
 ghost use Rattle.dropped_rows.specs.Rows.{IsPut, IsTaken};
-ghost use Rattle.cedar_exprs.specs.Steps.{below_nodes, field_nodes, if_row, row_nodes};
+ghost use Rattle.cedar_exprs.specs.Steps.{below_nodes, field_nodes, if_row, item_nodes};
 
 use crate::below::Below;
 use crate::expr::Expr;
@@ -16,8 +16,8 @@ pub(crate) fn take_item<T: Drop>(
     items: &mut Vec<Expr<T>>,
     rows: Option<Below<T>>,
 ) -> Taken<Below<T>>
-    ensures { IsTaken below_nodes (row_nodes items.old.items) (if_row rows)
-        (row_nodes items.new.items) result }
+    ensures { IsTaken below_nodes (item_nodes items.old.items) (if_row rows)
+        (item_nodes items.new.items) result }
 {
     match rows {
         Some(next) => match put_first(items, next) {
@@ -39,8 +39,8 @@ fn put_first<T: Drop>(
     items: &mut Vec<Expr<T>>,
     next: Below<T>,
 ) -> Result<Option<Below<T>>, Below<T>>
-    ensures { IsPut below_nodes (row_nodes items.old.items) (below_nodes next)
-        (row_nodes items.new.items) result }
+    ensures { IsPut below_nodes (item_nodes items.old.items) (below_nodes next)
+        (item_nodes items.new.items) result }
 {
     match items.first_mut() {
         Some(first) => Ok(first.replace_below(next)),
@@ -52,8 +52,8 @@ fn put_first<T: Drop>(
 #[inline(never)]
 pub(crate) fn last_branch<T: Drop>(items: &mut Vec<Expr<T>>) -> Option<Below<T>>
     ensures taken { IfSome result (λ last.
-        below_nodes last + row_nodes items.new.items ≤ row_nodes items.old.items) }
-    ensures fewer { row_nodes items.new.items ≤ row_nodes items.old.items }
+        below_nodes last + item_nodes items.new.items ≤ item_nodes items.old.items) }
+    ensures fewer { item_nodes items.new.items ≤ item_nodes items.old.items }
 {
     'leaves: while let Some(item) = items.pop() {
         if let Some(below) = item.into_below() {

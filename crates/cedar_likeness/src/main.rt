@@ -2,12 +2,7 @@
 //! with their records.
 #![tactic(auto)]
 
-mod comparison;
-mod corpus;
-#[cfg(test)]
-mod tests;
-
-use crate::comparison::{compare, status};
+use script_records::{compare, status};
 use std::io;
 use std::process::ExitCode;
 

@@ -17,8 +17,11 @@ use std::alloc::{AllocError, Global};
 /// or an expression that is left.
 ///
 /// ```rust
-/// fn is_decided(part: &Part) -> bool {
-///     part.as_value().is_some()
+/// fn is_allowed(part: &Part) -> bool {
+///     match part.as_value() {
+///         Some(value) => matches!(value.try_as_lit(), Some(Literal::Bool(true))),
+///         None => false,
+///     }
 /// }
 /// ```
 #[derive(Debug, Drop)]
@@ -49,6 +52,30 @@ impl Part {
         }
     }
 
+    /// The value, if it is known, of a consumed part.
+    pub fn into_value(self) -> Option<Value<NoExtension>>
+        ensures same { result ≡ held_value self }
+        ensures value { option_map bare_value result ≡ known_value (meaning_of self) }
+        ensures well_formed { IfSome result
+            (λ v. IsTrue (well_formed ⟦<NoExtension as Ord>⟧.cmp v)) }
+    {
+        let kind = self.kind;
+        match kind {
+            Kind::Known(value) => Some(value),
+            Kind::Left(_) => None,
+        }
+    }
+
+    /// Whether the value is known.
+    pub fn is_known(&self) -> bool
+        ensures { result ≡ is_some (known_value (meaning_of self.now)) }
+    {
+        match &self.kind {
+            Kind::Known(_) => true,
+            Kind::Left(_) => false,
+        }
+    }
+
     /// The expression that is left, or that of the value.
     pub fn into_expr(self, alloc: Global) -> Result<Expr, AllocError>
         ensures { IfOk result (λ e. bare_expr e ≡ meant.tree_of held_call (meaning_of self)) }
@@ -64,17 +91,6 @@ impl Part {
         match kind {
             Kind::Known(value) => Tree::of_value(alloc, &value),
             Kind::Left(tree) => Ok(tree),
-        }
-    }
-
-    // The value, if it is known, by itself.
-    pub(crate) fn into_value(self) -> Option<Value<NoExtension>>
-        ensures { result ≡ held_value self }
-    {
-        let kind = self.kind;
-        match kind {
-            Kind::Known(value) => Some(value),
-            Kind::Left(_) => None,
         }
     }
 
@@ -113,16 +129,6 @@ impl Part {
         match &self.kind {
             Kind::Known(value) => as_bool(value),
             Kind::Left(_) => None,
-        }
-    }
-
-    // Whether it is known.
-    pub(crate) fn is_known(&self) -> bool
-        ensures { result ≡ is_some (known_value (meaning_of self.now)) }
-    {
-        match &self.kind {
-            Kind::Known(_) => true,
-            Kind::Left(_) => false,
         }
     }
 

@@ -1,5 +1,5 @@
 -- Rows that are taken apart, by the nodes that their items have.
-use Rattle.std.specs.Prelude.{◌≡◌, ℕ, ◌+◌, ◌<◌, ◌≤◌, List, [], ◌∷◌, Option, Some, None, Result, Ok, Err}
+use Rattle.std.specs.Prelude.{◌≡◌, ℕ, ◌+◌, ◌<◌, ◌≤◌, Bool, true, false, List, [], ◌∷◌, Option, Some, None, Result, Ok, Err}
 use Rattle.std.specs.Global.{Global}
 use Rattle.std.specs.declared.rc.RcStr.{RcStr}
 use Rattle.dropped_rows.specs.declared.Taken.{Taken}
@@ -24,6 +24,12 @@ abbrev pub IsTaken : {B : Type 0} → (B → ℕ) → ℕ → ℕ → ℕ → Ta
 IsTaken g m w n (Taken.Below b) = (g b ≤ m) × (g b + n ≤ m + w)
 IsTaken g m w n (Taken.AfterLeaf b) = g b + n < m + w
 IsTaken g m w n (Taken.Nothing waiting) = waiting_nodes g waiting + n ≤ m + w
+
+-- what is taken after a first item that was a leaf: the last, which waits if it was the only one
+abbrev pub taken_after : {B : Type 0} → Option B → Bool → Taken B
+taken_after (Some last) true = Taken.Nothing (Some last)
+taken_after (Some last) false = Taken.AfterLeaf last
+taken_after None is_only = Taken.Nothing None
 
 -- from a row of m nodes to one of n, into which w were put: what stood in their place, a leaf, or they themselves
 abbrev pub IsPut : {B : Type 0} → (B → ℕ) → ℕ → ℕ → ℕ → Result (Option B) B → Type 0

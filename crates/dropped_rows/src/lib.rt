@@ -4,8 +4,8 @@
 //! Items are told by their nodes: an item is one itself, and so is all that stands below it.
 #![tactic(auto)]
 
-ghost use Rattle.std.specs.Prelude.{ℕ, ◌+◌, ◌<◌};
-ghost use Rattle.dropped_rows.specs.Rows.{IsTaken, waiting_nodes};
+ghost use Rattle.std.specs.Prelude.{◌≡◌, ℕ, ◌+◌, ◌<◌};
+ghost use Rattle.dropped_rows.specs.Rows.{IsTaken, taken_after, waiting_nodes};
 
 /// What is taken out of a row: what stands below an item.
 pub enum Taken<B> {
@@ -20,7 +20,8 @@ pub enum Taken<B> {
 /// What is taken after a first item that was a leaf: what stands below the last item, or, where
 /// that was the only one, what waits below it.
 pub fn after_leaf<B>(last: Option<B>, is_only: bool) -> Taken<B>
-    ensures { (g : B → ℕ) (m w n : ℕ) → waiting_nodes g last + n < m + w
+    ensures is { result ≡ taken_after last is_only }
+    ensures fewer { (g : B → ℕ) (m w n : ℕ) → waiting_nodes g last + n < m + w
         → IsTaken g m w n result }
 {
     match last {

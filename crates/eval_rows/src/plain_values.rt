@@ -16,7 +16,7 @@ pub type PlainValues = HashMap<RcStr, PlainValue>;
 /// What unknowns are bound to: `(("x" V) ..)`; of equal names the last stands.
 pub fn plain_bindings(alloc: Global, part: &Part) -> Result<PlainValues, NoAnswer> {
     let mut values = HashMap::new(alloc);
-    for (name, bound) in value_pairs(alloc, part.list()?, 0)? {
+    for (name, bound) in value_pairs(alloc, part.list()?)? {
         put(alloc, &mut values, name, &bound)?;
     }
     Ok(values)

@@ -1,12 +1,14 @@
-//! Conditions in Cedar's own syntax: a tree is printed, what was printed is read, and a mistake in
-//! a text is shown where it stands.
+//! Conditions in Cedar's own syntax: a tree is printed, what was printed is read, a mistake in a
+//! text is shown where it stands, and a builder of one's own tells how deep the trees are.
 #![tactic(auto)]
 
+mod depth;
+
+use crate::depth::depth_of;
 use anyhow::Result;
-use cedar_exprs::Expr;
+use cedar_ast::{Expr, Literal, Unknown, Var};
 use cedar_printer::policy_text;
 use cedar_reader::{ReadError, read_expr};
-use cedar_terms::{Literal, Unknown, Var};
 use std::alloc::{AllocError, Global};
 use std::io;
 use std::rc::RcStr;
@@ -18,11 +20,23 @@ fn main(rt: HostRuntime) -> Result<()> {
     println!(rt; "{text}")?;
     let read = read_expr(alloc, &text)?;
     println!(rt; "read as the same tree: {}", tree.eq_shape(&read))?;
+    show_depth(&rt, &read)?;
 
     // Brackets stand only where they are needed, and each node that is read has its place.
     show(&rt, "((1 + 2) * 3 == unknown(\"x\")) && (context.mfa)")?;
     show(&rt, "principal has age && principal.age >= 18")?;
     show(&rt, "principal.age >")?;
+
+    // A leaf is 1 deep, any other node one more than its deepest child.
+    show(&rt, "2")?;
+    show(
+        &rt,
+        "unknown(\"x\") < 2 && unknown(\"y\") == unknown(\"z\")",
+    )?;
+    show(
+        &rt,
+        "f(unknown(\"x\") < 2 && unknown(\"y\") == unknown(\"z\"), 1)",
+    )?;
     Ok(())
 }
 
@@ -36,11 +50,21 @@ fn condition(alloc: Global) -> Result<Expr, AllocError> {
     Expr::and(alloc, is_low, is_old)
 }
 
-// Prints a condition that is read, or why it is none.
+// Prints a condition that is read, and its depth, or why it is none.
 fn show(rt: &HostRuntime, text: &str) -> io::Result<()> {
     match read_expr(rt.alloc(), text) {
-        Ok(expr) => println!(rt; "{}", policy_text(rt.alloc(), &expr)?.text),
+        Ok(expr) => show_condition(rt, &expr),
         Err(ReadError::Syntax(error)) => println!(rt; "{error}\n{}", error.excerpt(text)),
         Err(ReadError::Memory) => println!(rt; "no memory"),
     }
+}
+
+fn show_condition(rt: &HostRuntime, expr: &Expr) -> io::Result<()> {
+    println!(rt; "{}", policy_text(rt.alloc(), expr)?.text)?;
+    show_depth(rt, expr)
+}
+
+// A program that takes conditions from strangers may limit this.
+fn show_depth(rt: &HostRuntime, expr: &Expr) -> io::Result<()> {
+    println!(rt; "its tree is {} deep", depth_of(rt.alloc(), expr)?)
 }

@@ -2,7 +2,7 @@
 use crate::chosen::{Chosen, bit};
 use crate::substitution::{clash_text, refusal_of, substituted, substituted_typed};
 use cedar_exprs::{Expr, ExprBuilder, TypedBuildFault};
-use row_parts::{NoAnswer, Part, ok};
+use row_parts::{NoAnswer, Part, holds, ok};
 use row_trees::{KeyedValue, bindings, placed, sketch};
 use std::alloc::{AllocError, Global};
 use std::collections::HashMap;
@@ -57,11 +57,8 @@ fn typed_in_turn(alloc: Global, names: &[Part], e: &Expr, env: &Part) -> Result<
 }
 
 fn agreed(at_once: String, in_turn: &str) -> Result<String, NoAnswer> {
-    if at_once.as_str() == in_turn {
-        Ok(at_once)
-    } else {
-        Err(NoAnswer::Disagree("at once and in turn"))
-    }
+    holds(at_once.as_str() == in_turn, "at once and in turn")?;
+    Ok(at_once)
 }
 
 type Values = HashMap<RcStr, KeyedValue>;

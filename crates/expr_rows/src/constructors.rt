@@ -3,7 +3,7 @@ use crate::arguments::{entity_type, function, leaf_of, members, pairs, shared, v
 use cedar_builders::ExpressionConstructionError;
 use cedar_exprs::{Expr, ExprKind};
 use cedar_terms::BinaryOp;
-use row_parts::{NoAnswer, Part, ok, pattern, shared_text};
+use row_parts::{NoAnswer, Part, holds, ok, pattern, shared_text};
 use row_trees::{attributes, binary, expr, sketch, unary};
 use std::alloc::Global;
 
@@ -24,9 +24,7 @@ pub fn record(alloc: Global, parts: &[Part]) -> Result<String, NoAnswer> {
 // The error's text, which a copy has too.
 fn duplicate(alloc: Global, e: &ExpressionConstructionError) -> Result<String, NoAnswer> {
     let copy = e.clone(alloc)?;
-    if copy != *e {
-        return Err(NoAnswer::Disagree("the copy of an error"));
-    }
+    holds(copy == *e, "the copy of an error")?;
     Ok(format!(in alloc; "duplicate-key {copy}")?)
 }
 

@@ -1,7 +1,7 @@
 //! Copies of expressions, and other places for their outermost node.
 use cedar_builders::ExprBuilder as _;
 use cedar_exprs::{Expr, ExprBuilder, ExprKind, ExprShapeOnly};
-use row_parts::{NoAnswer, Part, hash, maybe_place};
+use row_parts::{NoAnswer, Part, hash, holds, maybe_place};
 use row_trees::placed;
 use std::alloc::Global;
 use std::hash::Hash;
@@ -22,11 +22,7 @@ fn whole(alloc: Global, copy: &Expr, e: &Expr) -> Result<String, NoAnswer> {
 }
 
 fn is_same<T: Eq + Hash>(copy: &T, original: &T, what: &'static str) -> Result<(), NoAnswer> {
-    if *copy == *original && hash(copy) == hash(original) {
-        Ok(())
-    } else {
-        Err(NoAnswer::Disagree(what))
-    }
+    holds(*copy == *original && hash(copy) == hash(original), what)
 }
 
 fn is_kind(alloc: Global, kind: &ExprKind) -> Result<(), NoAnswer> {
@@ -41,11 +37,10 @@ fn is_shape(alloc: Global, e: &Expr) -> Result<(), NoAnswer> {
 }
 
 fn is_shape_of(shape: &ExprShapeOnly, e: Expr) -> Result<(), NoAnswer> {
-    if *shape == ExprShapeOnly::new_from_owned(e) {
-        Ok(())
-    } else {
-        Err(NoAnswer::Disagree("a shape and its copy"))
-    }
+    holds(
+        *shape == ExprShapeOnly::new_from_owned(e),
+        "a shape and its copy",
+    )
 }
 
 // The node of what the expression is taken apart into.

@@ -6,7 +6,7 @@ use crate::shapes::shape_hash;
 use crate::struct_calls::made_by;
 use cedar_builders::ExprBuilder as _;
 use cedar_exprs::{Expr, ExprBuilder};
-use row_parts::{NoAnswer, Part, join};
+use row_parts::{NoAnswer, Part, holds, join};
 use row_trees::sketch;
 use std::alloc::Global;
 
@@ -43,11 +43,7 @@ fn put_data(alloc: Global, e: Expr<u8>, data: u8) -> Result<String, NoAnswer> {
 }
 
 fn is_data(e: Expr<u8>, data: u8) -> Result<(), NoAnswer> {
-    if e.into_data() == data {
-        Ok(())
-    } else {
-        Err(NoAnswer::Disagree("the data"))
-    }
+    holds(e.into_data() == data, "the data")
 }
 
 /// Each position with its data, where the struct makes the tree again.
@@ -72,21 +68,17 @@ fn with_data<T: Data>(alloc: Global, data: T, call: &[Part]) -> Result<Expr<T>, 
 
 // The tree has the shape of one without data.
 fn has_shape(e: &Expr<u8>, plain: &Expr) -> Result<(), NoAnswer> {
-    let is_equal = e.eq_shape(plain);
-    if is_equal && plain.eq_shape(e) && shape_hash(e) == shape_hash(plain) {
-        Ok(())
-    } else {
-        Err(NoAnswer::Disagree("a shape and data"))
-    }
+    let is_equal = e.eq_shape(plain) && plain.eq_shape(e);
+    holds(
+        is_equal && shape_hash(e) == shape_hash(plain),
+        "a shape and data",
+    )
 }
 
 // The data of the first; the trees have one shape.
 fn alike(alloc: Global, a: &Expr<u8>, b: &Expr<u8>) -> Result<String, NoAnswer> {
-    if a.cmp_shape(b).is_eq() {
-        data_text(alloc, a)
-    } else {
-        Err(NoAnswer::Disagree("the order of shapes and data"))
-    }
+    holds(a.cmp_shape(b).is_eq(), "the order of shapes and data")?;
+    data_text(alloc, a)
 }
 
 fn data_text(alloc: Global, e: &Expr<u8>) -> Result<String, NoAnswer> {
@@ -94,7 +86,7 @@ fn data_text(alloc: Global, e: &Expr<u8>) -> Result<String, NoAnswer> {
     for position in e.subexpressions(alloc)? {
         let data = *position.data();
         let position = sketch(alloc, position)?;
-        join(&mut text, format!(in alloc; "{position} {data}")?.as_str())?;
+        join(&mut text, " | ", &format!(in alloc; "{position} {data}")?)?;
     }
     Ok(text)
 }

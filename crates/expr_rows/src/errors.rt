@@ -1,16 +1,14 @@
 //! What the errors of the layer say.
 use cedar_builders::ExpressionConstructionError;
 use cedar_exprs::{ExprValidationError, RestrictedExprError, SubstitutionError};
-use row_parts::{NoAnswer, join};
+use row_parts::{Answer, NoAnswer, holds};
 use std::alloc::Global;
 use std::fmt::Display;
 
 /// The text of a fault of validation, which a copy has too.
 pub fn validation_text(alloc: Global, e: &ExprValidationError) -> Result<String, NoAnswer> {
     let copy = e.clone(alloc)?;
-    if copy != *e {
-        return Err(NoAnswer::Disagree("the copy of an error"));
-    }
+    holds(copy == *e, "the copy of an error")?;
     shown(alloc, &copy)
 }
 
@@ -22,11 +20,11 @@ pub fn substitution_text(alloc: Global, e: &SubstitutionError) -> Result<String,
 
 fn shown_alike<E: Display>(alloc: Global, e: &E, copy: &E) -> Result<String, NoAnswer> {
     let text = shown(alloc, e)?;
-    if shown(alloc, copy)?.as_str() == text.as_str() {
-        Ok(text)
-    } else {
-        Err(NoAnswer::Disagree("the copy of an error"))
-    }
+    holds(
+        shown(alloc, copy)?.as_str() == text.as_str(),
+        "the copy of an error",
+    )?;
+    Ok(text)
 }
 
 fn shown<E: Display>(alloc: Global, e: &E) -> Result<String, NoAnswer> {
@@ -35,14 +33,12 @@ fn shown<E: Display>(alloc: Global, e: &E) -> Result<String, NoAnswer> {
 
 /// What each error says of want of memory.
 pub fn no_memory(alloc: Global) -> Result<String, NoAnswer> {
-    let mut text = String::new(alloc);
-    let construction = shown(alloc, &ExpressionConstructionError::Memory)?;
-    join(&mut text, construction.as_str())?;
-    let validation = validation_text(alloc, &ExprValidationError::Memory)?;
-    join(&mut text, validation.as_str())?;
-    let substitution = substitution_text(alloc, &SubstitutionError::Memory)?;
-    join(&mut text, substitution.as_str())?;
-    let restriction = shown(alloc, &RestrictedExprError::Memory)?;
-    join(&mut text, restriction.as_str())?;
-    Ok(text)
+    let validation = validation_text(alloc, &ExprValidationError::Memory);
+    let substitution = substitution_text(alloc, &SubstitutionError::Memory);
+    Answer::new(alloc)
+        .word(&ExpressionConstructionError::Memory)
+        .labelled_made("| ", validation)
+        .labelled_made("| ", substitution)
+        .labelled("| ", &RestrictedExprError::Memory)
+        .end()
 }

@@ -2,20 +2,19 @@
 use crate::errors::validation_text;
 use cedar_exprs::{Expr, ExprValidationError};
 use cedar_terms::Type;
-use row_parts::NoAnswer;
+use row_parts::{Answer, NoAnswer, holds};
 use row_trees::table;
 use std::alloc::Global;
 
 /// The five queries.
 pub fn queries(alloc: Global, e: &Expr) -> Result<String, NoAnswer> {
-    let projectable = e.is_projectable(alloc)?;
-    let unknown = e.contains_unknown(alloc)?;
-    Ok(format!(in alloc;
-        "ref={} slot={} refset={} projectable={projectable} unknown={unknown}",
-        e.is_ref(),
-        e.is_slot(),
-        e.is_ref_set()
-    )?)
+    Answer::new(alloc)
+        .labelled("ref=", &e.is_ref())
+        .labelled("slot=", &e.is_slot())
+        .labelled("refset=", &e.is_ref_set())
+        .labelled_allocated("projectable=", e.is_projectable(alloc))
+        .labelled_allocated("unknown=", e.contains_unknown(alloc))
+        .end()
 }
 
 /// The type that is known of it.
@@ -35,11 +34,15 @@ fn type_of(alloc: Global, e: &Expr) -> Result<Option<Type>, NoAnswer> {
 pub fn validate(alloc: Global, e: Expr) -> Result<String, NoAnswer> {
     let copy = e.clone(alloc)?;
     match validated(alloc, e)? {
-        Ok(e) if e == copy => Ok(format!(in alloc; "ok")?),
-        Ok(_) => Err(NoAnswer::Disagree("an expression and what validation gives back")),
+        Ok(e) => same(alloc, &e, &copy),
         Err(ExprValidationError::Memory) => Err(NoAnswer::Memory),
         Err(e) => validation_text(alloc, &e),
     }
+}
+
+fn same(alloc: Global, e: &Expr, copy: &Expr) -> Result<String, NoAnswer> {
+    holds(*e == *copy, "an expression and what validation gives back")?;
+    Ok(format!(in alloc; "ok")?)
 }
 
 fn validated(alloc: Global, e: Expr) -> Result<Result<Expr, ExprValidationError>, NoAnswer> {

@@ -1,7 +1,7 @@
 //! Restricted expressions.
 use crate::arguments::function;
 use cedar_exprs::{Expr, RestrictedExpr, RestrictedExprError};
-use row_parts::{NoAnswer, Part, ok, place};
+use row_parts::{Answer, NoAnswer, Part, ok, place};
 use row_trees::{expr, placed, sketch};
 use std::alloc::Global;
 
@@ -15,9 +15,9 @@ pub fn restricted(alloc: Global, e: Expr) -> Result<String, NoAnswer> {
 
 fn refusal(alloc: Global, error: &RestrictedExprError) -> Result<String, NoAnswer> {
     match error {
-        RestrictedExprError::NotRestricted { loc } => {
-            Ok(format!(in alloc; "not-restricted {}", place(alloc, loc.as_ref())?)?)
-        }
+        RestrictedExprError::NotRestricted { loc } => Answer::new(alloc)
+            .labelled_made("not-restricted ", place(alloc, loc.as_ref()))
+            .end(),
         RestrictedExprError::Memory => Err(NoAnswer::Memory),
     }
 }

@@ -1,7 +1,7 @@
 //! What an expression is, whatever its places: its order, its equality and its hash.
 use crate::recorder::Recorder;
 use cedar_exprs::{Expr, ExprShapeOnly};
-use row_parts::{NoAnswer, Part, boolean, hash, sign};
+use row_parts::{NoAnswer, Part, boolean, hash, holds, sign};
 use row_trees::exprs;
 use std::alloc::Global;
 use std::cmp::Ordering;
@@ -14,7 +14,7 @@ pub fn compare(alloc: Global, a: &Expr, b: &Expr) -> Result<String, NoAnswer> {
 
 /// Whether each of several expressions comes before all that follow it.
 pub fn rising(alloc: Global, parts: &[Part]) -> Result<String, NoAnswer> {
-    let all = exprs(alloc, parts, 0)?;
+    let all = exprs(alloc, parts)?;
     for (index, e) in all.iter().enumerate() {
         if !is_before(alloc, e, all.as_slice(), index)? {
             return boolean(alloc, false);
@@ -36,9 +36,7 @@ fn is_before(alloc: Global, e: &Expr, all: &[Expr], index: usize) -> Result<bool
 // The order of two shapes. All that compares or hashes them agrees with it.
 fn order(alloc: Global, a: &Expr, b: &Expr) -> Result<Ordering, NoAnswer> {
     let order = a.cmp_shape(b);
-    if b.cmp_shape(a) != order.reverse() {
-        return Err(NoAnswer::Disagree("the order both ways"));
-    }
+    holds(b.cmp_shape(a) == order.reverse(), "the order both ways")?;
     are_equal(a, b, order.is_eq())?;
     shapes_compare(a, &ExprShapeOnly::new_from_owned(b.clone(alloc)?), order)?;
     if order.is_eq() {
@@ -50,32 +48,28 @@ fn order(alloc: Global, a: &Expr, b: &Expr) -> Result<Ordering, NoAnswer> {
 fn are_equal(a: &Expr, b: &Expr, is_equal: bool) -> Result<(), NoAnswer> {
     let by_shape = a.eq_shape(b);
     let whole = a == b;
-    if by_shape == is_equal && whole == is_equal {
-        Ok(())
-    } else {
-        Err(NoAnswer::Disagree("equality and order"))
-    }
+    holds(
+        by_shape == is_equal && whole == is_equal,
+        "equality and order",
+    )
 }
 
 // A shape that is lent compares with one that is owned.
 fn shapes_compare(a: &Expr, b: &ExprShapeOnly, order: Ordering) -> Result<(), NoAnswer> {
     let a = ExprShapeOnly::new_from_borrowed(a);
     let is_equal = a == *b;
-    if is_equal != order.is_eq() || a.cmp(b) != order {
-        return Err(NoAnswer::Disagree("the order of shapes"));
-    }
-    if is_equal && hash(&a) != hash(b) {
-        return Err(NoAnswer::Disagree("the hash of shapes"));
-    }
-    Ok(())
+    holds(
+        is_equal == order.is_eq() && a.cmp(b) == order,
+        "the order of shapes",
+    )?;
+    holds(!is_equal || hash(&a) == hash(b), "the hash of shapes")
 }
 
 fn hash_alike(a: &Expr, b: &Expr) -> Result<(), NoAnswer> {
-    if hash(a) == hash(b) && shape_hash(a) == shape_hash(b) {
-        Ok(())
-    } else {
-        Err(NoAnswer::Disagree("equality and hash"))
-    }
+    holds(
+        hash(a) == hash(b) && shape_hash(a) == shape_hash(b),
+        "equality and hash",
+    )
 }
 
 /// What a shape feeds std's hasher, as one number.

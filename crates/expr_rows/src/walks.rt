@@ -1,7 +1,7 @@
 //! What walks over an expression give.
 use cedar_exprs::{Expr, ExprIterator, SlotRef};
 use cedar_terms::Unknown;
-use row_parts::{NoAnswer, join, place};
+use row_parts::{Answer, NoAnswer, holds, join, place};
 use row_trees::sketch;
 use std::alloc::Global;
 
@@ -9,7 +9,7 @@ use std::alloc::Global;
 pub fn positions(alloc: Global, e: &Expr) -> Result<String, NoAnswer> {
     let mut text = String::new(alloc);
     for position in e.subexpressions(alloc)? {
-        join(&mut text, sketch(alloc, position)?.as_str())?;
+        join(&mut text, " | ", &sketch(alloc, position)?)?;
     }
     Ok(text)
 }
@@ -27,7 +27,7 @@ pub fn count(alloc: Global, e: &Expr) -> Result<String, NoAnswer> {
 pub fn slots(alloc: Global, e: &Expr) -> Result<String, NoAnswer> {
     let mut text = String::new(alloc);
     for slot in e.slots(alloc)? {
-        join(&mut text, slot_text(alloc, &slot)?.as_str())?;
+        join(&mut text, " | ", &slot_text(alloc, &slot)?)?;
     }
     Ok(text)
 }
@@ -35,18 +35,21 @@ pub fn slots(alloc: Global, e: &Expr) -> Result<String, NoAnswer> {
 // The slot has its own place as it is lent.
 fn slot_text(alloc: Global, lent: &SlotRef) -> Result<String, NoAnswer> {
     let slot = lent.to_slot(alloc)?;
-    if slot.loc.as_ref() != lent.loc || slot.id != lent.id {
-        return Err(NoAnswer::Disagree("a slot and its copy"));
-    }
-    let loc = place(alloc, slot.loc.as_ref())?;
-    Ok(format!(in alloc; "{} @{loc}", slot.id)?)
+    holds(
+        slot.loc.as_ref() == lent.loc && slot.id == lent.id,
+        "a slot and its copy",
+    )?;
+    Answer::new(alloc)
+        .word(&slot.id)
+        .labelled_made("@", place(alloc, slot.loc.as_ref()))
+        .end()
 }
 
 /// Each unknown.
 pub fn unknowns(alloc: Global, e: &Expr) -> Result<String, NoAnswer> {
     let mut text = String::new(alloc);
     for unknown in e.unknowns(alloc)? {
-        join(&mut text, unknown_text(alloc, unknown)?.as_str())?;
+        join(&mut text, " | ", &unknown_text(alloc, unknown)?)?;
     }
     Ok(text)
 }

@@ -130,7 +130,7 @@ fn items_of(alloc: Global, part: &Part) -> Result<String, NoAnswer> {
 fn told_items(alloc: Global, list: &NonEmpty<RcStr>) -> Result<String, NoAnswer> {
     let mut items = String::new(alloc);
     for text in list.iter() {
-        join(&mut items, quoted(alloc, text.as_str())?.as_str())?;
+        join(&mut items, " | ", &quoted(alloc, text.as_str())?)?;
     }
     Ok(items)
 }

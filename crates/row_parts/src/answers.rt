@@ -54,11 +54,11 @@ pub fn sign(alloc: Global, order: Ordering) -> Result<String, NoAnswer> {
     Ok(format!(in alloc; "{sign}")?)
 }
 
-/// Puts an item behind those before it, with ` | ` between.
-pub fn join(text: &mut String, item: &str) -> Result<(), NoAnswer> {
+/// Puts the text of an item behind those before it, with this between.
+pub fn join<T: Display>(text: &mut String, between: &str, item: &T) -> Result<(), NoAnswer> {
     if !text.is_empty() {
-        text.push_str(" | ")?;
+        text.push_str(between)?;
     }
-    text.push_str(item)?;
+    write!(text, "{item}")?;
     Ok(())
 }

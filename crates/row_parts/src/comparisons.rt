@@ -29,19 +29,22 @@ pub fn equal<T: Eq + Hash + Drop>(
 
 fn is_equal<T: Eq + Hash>(a: &T, b: &T) -> Result<bool, NoAnswer> {
     let is_equal = *a == *b;
-    if is_equal && hash(a) != hash(b) {
-        return Err(NoAnswer::Disagree("equality and hash"));
-    }
+    holds(!is_equal || hash(a) == hash(b), "equality and hash")?;
     Ok(is_equal)
+}
+
+/// Refuses what has to agree and does not: `what` says which.
+pub fn holds(agrees: bool, what: &'static str) -> Result<(), NoAnswer> {
+    if agrees {
+        Ok(())
+    } else {
+        Err(NoAnswer::Disagree(what))
+    }
 }
 
 /// Refuses two answers that are not the same.
 pub fn same<T: PartialEq>(answer: &T, other: &T) -> Result<(), NoAnswer> {
-    if *answer == *other {
-        Ok(())
-    } else {
-        Err(NoAnswer::Disagree("two answers"))
-    }
+    holds(*answer == *other, "two answers")
 }
 
 /// The first of two answers that have to be the same, where there was memory for both.
@@ -63,8 +66,6 @@ pub fn hash<T: Hash>(value: &T) -> u64 {
 
 // Refuses comparisons that do not agree: equal is ordered as equal, and hashes alike.
 fn agree(equal: bool, order: Ordering, hash_alike: bool) -> Result<(), NoAnswer> {
-    if equal != (order == Ordering::Equal) || equal && !hash_alike {
-        return Err(NoAnswer::Disagree("equality, order and hash"));
-    }
-    Ok(())
+    let agrees = equal == order.is_eq() && (!equal || hash_alike);
+    holds(agrees, "equality, order and hash")
 }

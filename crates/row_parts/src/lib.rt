@@ -14,7 +14,7 @@ mod terms;
 
 pub use crate::answer::{Answer, ok};
 pub use crate::answers::{boolean, join, place, place_in_text, quoted, shown, sign};
-pub use crate::comparisons::{agreed, compare, equal, hash, same};
+pub use crate::comparisons::{agreed, compare, equal, hash, holds, same};
 pub use crate::copied::{Copied, copy_of};
 pub use crate::escapes::{pattern, text};
 pub use crate::no_answer::NoAnswer;

@@ -15,7 +15,10 @@ use std::rc::{Rc, RcStr};
 #[cycle(trees)]
 pub fn expr(alloc: Global, part: &Part) -> Result<Expr, NoAnswer> {
     match part {
-        Part::List(parts) => compound(alloc, parts),
+        Part::List(parts) => match parts.as_slice() {
+            [head, args @ ..] => compound(alloc, head.word()?, args),
+            [] => Err(NoAnswer::NotTaken),
+        },
         Part::Word(word) => word_expr(word),
         _ => text_expr(alloc, part),
     }
@@ -44,34 +47,61 @@ fn word_expr(word: &str) -> Result<Expr, NoAnswer> {
     }
 }
 
+// What a list stands for, by its word and what follows.
 #[cycle(trees)]
-fn compound(alloc: Global, parts: &[Part]) -> Result<Expr, NoAnswer> {
-    match parts {
-        [head, a] => match head.word()? {
-            "unknown" => untyped(alloc, a.word()?),
-            "set" | "record" | "call" => several(alloc, head.word()?, parts),
-            "thrice" => thrice(alloc, expr(alloc, a)?),
-            "thirds" => thirds(alloc, expr(alloc, a)?),
-            op => of_one(alloc, op, expr(alloc, a)?),
+fn compound(alloc: Global, head: &str, args: &[Part]) -> Result<Expr, NoAnswer> {
+    match head {
+        "set" => set(alloc, exprs(alloc, args)?),
+        "record" => record(alloc, pairs(alloc, args)?),
+        "call" => match args {
+            [f, args @ ..] => call(alloc, f, exprs(alloc, args)?),
+            [] => Err(NoAnswer::NotTaken),
         },
-        [head, a, b] => match head.word()? {
-            "set" | "record" | "call" | "has" | "exthas" => several(alloc, head.word()?, parts),
-            "unknown" => typed(alloc, a.word()?, b),
-            "get" | "like" | "is" => of_text(alloc, head.word()?, expr(alloc, a)?, b),
-            op => of_two(alloc, op, expr(alloc, a)?, expr(alloc, b)?),
+        "has" | "exthas" => match args {
+            [e, first, further @ ..] => has(alloc, child(alloc, e)?, first, further),
+            _ => Err(NoAnswer::NotTaken),
         },
-        [head, a, b, c] => match head.word()? {
-            "@" => at_place(loc(alloc, a, b)?, expr(alloc, c)?),
-            "if" => of_three(alloc, expr(alloc, a)?, expr(alloc, b)?, expr(alloc, c)?),
-            head => several(alloc, head, parts),
-        },
-        [head, ..] => several(alloc, head.word()?, parts),
-        [] => Err(NoAnswer::NotTaken),
+        _ => of_few(alloc, head, args),
     }
 }
 
-fn of_one(alloc: Global, op: &str, arg: Expr) -> Result<Expr, NoAnswer> {
-    let op = unary(op)?;
+// The lists of one part, two or three behind the word.
+#[cycle(trees)]
+fn of_few(alloc: Global, head: &str, args: &[Part]) -> Result<Expr, NoAnswer> {
+    match args {
+        [a] => match head {
+            "unknown" => untyped(alloc, a.word()?),
+            _ => of_child(alloc, head, expr(alloc, a)?),
+        },
+        [a, b] => match head {
+            "unknown" => typed(alloc, a.word()?, b),
+            "get" | "like" | "is" => of_text(alloc, head, child(alloc, a)?, b),
+            _ => of_children(head, child(alloc, a)?, child(alloc, b)?),
+        },
+        [a, b, c] => match head {
+            "@" => at_place(loc(alloc, a, b)?, expr(alloc, c)?),
+            "if" => Ok(choice(child(alloc, a)?, child(alloc, b)?, child(alloc, c)?)),
+            _ => Err(NoAnswer::NotTaken),
+        },
+        _ => Err(NoAnswer::NotTaken),
+    }
+}
+
+// The shared expression that a part stands for.
+#[cycle(trees)]
+fn child(alloc: Global, part: &Part) -> Result<Rc<Expr>, NoAnswer> {
+    Ok(Rc::new(alloc, expr(alloc, part)?)?)
+}
+
+fn of_child(alloc: Global, head: &str, child: Expr) -> Result<Expr, NoAnswer> {
+    match head {
+        "thrice" => thrice(alloc, child),
+        "thirds" => thirds(alloc, child),
+        _ => applied_to_one(alloc, unary(head)?, child),
+    }
+}
+
+fn applied_to_one(alloc: Global, op: UnaryOp, arg: Expr) -> Result<Expr, NoAnswer> {
     let arg = Rc::new(alloc, arg)?;
     Ok(made(ExprKind::UnaryApp { op, arg }))
 }
@@ -84,7 +114,7 @@ fn thrice(alloc: Global, child: Expr) -> Result<Expr, NoAnswer> {
 
 // An `if` of one shared set twice, and of a set that shares its row.
 fn thirds(alloc: Global, member: Expr) -> Result<Expr, NoAnswer> {
-    let row = Rc::new(alloc, row(alloc, member)?)?;
+    let row = Rc::new(alloc, vec![in alloc; member]?)?;
     let twice = shared_set(alloc, row.clone()?)?;
     let last = shared_set(alloc, row)?;
     Ok(Expr::ite_arc(twice.clone()?, twice, last))
@@ -94,25 +124,16 @@ fn shared_set(alloc: Global, row: Rc<Vec<Expr>>) -> Result<Rc<Expr>, NoAnswer> {
     Ok(Rc::new(alloc, made(ExprKind::Set(row)))?)
 }
 
-fn row(alloc: Global, member: Expr) -> Result<Vec<Expr>, NoAnswer> {
-    let mut row = Vec::new(alloc);
-    row.push(member)?;
-    Ok(row)
-}
-
 fn at_place(place: Loc, inner: Expr) -> Result<Expr, NoAnswer> {
     Ok(inner.with_maybe_source_loc(Some(place)))
 }
 
-fn of_three(alloc: Global, a: Expr, b: Expr, c: Expr) -> Result<Expr, NoAnswer> {
-    let test_expr = Rc::new(alloc, a)?;
-    let then_expr = Rc::new(alloc, b)?;
-    let else_expr = Rc::new(alloc, c)?;
-    Ok(made(ExprKind::If {
+fn choice(test_expr: Rc<Expr>, then_expr: Rc<Expr>, else_expr: Rc<Expr>) -> Expr {
+    made(ExprKind::If {
         test_expr,
         then_expr,
         else_expr,
-    }))
+    })
 }
 
 fn untyped(alloc: Global, name: &str) -> Result<Expr, NoAnswer> {
@@ -126,9 +147,7 @@ fn typed(alloc: Global, name: &str, ty: &Part) -> Result<Expr, NoAnswer> {
     Ok(Expr::unknown(Unknown::new_with_type(name, ty)))
 }
 
-fn of_two(alloc: Global, op: &str, a: Expr, b: Expr) -> Result<Expr, NoAnswer> {
-    let left = Rc::new(alloc, a)?;
-    let right = Rc::new(alloc, b)?;
+fn of_children(op: &str, left: Rc<Expr>, right: Rc<Expr>) -> Result<Expr, NoAnswer> {
     match op {
         "and" => Ok(made(ExprKind::And { left, right })),
         "or" => Ok(made(ExprKind::Or { left, right })),
@@ -140,8 +159,7 @@ fn applied(op: BinaryOp, arg1: Rc<Expr>, arg2: Rc<Expr>) -> Expr {
     made(ExprKind::BinaryApp { op, arg1, arg2 })
 }
 
-fn of_text(alloc: Global, op: &str, e: Expr, b: &Part) -> Result<Expr, NoAnswer> {
-    let expr = Rc::new(alloc, e)?;
+fn of_text(alloc: Global, op: &str, expr: Rc<Expr>, b: &Part) -> Result<Expr, NoAnswer> {
     match op {
         "get" => Ok(get(expr, shared_text(alloc, b)?)),
         "like" => Ok(like(expr, pattern(alloc, b)?)),
@@ -162,21 +180,6 @@ fn is(expr: Rc<Expr>, ty: Name) -> Expr {
     made(ExprKind::Is { expr, entity_type })
 }
 
-// The part of a count of parts of its own, from the list's word on.
-#[cycle(trees)]
-fn several(alloc: Global, head: &str, parts: &[Part]) -> Result<Expr, NoAnswer> {
-    match head {
-        "set" => set(alloc, exprs(alloc, parts, 1)?),
-        "record" => record(alloc, pairs(alloc, parts, 1)?),
-        "call" => call(alloc, parts, exprs(alloc, parts, 2)?),
-        "has" | "exthas" => match parts {
-            [_, e, first, further @ ..] => has(alloc, expr(alloc, e)?, first, further),
-            _ => Err(NoAnswer::NotTaken),
-        },
-        _ => Err(NoAnswer::NotTaken),
-    }
-}
-
 fn set(alloc: Global, members: Vec<Expr>) -> Result<Expr, NoAnswer> {
     Ok(made(ExprKind::Set(Rc::new(alloc, members)?)))
 }
@@ -189,19 +192,13 @@ fn record(alloc: Global, pairs: Vec<(RcStr, Expr)>) -> Result<Expr, NoAnswer> {
     }
 }
 
-fn call(alloc: Global, parts: &[Part], args: Vec<Expr>) -> Result<Expr, NoAnswer> {
-    match parts {
-        [_, f, ..] => {
-            let fn_name = name(alloc, f.word()?)?;
-            let args = Rc::new(alloc, args)?;
-            Ok(made(ExprKind::ExtensionFunctionApp { fn_name, args }))
-        }
-        _ => Err(NoAnswer::NotTaken),
-    }
+fn call(alloc: Global, f: &Part, args: Vec<Expr>) -> Result<Expr, NoAnswer> {
+    let fn_name = name(alloc, f.word()?)?;
+    let args = Rc::new(alloc, args)?;
+    Ok(made(ExprKind::ExtensionFunctionApp { fn_name, args }))
 }
 
-fn has(alloc: Global, e: Expr, first: &Part, further: &[Part]) -> Result<Expr, NoAnswer> {
-    let expr = Rc::new(alloc, e)?;
+fn has(alloc: Global, expr: Rc<Expr>, first: &Part, further: &[Part]) -> Result<Expr, NoAnswer> {
     let attrs = attributes(alloc, first, further)?;
     Ok(made(ExprKind::HasAttr { expr, attrs }))
 }
@@ -221,26 +218,22 @@ fn made(kind: ExprKind) -> Expr {
     ExprBuilder::new().with_expr_kind(kind)
 }
 
-/// The expressions that the parts from an index on stand for.
+/// The expressions that parts stand for.
 #[cycle(trees)]
-pub fn exprs(alloc: Global, parts: &[Part], from: usize) -> Result<Vec<Expr>, NoAnswer> {
+pub fn exprs(alloc: Global, parts: &[Part]) -> Result<Vec<Expr>, NoAnswer> {
     let mut exprs = Vec::new(alloc);
-    for (index, part) in parts.iter().enumerate() {
-        if index >= from {
-            exprs.push(expr(alloc, part)?)?;
-        }
+    for part in parts {
+        exprs.push(expr(alloc, part)?)?;
     }
     Ok(exprs)
 }
 
-/// The pairs `("key" E)` that stand from an index on.
+// The pairs `("key" E)` that parts stand for.
 #[cycle(trees)]
-pub fn pairs(alloc: Global, parts: &[Part], from: usize) -> Result<Vec<(RcStr, Expr)>, NoAnswer> {
+fn pairs(alloc: Global, parts: &[Part]) -> Result<Vec<(RcStr, Expr)>, NoAnswer> {
     let mut pairs = Vec::new(alloc);
-    for (index, part) in parts.iter().enumerate() {
-        if index >= from {
-            pairs.push(pair(alloc, part)?)?;
-        }
+    for part in parts {
+        pairs.push(pair(alloc, part)?)?;
     }
     Ok(pairs)
 }
@@ -259,8 +252,8 @@ fn pair(alloc: Global, part: &Part) -> Result<(RcStr, Expr), NoAnswer> {
     }
 }
 
-/// The texts that parts in quotes stand for.
-pub fn texts(alloc: Global, parts: &[Part]) -> Result<Vec<RcStr>, NoAnswer> {
+// The texts that parts in quotes stand for.
+fn texts(alloc: Global, parts: &[Part]) -> Result<Vec<RcStr>, NoAnswer> {
     let mut texts = Vec::new(alloc);
     for part in parts {
         texts.push(shared_text(alloc, part)?)?;

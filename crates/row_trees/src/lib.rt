@@ -8,7 +8,7 @@ mod keyed;
 mod sketched;
 mod value_parts;
 
-pub use crate::expr_parts::{attributes, binary, expr, exprs, pairs, texts, unary};
+pub use crate::expr_parts::{attributes, binary, expr, exprs, unary};
 pub use crate::functions::{function, table};
 pub use crate::keyed::{Echo, Keyed, NoValue, OneArgument, TwoArguments};
 pub use crate::sketched::{placed, sketch};

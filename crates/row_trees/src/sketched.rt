@@ -15,7 +15,7 @@ pub fn placed(alloc: Global, expr: &Expr) -> Result<String, NoAnswer> {
     for position in expr.subexpressions(alloc)? {
         let loc = place(alloc, position.source_loc())?;
         let position = sketch(alloc, position)?;
-        join(&mut text, format!(in alloc; "{position} @{loc}")?.as_str())?;
+        join(&mut text, " | ", &format!(in alloc; "{position} @{loc}")?)?;
     }
     Ok(text)
 }

@@ -39,47 +39,44 @@ fn put(
 #[cycle(values)]
 pub fn value(alloc: Global, part: &Part) -> Result<KeyedValue, NoAnswer> {
     match part {
-        Part::List(parts) => compound(alloc, parts),
-        _ => match literal(alloc, part)? {
-            Some(literal) => from_literal(literal),
-            None => Err(NoAnswer::NotTaken),
+        Part::List(parts) => match parts.as_slice() {
+            [head, args @ ..] => compound(alloc, head.word()?, args),
+            [] => Err(NoAnswer::NotTaken),
         },
+        _ => Ok(Value::from(given_literal(alloc, part)?)),
     }
 }
 
+// What a list stands for, by its word and what follows.
 #[cycle(values)]
-fn compound(alloc: Global, parts: &[Part]) -> Result<KeyedValue, NoAnswer> {
-    match parts {
-        [head, a, b] => match head.word()? {
+fn compound(alloc: Global, head: &str, args: &[Part]) -> Result<KeyedValue, NoAnswer> {
+    match head {
+        "set" => sorted(alloc, values(alloc, args)?),
+        "setfrom" => set_from(alloc, values(alloc, args)?),
+        "setlits" => set_of_lits(alloc, literals(alloc, args)?),
+        "record" => record(alloc, value_pairs(alloc, args)?),
+        _ => of_few(alloc, head, args),
+    }
+}
+
+// The lists of two parts or three behind the word.
+#[cycle(values)]
+fn of_few(alloc: Global, head: &str, args: &[Part]) -> Result<KeyedValue, NoAnswer> {
+    match args {
+        [a, b] => match head {
             "ext" => given(alloc, number(alloc, a)?, text(alloc, b)?),
             "lazy" => lazy(alloc, number(alloc, a)?),
             "extas" => called(alloc, number(alloc, a)?, &expr(alloc, b)?),
             "within" => within(alloc, count(a)?, value(alloc, b)?),
             "@" => at_no_place(a, value(alloc, b)?),
-            head => several(alloc, head, parts),
+            _ => Err(NoAnswer::NotTaken),
         },
-        [head, a, b, c] => match head.word()? {
+        [a, b, c] => match head {
             "@" => at_place(loc(alloc, a, b)?, value(alloc, c)?),
-            head => several(alloc, head, parts),
+            _ => Err(NoAnswer::NotTaken),
         },
-        [head, ..] => several(alloc, head.word()?, parts),
-        [] => Err(NoAnswer::NotTaken),
-    }
-}
-
-#[cycle(values)]
-fn several(alloc: Global, head: &str, parts: &[Part]) -> Result<KeyedValue, NoAnswer> {
-    match head {
-        "set" => sorted(alloc, values(alloc, parts, 1)?),
-        "setfrom" => set_from(alloc, values(alloc, parts, 1)?),
-        "setlits" => set_of_lits(alloc, literals(alloc, parts, 1)?),
-        "record" => record(alloc, value_pairs(alloc, parts, 1)?),
         _ => Err(NoAnswer::NotTaken),
     }
-}
-
-fn from_literal(literal: Literal) -> Result<KeyedValue, NoAnswer> {
-    Ok(Value::from(literal))
 }
 
 fn at_place(place: Loc, inner: KeyedValue) -> Result<KeyedValue, NoAnswer> {
@@ -97,9 +94,7 @@ fn at_no_place(place: &Part, inner: KeyedValue) -> Result<KeyedValue, NoAnswer> 
 fn within(alloc: Global, depth: usize, inner: KeyedValue) -> Result<KeyedValue, NoAnswer> {
     let mut value = inner;
     for _ in 0..depth {
-        let mut member = Vec::new(alloc);
-        member.push(value)?;
-        value = Value::set(alloc, member, None)?;
+        value = Value::set(alloc, vec![in alloc; value]?, None)?;
     }
     Ok(value)
 }
@@ -127,10 +122,8 @@ fn given(alloc: Global, key: i64, note: String) -> Result<KeyedValue, NoAnswer> 
 }
 
 fn key_and_note(alloc: Global, key: i64, note: RcStr) -> Result<Vec<Expr>, NoAnswer> {
-    let mut args = Vec::new(alloc);
-    args.push(Expr::val(Literal::from(key)))?;
-    args.push(Expr::val(Literal::from(note)))?;
-    Ok(args)
+    let (key, note) = (Literal::from(key), Literal::from(note));
+    Ok(vec![in alloc; Expr::val(key), Expr::val(note)]?)
 }
 
 fn ext_call(alloc: Global, args: Vec<Expr>) -> Result<Expr, NoAnswer> {
@@ -142,30 +135,22 @@ fn lazy(alloc: Global, key: i64) -> Result<KeyedValue, NoAnswer> {
     extension(alloc, RepresentableExtensionValue::new_lazy(keyed))
 }
 
-/// The values that the parts from an index on stand for.
+/// The values that parts stand for.
 #[cycle(values)]
-pub fn values(alloc: Global, parts: &[Part], from: usize) -> Result<Vec<KeyedValue>, NoAnswer> {
+pub fn values(alloc: Global, parts: &[Part]) -> Result<Vec<KeyedValue>, NoAnswer> {
     let mut values = Vec::new(alloc);
-    for (index, part) in parts.iter().enumerate() {
-        if index >= from {
-            values.push(value(alloc, part)?)?;
-        }
+    for part in parts {
+        values.push(value(alloc, part)?)?;
     }
     Ok(values)
 }
 
-/// The pairs `("key" V)` that stand from an index on.
+/// The pairs `("key" V)` that parts stand for.
 #[cycle(values)]
-pub fn value_pairs(
-    alloc: Global,
-    parts: &[Part],
-    from: usize,
-) -> Result<Vec<(RcStr, KeyedValue)>, NoAnswer> {
+pub fn value_pairs(alloc: Global, parts: &[Part]) -> Result<Vec<(RcStr, KeyedValue)>, NoAnswer> {
     let mut pairs = Vec::new(alloc);
-    for (index, part) in parts.iter().enumerate() {
-        if index >= from {
-            pairs.push(pair(alloc, part)?)?;
-        }
+    for part in parts {
+        pairs.push(pair(alloc, part)?)?;
     }
     Ok(pairs)
 }
@@ -184,18 +169,17 @@ fn pair(alloc: Global, part: &Part) -> Result<(RcStr, KeyedValue), NoAnswer> {
     }
 }
 
-/// The literals that the parts from an index on stand for.
-pub fn literals(alloc: Global, parts: &[Part], from: usize) -> Result<Vec<Literal>, NoAnswer> {
+/// The literals that parts stand for.
+pub fn literals(alloc: Global, parts: &[Part]) -> Result<Vec<Literal>, NoAnswer> {
     let mut literals = Vec::new(alloc);
-    for (index, part) in parts.iter().enumerate() {
-        if index >= from {
-            match literal(alloc, part)? {
-                Some(literal) => literals.push(literal)?,
-                None => return Err(NoAnswer::NotTaken),
-            }
-        }
+    for part in parts {
+        literals.push(given_literal(alloc, part)?)?;
     }
     Ok(literals)
+}
+
+fn given_literal(alloc: Global, part: &Part) -> Result<Literal, NoAnswer> {
+    literal(alloc, part)?.ok_or(NoAnswer::NotTaken)
 }
 
 fn number(alloc: Global, part: &Part) -> Result<i64, NoAnswer> {

@@ -1,11 +1,10 @@
 //! Values as expressions and back.
-use crate::answers::agreed;
 use crate::copies::placed_value;
 use cedar_exprs::{Expr, SubstituteValue};
 use cedar_values::{NotValue, ValueKind};
-use row_parts::{NoAnswer, Part, maybe_place, place};
+use row_parts::{Answer, NoAnswer, Part, holds, maybe_place, ok, place};
 use row_trees::{Keyed, KeyedValue, expr, placed, sketch, value};
-use std::alloc::Global;
+use std::alloc::{AllocError, Global};
 
 /// The answer to a call that makes an expression of a value, or a value of an expression.
 pub fn answer(alloc: Global, call: &str, args: &[Part]) -> Result<String, NoAnswer> {
@@ -46,12 +45,12 @@ fn written(alloc: Global, v: &KeyedValue) -> Result<Expr, NoAnswer> {
 
 fn is_value_expr(alloc: Global, v: &KeyedValue, e: &Expr) -> Result<(), NoAnswer> {
     let restricted = v.value_expr(alloc)?;
-    agreed(*restricted.as_expr() == *e, "the expressions of a value")
+    holds(*restricted.as_expr() == *e, "the expressions of a value")
 }
 
 fn is_kind_expr(alloc: Global, kind: &ValueKind<Keyed>, e: &Expr) -> Result<(), NoAnswer> {
     let of_kind = kind.to_expr(alloc)?;
-    agreed(
+    holds(
         of_kind == *e && of_kind.source_loc().is_none(),
         "values and kinds",
     )
@@ -59,9 +58,15 @@ fn is_kind_expr(alloc: Global, kind: &ValueKind<Keyed>, e: &Expr) -> Result<(), 
 
 fn returned(alloc: Global, v: &KeyedValue) -> Result<String, NoAnswer> {
     match KeyedValue::try_from_expr(alloc, v.to_expr(alloc)?) {
-        Ok(w) => Ok(format!(in alloc; "ok {}", w == *v)?),
-        Err(NotValue::NotValue { .. }) => Ok(format!(in alloc; "not-a-value")?),
-        Err(NotValue::Memory) => Err(NoAnswer::Memory),
+        Ok(w) => ok(alloc, &(w == *v)),
+        Err(fault) => no_value(alloc, &fault),
+    }
+}
+
+fn no_value(alloc: Global, fault: &NotValue) -> Result<String, NoAnswer> {
+    match fault {
+        NotValue::NotValue { .. } => Ok(format!(in alloc; "not-a-value")?),
+        NotValue::Memory => Err(NoAnswer::Memory),
     }
 }
 
@@ -69,8 +74,9 @@ fn returned(alloc: Global, v: &KeyedValue) -> Result<String, NoAnswer> {
 fn refusal(alloc: Global, fault: &NotValue) -> Result<String, NoAnswer> {
     match fault {
         NotValue::NotValue { loc } => {
-            let loc = place(alloc, loc.as_ref())?;
-            Ok(format!(in alloc; "not-a-value {loc}")?)
+            Answer::new(alloc)
+                .labelled_made("not-a-value ", place(alloc, loc.as_ref()))
+                .end()
         }
         NotValue::Memory => Err(NoAnswer::Memory),
     }
@@ -84,22 +90,29 @@ fn tried(alloc: Global, e: Expr) -> Result<String, NoAnswer> {
 }
 
 fn value_text(alloc: Global, v: &KeyedValue) -> Result<String, NoAnswer> {
-    let loc = place(alloc, v.source_loc())?;
-    Ok(format!(in alloc; "ok {v} @{loc}")?)
+    Answer::new(alloc)
+        .labelled("ok ", v)
+        .labelled_made("@", place(alloc, v.source_loc()))
+        .end()
 }
 
 fn tried_with_places(alloc: Global, e: Expr) -> Result<String, NoAnswer> {
     match KeyedValue::try_from_expr(alloc, e) {
-        Ok(v) => Ok(format!(in alloc; "ok {}", placed_value(alloc, &v)?)?),
+        Ok(v) => ok(alloc, &placed_value(alloc, &v)?),
         Err(fault) => refusal(alloc, &fault),
     }
 }
 
 fn tried_kind(alloc: Global, e: Expr) -> Result<String, NoAnswer> {
     match ValueKind::<Keyed>::try_from_expr(alloc, e) {
-        Ok(kind) => placed(alloc, &kind.to_expr(alloc)?),
+        Ok(kind) => placed_made(alloc, kind.to_expr(alloc)),
         Err(fault) => refusal(alloc, &fault),
     }
+}
+
+// Each position with its place, where there was memory for the expression.
+fn placed_made(alloc: Global, e: Result<Expr, AllocError>) -> Result<String, NoAnswer> {
+    placed(alloc, &e?)
 }
 
 fn not_value(alloc: Global, part: &Part) -> Result<String, NoAnswer> {

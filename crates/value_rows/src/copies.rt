@@ -1,12 +1,11 @@
 //! Places of values, and copies.
-use crate::answers::agreed;
 use crate::values::called;
 use cedar_names::Loc;
 use cedar_terms::{Escaped, Literal};
-use cedar_values::{Set, ValueKind};
-use row_parts::{NoAnswer, Part, place};
+use cedar_values::{RepresentableExtensionValue, Set, ValueKind};
+use row_parts::{NoAnswer, Part, holds, place};
 use row_trees::{Keyed, KeyedValue, value};
-use std::alloc::Global;
+use std::alloc::{AllocError, Global};
 use std::collections::BTreeMap;
 use std::rc::RcStr;
 
@@ -32,16 +31,25 @@ fn copied(alloc: Global, v: &KeyedValue) -> Result<String, NoAnswer> {
 }
 
 fn same(alloc: Global, copy: &KeyedValue, v: &KeyedValue) -> Result<String, NoAnswer> {
-    agreed(copy.eq_and_same_source_loc(v), "a value and its copy")?;
+    holds(copy.eq_and_same_source_loc(v), "a value and its copy")?;
     placed_value(alloc, copy)
 }
 
 fn copied_kind(alloc: Global, kind: &ValueKind<Keyed>) -> Result<(), NoAnswer> {
-    agreed(kind.clone(alloc)? == *kind, "a kind and its copy")?;
+    is_same(kind.clone(alloc), kind, "a kind and its copy")?;
     match kind {
         ValueKind::Set(set) => copied_set(alloc, set),
         _ => Ok(()),
     }
+}
+
+/// Refuses what was made, where there was memory for it, and is not the same as another.
+pub fn is_same<T: PartialEq + Drop>(
+    made: Result<T, AllocError>,
+    other: &T,
+    what: &'static str,
+) -> Result<(), NoAnswer> {
+    holds(made? == *other, what)
 }
 
 fn copied_set(alloc: Global, set: &Set<Keyed>) -> Result<(), NoAnswer> {
@@ -49,9 +57,9 @@ fn copied_set(alloc: Global, set: &Set<Keyed>) -> Result<(), NoAnswer> {
 }
 
 fn same_set(copy: &Set<Keyed>, set: &Set<Keyed>) -> Result<(), NoAnswer> {
-    agreed(*copy == *set, "a set and its copy")?;
+    holds(*copy == *set, "a set and its copy")?;
     let is_fast = copy.fast().is_some();
-    agreed(
+    holds(
         is_fast == set.fast().is_some(),
         "the forms of a set and its copy",
     )
@@ -66,23 +74,33 @@ pub fn placed_value(alloc: Global, v: &KeyedValue) -> Result<String, NoAnswer> {
 
 #[cycle(placed)]
 fn write_placed(alloc: Global, text: &mut String, v: &KeyedValue) -> Result<(), NoAnswer> {
-    match v.value_kind() {
-        ValueKind::Lit(literal) => write_literal(alloc, text, literal)?,
-        ValueKind::Set(set) => write_members(alloc, text, set)?,
-        ValueKind::Record(pairs) => write_pairs(alloc, text, pairs)?,
-        ValueKind::ExtensionValue(x) => text.push_str(called(alloc, x)?.as_str())?,
-    }
+    let written = match v.value_kind() {
+        ValueKind::Lit(literal) => write_literal(text, literal),
+        ValueKind::Set(set) => write_members(alloc, text, set),
+        ValueKind::Record(pairs) => write_pairs(alloc, text, pairs),
+        ValueKind::ExtensionValue(x) => write_call(alloc, text, x),
+    };
+    written?;
     write_place(alloc, text, v.source_loc())
 }
 
-fn write_literal(alloc: Global, text: &mut String, literal: &Literal) -> Result<(), NoAnswer> {
-    text.push_str(format!(in alloc; "{literal}")?.as_str())?;
+fn write_literal(text: &mut String, literal: &Literal) -> Result<(), NoAnswer> {
+    write!(text, "{literal}")?;
+    Ok(())
+}
+
+fn write_call(
+    alloc: Global,
+    text: &mut String,
+    x: &RepresentableExtensionValue<Keyed>,
+) -> Result<(), NoAnswer> {
+    text.push_str(called(alloc, x)?.as_str())?;
     Ok(())
 }
 
 fn write_place(alloc: Global, text: &mut String, loc: Option<&Loc>) -> Result<(), NoAnswer> {
-    text.push('@')?;
-    text.push_str(place(alloc, loc)?.as_str())?;
+    let place = place(alloc, loc)?;
+    write!(text, "@{place}")?;
     Ok(())
 }
 
@@ -117,16 +135,14 @@ fn write_pairs(
             text.push_str(", ")?;
         }
         is_first = false;
-        write_key(alloc, text, key.as_str())?;
+        write_key(text, key.as_str())?;
         write_placed(alloc, text, bound)?;
     }
     text.push('}')?;
     Ok(())
 }
 
-fn write_key(alloc: Global, text: &mut String, key: &str) -> Result<(), NoAnswer> {
-    text.push('"')?;
-    text.push_str(format!(in alloc; "{}", Escaped(key))?.as_str())?;
-    text.push_str("\": ")?;
+fn write_key(text: &mut String, key: &str) -> Result<(), NoAnswer> {
+    write!(text, "\"{}\": ", Escaped(key))?;
     Ok(())
 }

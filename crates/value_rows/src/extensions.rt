@@ -1,9 +1,8 @@
 //! Extensions, and tables of them.
-use crate::answers::list;
 use crate::functions::{named_function, names, returns, signature, style_text};
-use cedar_calls::{Extension, Extensions, FunctionTable};
+use cedar_calls::{Extension, ExtensionFunction, Extensions, FunctionTable};
 use cedar_names::Name;
-use row_parts::{NoAnswer, Part, name};
+use row_parts::{Answer, NoAnswer, Part, join, name};
 use row_trees::Keyed;
 use std::alloc::Global;
 
@@ -64,19 +63,24 @@ fn table(alloc: Global, parts: &[Part]) -> Result<Extensions<Keyed>, NoAnswer> {
 }
 
 fn about(alloc: Global, x: &Extension<Keyed>) -> Result<String, NoAnswer> {
-    let functions = functions(alloc, x)?;
-    let types = names(alloc, x.ext_types(alloc)?.as_slice())?;
-    let overloading = overloading(alloc, x)?;
-    let name = x.name();
-    Ok(format!(in alloc;
-        "{x:?} name={name} functions={functions} types={types} overloading={overloading}"
-    )?)
+    let types = x.ext_types(alloc)?;
+    Answer::new(alloc)
+        .made(debug_text(alloc, x))
+        .labelled("name=", x.name())
+        .labelled_made("functions=", functions(alloc, x))
+        .labelled_made("types=", names(alloc, types.as_slice()))
+        .labelled_made("overloading=", overloading(alloc, x))
+        .end()
+}
+
+fn debug_text(alloc: Global, x: &Extension<Keyed>) -> Result<String, NoAnswer> {
+    Ok(format!(in alloc; "{x:?}")?)
 }
 
 fn functions(alloc: Global, x: &Extension<Keyed>) -> Result<String, NoAnswer> {
     let mut text = String::new(alloc);
     for f in x.funcs() {
-        list(&mut text, format!(in alloc; "{}", f.name())?.as_str())?;
+        join(&mut text, ",", f.name())?;
     }
     Ok(text)
 }
@@ -84,31 +88,38 @@ fn functions(alloc: Global, x: &Extension<Keyed>) -> Result<String, NoAnswer> {
 fn overloading(alloc: Global, x: &Extension<Keyed>) -> Result<String, NoAnswer> {
     let mut text = String::new(alloc);
     for name in x.types_with_operator_overloading() {
-        list(&mut text, format!(in alloc; "{name}")?.as_str())?;
+        join(&mut text, ",", name)?;
     }
     Ok(text)
 }
 
 fn of_extension(alloc: Global, x: &Extension<Keyed>, f: &Name) -> Result<String, NoAnswer> {
-    match x.get_func(f) {
+    found(alloc, x.get_func(f))
+}
+
+// The function's signature, or `none`.
+fn found(alloc: Global, f: Option<&ExtensionFunction<Keyed>>) -> Result<String, NoAnswer> {
+    match f {
         Some(f) => signature(alloc, f),
         None => Ok(format!(in alloc; "none")?),
     }
 }
 
 fn of_table(alloc: Global, table: &Extensions<Keyed>, f: &Name) -> Result<String, NoAnswer> {
-    let told = told(alloc, table, f)?;
-    match table.func(f) {
-        Some(f) => Ok(format!(in alloc; "{told} | {}", signature(alloc, f)?)?),
-        None => Ok(format!(in alloc; "{told} | none")?),
-    }
+    Answer::new(alloc)
+        .made(told(alloc, table, f))
+        .labelled_made("| ", found(alloc, table.func(f)))
+        .end()
 }
 
 // Style and return type, as a table of functions tells them.
 fn told<T: FunctionTable>(alloc: Global, table: &T, f: &Name) -> Result<String, NoAnswer> {
-    let returns = returns(alloc, table.return_type(f))?;
-    match table.style(f) {
-        Some(style) => Ok(format!(in alloc; "{} returns={returns}", style_text(style))?),
-        None => Ok(format!(in alloc; "none returns={returns}")?),
-    }
+    let style = match table.style(f) {
+        Some(style) => style_text(style),
+        None => "none",
+    };
+    Answer::new(alloc)
+        .word(&style)
+        .labelled_made("returns=", returns(alloc, table.return_type(f)))
+        .end()
 }

@@ -1,10 +1,9 @@
 //! Calls of stored functions, and what these say of themselves.
-use crate::answers::list;
 use cedar_calls::{CallStyle, EvaluationError, ExtensionFunction, ExtensionOutputValue};
 use cedar_names::Name;
 use cedar_terms::{SchemaType, Unknown};
 use cedar_values::PartialValue;
-use row_parts::{NoAnswer, Part, place};
+use row_parts::{Answer, NoAnswer, Part, join, place, shown};
 use row_trees::{Keyed, KeyedValue, function, sketch, value, values};
 use std::alloc::Global;
 use std::rc::RcStr;
@@ -15,14 +14,22 @@ type Outcome = Result<PartialValue<Keyed>, EvaluationError>;
 pub fn answer(alloc: Global, call: &str, args: &[Part]) -> Result<String, NoAnswer> {
     match args {
         [first, later @ ..] => match call {
-            "call" => called(alloc, first.word()?, values(alloc, later, 0)?.as_slice()),
-            "callfault" => refused(alloc, first.word()?, values(alloc, later, 0)?.as_slice()),
+            "call" | "callfault" => {
+                of_call(alloc, call, first.word()?, values(alloc, later)?.as_slice())
+            }
             "function" => about(alloc, &function(alloc, "f", first.word()?)?),
             "signature" => signature(alloc, &named_function(alloc, first)?),
             "output" => output(alloc, first),
             _ => Err(NoAnswer::OtherCall),
         },
         [] => Err(NoAnswer::OtherCall),
+    }
+}
+
+fn of_call(alloc: Global, call: &str, word: &str, args: &[KeyedValue]) -> Result<String, NoAnswer> {
+    match call {
+        "call" => called(alloc, word, args),
+        _ => refused(alloc, word, args),
     }
 }
 
@@ -49,8 +56,10 @@ fn called(alloc: Global, word: &str, args: &[KeyedValue]) -> Result<String, NoAn
 
 fn answer_text(alloc: Global, answer: &PartialValue<Keyed>) -> Result<String, NoAnswer> {
     match answer {
-        PartialValue::Value(v) => Ok(format!(in alloc; "value {v}")?),
-        PartialValue::Residual(e) => Ok(format!(in alloc; "residual {}", sketch(alloc, e)?)?),
+        PartialValue::Value(v) => Answer::new(alloc).labelled("value ", v).end(),
+        PartialValue::Residual(e) => Answer::new(alloc)
+            .labelled_made("residual ", sketch(alloc, e))
+            .end(),
     }
 }
 
@@ -70,10 +79,12 @@ fn fault_text(alloc: Global, word: &str, fault: &EvaluationError) -> Result<Stri
             expected,
             actual,
             loc,
-        } => {
-            let loc = place(alloc, loc.as_ref())?;
-            Ok(format!(in alloc; "wrong-number {name} {expected} {actual} {loc}")?)
-        }
+        } => Answer::new(alloc)
+            .labelled("wrong-number ", name)
+            .word(expected)
+            .word(actual)
+            .made(place(alloc, loc.as_ref()))
+            .end(),
         EvaluationError::Function { name, message } => {
             Ok(format!(in alloc; "fault {name}: {message}")?)
         }
@@ -84,38 +95,46 @@ fn fault_text(alloc: Global, word: &str, fault: &EvaluationError) -> Result<Stri
 fn refused(alloc: Global, word: &str, args: &[KeyedValue]) -> Result<String, NoAnswer> {
     match outcome(alloc, word, args)? {
         Ok(_) => Ok(format!(in alloc; "none")?),
-        Err(fault) => shown(alloc, word, &fault),
+        Err(fault) => said(alloc, word, &fault),
     }
 }
 
-fn shown(alloc: Global, word: &str, fault: &EvaluationError) -> Result<String, NoAnswer> {
+fn said(alloc: Global, word: &str, fault: &EvaluationError) -> Result<String, NoAnswer> {
     is_answer(word, fault)?;
     Ok(format!(in alloc; "{fault}")?)
 }
 
 fn about(alloc: Global, f: &ExtensionFunction<Keyed>) -> Result<String, NoAnswer> {
-    let variadic = f.is_variadic();
-    let args = f.arg_types().len();
-    let returns = f.return_type().is_some();
-    let single = f.is_single_arg_constructor();
-    Ok(format!(in alloc; "{f:?} variadic={variadic} args={args} return={returns} single={single}")?)
+    Answer::new(alloc)
+        .made(debug_text(alloc, f))
+        .labelled("variadic=", &f.is_variadic())
+        .labelled("args=", &f.arg_types().len())
+        .labelled("return=", &f.return_type().is_some())
+        .labelled("single=", &f.is_single_arg_constructor())
+        .end()
+}
+
+fn debug_text(alloc: Global, f: &ExtensionFunction<Keyed>) -> Result<String, NoAnswer> {
+    Ok(format!(in alloc; "{f:?}")?)
 }
 
 /// Its name, its style, its types, and the extension types that it returns.
 pub fn signature(alloc: Global, f: &ExtensionFunction<Keyed>) -> Result<String, NoAnswer> {
-    let style = style_text(f.style());
-    let takes = takes(alloc, f.arg_types())?;
-    let returns = returns(alloc, f.return_type())?;
-    let types = names(alloc, f.ext_types(alloc)?.as_slice())?;
-    let name = f.name();
-    Ok(format!(in alloc; "{name} {style} takes={takes} returns={returns} types={types}")?)
+    let types = f.ext_types(alloc)?;
+    Answer::new(alloc)
+        .word(f.name())
+        .word(&style_text(f.style()))
+        .labelled_made("takes=", takes(alloc, f.arg_types()))
+        .labelled_made("returns=", returns(alloc, f.return_type()))
+        .labelled_made("types=", names(alloc, types.as_slice()))
+        .end()
 }
 
 /// The names, with commas between.
 pub fn names(alloc: Global, names: &[Name]) -> Result<String, NoAnswer> {
     let mut text = String::new(alloc);
     for name in names {
-        list(&mut text, format!(in alloc; "{name}")?.as_str())?;
+        join(&mut text, ",", name)?;
     }
     Ok(text)
 }
@@ -131,7 +150,7 @@ pub fn style_text(style: CallStyle) -> &'static str {
 fn takes(alloc: Global, types: &[SchemaType]) -> Result<String, NoAnswer> {
     let mut text = String::new(alloc);
     for ty in types {
-        list(&mut text, type_text(alloc, ty)?.as_str())?;
+        join(&mut text, ",", &type_text(alloc, ty)?)?;
     }
     Ok(text)
 }
@@ -145,23 +164,27 @@ pub fn returns(alloc: Global, ty: Option<&SchemaType>) -> Result<String, NoAnswe
 }
 
 fn type_text(alloc: Global, ty: &SchemaType) -> Result<String, NoAnswer> {
-    Ok(format!(in alloc; "{}", ty.to_type(alloc)?)?)
+    shown(alloc, ty.to_type(alloc))
 }
 
 // A copy of what a function answers: `(v V)` a value, `(u NAME)` an unknown.
 fn output(alloc: Global, part: &Part) -> Result<String, NoAnswer> {
     match part.list()? {
-        [head, inner] => match head.word()? {
-            "v" => copied(alloc, &known(value(alloc, inner)?)),
-            "u" => copied(alloc, &unknown(alloc, inner.word()?)?),
-            _ => Err(NoAnswer::NotTaken),
-        },
+        [head, inner] => copied(alloc, &of_word(alloc, head.word()?, inner)?),
         _ => Err(NoAnswer::NotTaken),
     }
 }
 
-fn known(v: KeyedValue) -> ExtensionOutputValue<Keyed> {
-    ExtensionOutputValue::from(v)
+fn of_word(
+    alloc: Global,
+    head: &str,
+    inner: &Part,
+) -> Result<ExtensionOutputValue<Keyed>, NoAnswer> {
+    match head {
+        "v" => Ok(ExtensionOutputValue::from(value(alloc, inner)?)),
+        "u" => unknown(alloc, inner.word()?),
+        _ => Err(NoAnswer::NotTaken),
+    }
 }
 
 fn unknown(alloc: Global, name: &str) -> Result<ExtensionOutputValue<Keyed>, NoAnswer> {
@@ -175,10 +198,9 @@ fn copied(alloc: Global, output: &ExtensionOutputValue<Keyed>) -> Result<String,
 
 fn output_text(alloc: Global, output: &ExtensionOutputValue<Keyed>) -> Result<String, NoAnswer> {
     match output {
-        ExtensionOutputValue::Known(v) => Ok(format!(in alloc; "known {v}")?),
-        ExtensionOutputValue::Unknown(unknown) => Ok(format!(in alloc;
-            "unknown {}",
-            unknown.name
-        )?),
+        ExtensionOutputValue::Known(v) => Answer::new(alloc).labelled("known ", v).end(),
+        ExtensionOutputValue::Unknown(unknown) => Answer::new(alloc)
+            .labelled("unknown ", &unknown.name)
+            .end(),
     }
 }

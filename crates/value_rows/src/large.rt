@@ -1,9 +1,9 @@
 //! Sets of very many equal values, and records of very many keys.
-use crate::answers::agreed;
+use crate::copies::is_same;
 use cedar_builders::ExpressionConstructionError;
 use cedar_exprs::{Expr, ExprBuilder};
 use cedar_values::{NotValue, Set, Value, ValueKind};
-use row_parts::{NoAnswer, Part, count};
+use row_parts::{Answer, NoAnswer, Part, count, holds};
 use row_trees::{Keyed, KeyedValue, value};
 use std::alloc::{AllocError, Global};
 use std::collections::{BTreeMap, HashMap};
@@ -29,10 +29,11 @@ fn number(part: &Part) -> Result<i64, NoAnswer> {
 }
 
 fn many(alloc: Global, times: usize, v: &KeyedValue) -> Result<String, NoAnswer> {
-    let made = made(alloc, times, v)?;
-    let gathered = gathered(alloc, times, v)?;
-    let read = read(alloc, times, v)?;
-    Ok(format!(in alloc; "new={made} from_values={gathered} read={read}")?)
+    Answer::new(alloc)
+        .labelled_made("new=", made(alloc, times, v))
+        .labelled_made("from_values=", gathered(alloc, times, v))
+        .labelled_made("read=", read(alloc, times, v))
+        .end()
 }
 
 fn made(alloc: Global, times: usize, v: &KeyedValue) -> Result<usize, NoAnswer> {
@@ -53,7 +54,7 @@ fn copies(alloc: Global, times: usize, v: &KeyedValue) -> Result<Vec<KeyedValue>
 
 // How many members a set has, of which one has to be this one.
 fn length(set: &Set<Keyed>, v: &KeyedValue) -> Result<usize, NoAnswer> {
-    agreed(
+    holds(
         set.is_well_formed() && set.contains(v),
         "a set and its member",
     )?;
@@ -94,7 +95,8 @@ struct Span {
 fn falling(alloc: Global, before: &[Part], span: Span, after: &[Part]) -> Result<String, NoAnswer> {
     let v = Value::record(alloc, pairs(alloc, before, span, after)?, None)?;
     let text = about(alloc, &v)?;
-    written(alloc, &v, text, pairs(alloc, before, span, after)?)
+    let pairs = pairs(alloc, before, span, after)?;
+    written(alloc, &v, text, pairs.as_slice())
 }
 
 // The text where the record expression is the value's; behind it what the error says, if there is
@@ -103,7 +105,7 @@ fn written(
     alloc: Global,
     v: &KeyedValue,
     text: String,
-    pairs: Vec<(RcStr, KeyedValue)>,
+    pairs: &[(RcStr, KeyedValue)],
 ) -> Result<String, NoAnswer> {
     match Expr::record(alloc, exprs(alloc, pairs)?) {
         Ok(record) => {
@@ -141,12 +143,17 @@ fn pair(alloc: Global, key: i64, number: i64) -> Result<(RcStr, KeyedValue), NoA
     Ok((key, Value::from(number)))
 }
 
-fn exprs(alloc: Global, pairs: Vec<(RcStr, KeyedValue)>) -> Result<Vec<(RcStr, Expr)>, NoAnswer> {
+fn exprs(alloc: Global, pairs: &[(RcStr, KeyedValue)]) -> Result<Vec<(RcStr, Expr)>, NoAnswer> {
     let mut exprs = Vec::new(alloc);
     for (key, v) in pairs {
-        exprs.push((key, v.to_expr(alloc)?))?;
+        exprs.push(pair_expr(alloc, key, v)?)?;
     }
     Ok(exprs)
+}
+
+fn pair_expr(alloc: Global, key: &RcStr, v: &KeyedValue) -> Result<(RcStr, Expr), NoAnswer> {
+    let e = v.to_expr(alloc)?;
+    Ok((key.clone()?, e))
 }
 
 // How many keys there are, whether they rise, and at how many of them their number stands.
@@ -158,9 +165,11 @@ fn about(alloc: Global, v: &KeyedValue) -> Result<String, NoAnswer> {
 }
 
 fn counted(alloc: Global, pairs: &BTreeMap<RcStr, KeyedValue>) -> Result<String, NoAnswer> {
-    let rises = rises(pairs);
-    let numbered = numbered(pairs);
-    Ok(format!(in alloc; "keys={} rising={rises} numbered={numbered}", pairs.len())?)
+    Answer::new(alloc)
+        .labelled("keys=", &pairs.len())
+        .labelled("rising=", &rises(pairs))
+        .labelled("numbered=", &numbered(pairs))
+        .end()
 }
 
 // Whether each key comes before the next.
@@ -203,35 +212,28 @@ fn is_numbered(key: &str, v: &KeyedValue) -> bool {
 // value's.
 fn same(alloc: Global, v: &KeyedValue, record: Expr) -> Result<(), NoAnswer> {
     stays(alloc, &record)?;
-    agreed(is_written(alloc, v, &record)?, "a value and its expression")?;
-    agreed(is_read(alloc, record, v)?, "an expression and its value")
+    is_same(v.to_expr(alloc), &record, "a value and its expression")?;
+    holds(is_read(alloc, record, v)?, "an expression and its value")
 }
 
 fn stays(alloc: Global, record: &Expr) -> Result<(), NoAnswer> {
-    agreed(is_copied(alloc, record)?, "a record and its copy")?;
-    agreed(is_substituted(alloc, record)?, "a record and substitution")?;
-    agreed(is_rebuilt(alloc, record)?, "a record and what is built")
+    is_same(record.clone(alloc), record, "a record and its copy")?;
+    is_same(
+        substituted(alloc, record),
+        record,
+        "a record and substitution",
+    )?;
+    is_same(rebuilt(alloc, record), record, "a record and what is built")
 }
 
-fn is_copied(alloc: Global, e: &Expr) -> Result<bool, AllocError> {
-    Ok(e.clone(alloc)? == *e)
-}
-
-fn is_substituted(alloc: Global, e: &Expr) -> Result<bool, AllocError> {
+fn substituted(alloc: Global, e: &Expr) -> Result<Expr, AllocError> {
     let nothing: HashMap<RcStr, KeyedValue> = HashMap::new(alloc);
-    Ok(e.substitute(alloc, &nothing)? == *e)
+    e.substitute(alloc, &nothing)
 }
 
 // The type of data is a parameter: at a concrete one the check of the call's bound takes long.
-fn is_rebuilt<T: Default + Copy + PartialEq>(
-    alloc: Global,
-    e: &Expr<T>,
-) -> Result<bool, AllocError> {
-    Ok(e.into_expr::<ExprBuilder<T>>(alloc)? == *e)
-}
-
-fn is_written(alloc: Global, v: &KeyedValue, e: &Expr) -> Result<bool, AllocError> {
-    Ok(v.to_expr(alloc)? == *e)
+fn rebuilt<T: Default + Copy>(alloc: Global, e: &Expr<T>) -> Result<Expr<T>, AllocError> {
+    e.into_expr::<ExprBuilder<T>>(alloc)
 }
 
 fn is_read(alloc: Global, e: Expr, v: &KeyedValue) -> Result<bool, NoAnswer> {

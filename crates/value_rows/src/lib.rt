@@ -1,7 +1,6 @@
 //! Rows of calls on values, partial values and stored functions. `docs/CALLS.md` lists them.
 #![tactic(auto)]
 
-mod answers;
 mod conversion;
 mod copies;
 mod extensions;
@@ -26,9 +25,9 @@ pub fn answer(alloc: Global, call: &str, args: &[Part]) -> Result<String, NoAnsw
             values::answer(alloc, call, args)
         }
         "placedval" | "copyval" => copies::answer(alloc, call, args),
-        "makeval" => makers::answer(alloc, call, args),
+        "makeval" => makers::answer(alloc, args),
         "contains" | "subset" | "disjoint" | "members" | "kept" => sets::answer(alloc, call, args),
-        "text" => texts::answer(alloc, call, args),
+        "text" => texts::answer(alloc, args),
         "toexpr"
         | "toexpr-placed"
         | "roundtrip"

@@ -1,14 +1,14 @@
 //! Partial values.
-use crate::answers::agreed;
 use cedar_exprs::Expr;
 use cedar_names::Loc;
 use cedar_terms::Unknown;
 use cedar_values::{ContainsUnknown, PartialValue, PartialValueToValueError, split};
 use either::Either;
-use row_parts::{NoAnswer, Part, boolean, maybe_place, place};
+use row_parts::{Answer, NoAnswer, Part, boolean, holds, maybe_place, ok, place};
 use row_trees::{Keyed, KeyedValue, expr, placed, sketch, value};
 use std::alloc::Global;
 use std::convert::TryFrom;
+use std::fmt::Display;
 use std::rc::RcStr;
 use std::vec::IntoIter;
 
@@ -45,18 +45,22 @@ fn items(alloc: Global, parts: &[Part]) -> Result<Vec<Item>, NoAnswer> {
 fn item(alloc: Global, part: &Part) -> Result<Item, NoAnswer> {
     match part.list()? {
         [head, inner] => match head.word()? {
-            "v" => from_value(value(alloc, inner)?),
-            "r" => Ok(PartialValue::Residual(expr(alloc, inner)?)),
+            "v" => known_value(alloc, inner),
+            "r" => residual(alloc, inner),
             "u" => unknown(alloc, inner.word()?),
-            "x" => from_expr(alloc, expr(alloc, inner)?),
+            "x" => with_unknown(alloc, inner),
             _ => Err(NoAnswer::NotTaken),
         },
         _ => Err(NoAnswer::NotTaken),
     }
 }
 
-fn from_value(v: KeyedValue) -> Result<Item, NoAnswer> {
-    Ok(PartialValue::from(v))
+fn known_value(alloc: Global, part: &Part) -> Result<Item, NoAnswer> {
+    Ok(PartialValue::from(value(alloc, part)?))
+}
+
+fn residual(alloc: Global, part: &Part) -> Result<Item, NoAnswer> {
+    Ok(PartialValue::Residual(expr(alloc, part)?))
 }
 
 fn unknown(alloc: Global, name: &str) -> Result<Item, NoAnswer> {
@@ -64,7 +68,8 @@ fn unknown(alloc: Global, name: &str) -> Result<Item, NoAnswer> {
     Ok(PartialValue::unknown(Unknown::new_untyped(name)))
 }
 
-fn from_expr(alloc: Global, e: Expr) -> Result<Item, NoAnswer> {
+fn with_unknown(alloc: Global, part: &Part) -> Result<Item, NoAnswer> {
+    let e = expr(alloc, part)?;
     if e.contains_unknown(alloc)? {
         Ok(PartialValue::from_expr(e))
     } else {
@@ -79,26 +84,27 @@ fn equal(alloc: Global, a: &Item, b: &Item) -> Result<String, NoAnswer> {
 // Text and place of the item at this place, and what it is as a value.
 fn moved(alloc: Global, item: Item, loc: Option<Loc>) -> Result<String, NoAnswer> {
     let copy = copied(alloc, &item)?;
-    let moved = item.with_maybe_source_loc(loc);
-    let text = same_at_place(alloc, &copy, &moved)?;
-    known(alloc, text, moved)
+    told(alloc, &copy, item.with_maybe_source_loc(loc))
+}
+
+fn told(alloc: Global, copy: &Item, moved: Item) -> Result<String, NoAnswer> {
+    holds(*copy == moved, "a partial value at two places")?;
+    Answer::new(alloc)
+        .made(at_place(alloc, &moved))
+        .labelled_made("| ", known(alloc, moved))
+        .end()
 }
 
 fn copied(alloc: Global, item: &Item) -> Result<Item, NoAnswer> {
     let copy = item.clone(alloc)?;
-    agreed(copy == *item, "a partial value and its copy")?;
+    holds(copy == *item, "a partial value and its copy")?;
     Ok(copy)
 }
 
-fn same_at_place(alloc: Global, copy: &Item, moved: &Item) -> Result<String, NoAnswer> {
-    agreed(*copy == *moved, "a partial value at two places")?;
-    at_place(alloc, moved)
-}
-
-fn known(alloc: Global, text: String, item: Item) -> Result<String, NoAnswer> {
+fn known(alloc: Global, item: Item) -> Result<String, NoAnswer> {
     match value_of(item) {
-        Ok(v) => Ok(format!(in alloc; "{text} | value {v}")?),
-        Err(_) => Ok(format!(in alloc; "{text} | contains-unknown")?),
+        Ok(v) => Answer::new(alloc).labelled("value ", &v).end(),
+        Err(_) => Ok(format!(in alloc; "contains-unknown")?),
     }
 }
 
@@ -110,13 +116,17 @@ fn at_place(alloc: Global, item: &Item) -> Result<String, NoAnswer> {
 }
 
 fn value_text(alloc: Global, v: &KeyedValue) -> Result<String, NoAnswer> {
-    let loc = place(alloc, v.source_loc())?;
-    Ok(format!(in alloc; "{v} | {loc}")?)
+    Answer::new(alloc)
+        .word(v)
+        .labelled_made("| ", place(alloc, v.source_loc()))
+        .end()
 }
 
 fn residual_text(alloc: Global, e: &Expr) -> Result<String, NoAnswer> {
-    let loc = place(alloc, e.source_loc())?;
-    Ok(format!(in alloc; "{} | {loc}", sketch(alloc, e)?)?)
+    Answer::new(alloc)
+        .made(sketch(alloc, e))
+        .labelled_made("| ", place(alloc, e.source_loc()))
+        .end()
 }
 
 fn value_of(item: Item) -> Result<KeyedValue, PartialValueToValueError> {
@@ -126,7 +136,7 @@ fn value_of(item: Item) -> Result<KeyedValue, PartialValueToValueError> {
 // The value, or the text of the refusal and the residual that it holds.
 fn refused(alloc: Global, item: Item) -> Result<String, NoAnswer> {
     match value_of(item) {
-        Ok(v) => Ok(format!(in alloc; "ok {v}")?),
+        Ok(v) => ok(alloc, &v),
         Err(error) => refusal(alloc, error),
     }
 }
@@ -134,24 +144,32 @@ fn refused(alloc: Global, item: Item) -> Result<String, NoAnswer> {
 fn refusal(alloc: Global, error: PartialValueToValueError) -> Result<String, NoAnswer> {
     let text = error_text(alloc, &error)?;
     let PartialValueToValueError::ContainsUnknown(held) = error;
-    let residual = residual_of(alloc, text.as_str(), &held)?;
-    is_made_anew(alloc, text.as_str(), held)?;
-    Ok(format!(in alloc; "{text} | {residual}")?)
+    Answer::new(alloc)
+        .word(&text)
+        .labelled_made("| ", residual_of(alloc, text.as_str(), held))
+        .end()
 }
 
 fn error_text(alloc: Global, error: &PartialValueToValueError) -> Result<String, NoAnswer> {
     Ok(format!(in alloc; "{error}")?)
 }
 
-fn residual_of(alloc: Global, text: &str, held: &ContainsUnknown) -> Result<String, NoAnswer> {
+// The residual of a refusal that has this text, also where it is made anew.
+fn residual_of(alloc: Global, text: &str, held: ContainsUnknown) -> Result<String, NoAnswer> {
+    has_text(alloc, text, &held)?;
+    let residual = sketch(alloc, held.residual())?;
+    is_made_anew(alloc, text, held)?;
+    Ok(residual)
+}
+
+fn has_text(alloc: Global, text: &str, held: &ContainsUnknown) -> Result<(), NoAnswer> {
     let of_held = format!(in alloc; "{held}")?;
-    agreed(of_held.as_str() == text, "the texts of a refusal")?;
-    sketch(alloc, held.residual())
+    holds(of_held.as_str() == text, "the texts of a refusal")
 }
 
 fn is_made_anew(alloc: Global, text: &str, held: ContainsUnknown) -> Result<(), NoAnswer> {
     let again = error_text(alloc, &PartialValueToValueError::from(held))?;
-    agreed(again.as_str() == text, "a refusal made anew")
+    holds(again.as_str() == text, "a refusal made anew")
 }
 
 fn written(alloc: Global, item: Item, loc: Option<Loc>) -> Result<String, NoAnswer> {
@@ -171,10 +189,10 @@ fn divided(alloc: Global, items: Vec<Item>) -> Result<String, NoAnswer> {
     }
 }
 
-fn left(alloc: Global, values: IntoIter<KeyedValue>) -> Result<String, NoAnswer> {
+fn left<V: Display + Drop>(alloc: Global, values: IntoIter<V>) -> Result<String, NoAnswer> {
     let mut text = format!(in alloc; "left")?;
     for v in values {
-        text.push_str(format!(in alloc; " | {v}")?.as_str())?;
+        write!(text, " | {v}")?;
     }
     Ok(text)
 }
@@ -182,7 +200,13 @@ fn left(alloc: Global, values: IntoIter<KeyedValue>) -> Result<String, NoAnswer>
 fn right(alloc: Global, exprs: IntoIter<Expr>) -> Result<String, NoAnswer> {
     let mut text = format!(in alloc; "right")?;
     for e in exprs {
-        text.push_str(format!(in alloc; " | {}", sketch(alloc, &e)?)?.as_str())?;
+        write_sketch(alloc, &mut text, &e)?;
     }
     Ok(text)
+}
+
+fn write_sketch(alloc: Global, text: &mut String, e: &Expr) -> Result<(), NoAnswer> {
+    let sketched = sketch(alloc, e)?;
+    write!(text, " | {sketched}")?;
+    Ok(())
 }

@@ -1,9 +1,8 @@
 //! Sets of values that are ordered in reverse.
-use crate::answers::{agreed, list};
 use crate::flip::Flip;
 use cedar_terms::Literal;
 use cedar_values::{RepresentableExtensionValue, Set, Value, ValueKind};
-use row_parts::{NoAnswer, Part, boolean, literal};
+use row_parts::{Answer, NoAnswer, Part, boolean, holds, join, literal};
 use std::alloc::Global;
 use std::rc::Rc;
 
@@ -38,7 +37,7 @@ fn set(alloc: Global, part: &Part) -> Result<Set<Flip>, NoAnswer> {
 
 fn is_gathered(alloc: Global, parts: &[Part], set: &Set<Flip>) -> Result<(), NoAnswer> {
     let gathered = Set::from_values(alloc, flips(alloc, parts, 2)?)?;
-    agreed(gathered == *set, "sets made and gathered")
+    holds(gathered == *set, "sets made and gathered")
 }
 
 // The values of the numbers, each so many times.
@@ -53,9 +52,12 @@ fn flips(alloc: Global, parts: &[Part], times: usize) -> Result<Vec<Value<Flip>>
 }
 
 fn compared(alloc: Global, a: &Set<Flip>, b: &Set<Flip>) -> Result<String, NoAnswer> {
-    let listed = listed(alloc, a)?;
-    let (subset, disjoint, equal) = (a.is_subset(b), a.is_disjoint(b), *a == *b);
-    Ok(format!(in alloc; "{listed} subset={subset} disjoint={disjoint} equal={equal}")?)
+    Answer::new(alloc)
+        .made(listed(alloc, a))
+        .labelled("subset=", &a.is_subset(b))
+        .labelled("disjoint=", &a.is_disjoint(b))
+        .labelled("equal=", &(*a == *b))
+        .end()
 }
 
 // The numbers of the members, in their order, and whether the set is well formed.
@@ -63,19 +65,17 @@ fn listed(alloc: Global, set: &Set<Flip>) -> Result<String, NoAnswer> {
     let mut text = String::new(alloc);
     for member in set.authoritative() {
         if let ValueKind::ExtensionValue(x) = member.value_kind() {
-            list(&mut text, number_text(alloc, x.value())?.as_str())?;
+            join(&mut text, ",", &x.value().number())?;
         }
     }
-    Ok(format!(in alloc; "{text} {}", set.is_well_formed())?)
-}
-
-fn number_text(alloc: Global, x: &Flip) -> Result<String, NoAnswer> {
-    Ok(format!(in alloc; "{}", x.number())?)
+    let is_well_formed = set.is_well_formed();
+    write!(text, " {is_well_formed}")?;
+    Ok(text)
 }
 
 // Whether it is in the set, and its number as a literal is not.
 fn found(alloc: Global, number: i64, set: &Set<Flip>) -> Result<String, NoAnswer> {
-    agreed(
+    holds(
         !set.contains(&Value::from(number)),
         "numbers and values that are made of them",
     )?;

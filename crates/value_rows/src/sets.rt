@@ -1,7 +1,6 @@
 //! Sets of values, by what is in them.
-use crate::answers::agreed;
 use cedar_values::{Set, ValueKind};
-use row_parts::{NoAnswer, Part, boolean};
+use row_parts::{NoAnswer, Part, boolean, holds};
 use row_trees::{Keyed, KeyedValue, value, values};
 use std::alloc::Global;
 
@@ -10,7 +9,7 @@ pub fn answer(alloc: Global, call: &str, args: &[Part]) -> Result<String, NoAnsw
     match call {
         "kept" => kept(
             alloc,
-            values(alloc, args, 0)?.as_slice(),
+            values(alloc, args)?.as_slice(),
             &set_of(alloc, args)?,
         ),
         _ => match args {
@@ -46,27 +45,27 @@ fn set(v: &KeyedValue) -> Result<&Set<Keyed>, NoAnswer> {
 
 fn disjoint(alloc: Global, a: &Set<Keyed>, b: &Set<Keyed>) -> Result<String, NoAnswer> {
     let answer = a.is_disjoint(b);
-    agreed(b.is_disjoint(a) == answer, "the two ways round")?;
+    holds(b.is_disjoint(a) == answer, "the two ways round")?;
     boolean(alloc, answer)
 }
 
 fn members(alloc: Global, v: &KeyedValue) -> Result<String, NoAnswer> {
     let set = set(v)?;
-    agreed(
-        set.is_well_formed() == v.is_well_formed(),
+    let is_well_formed = v.is_well_formed();
+    holds(
+        set.is_well_formed() == is_well_formed,
         "a value and its set",
     )?;
-    agreed(
-        v.value_kind().is_well_formed() == v.is_well_formed(),
+    holds(
+        v.value_kind().is_well_formed() == is_well_formed,
         "a value and its kind",
     )?;
-    agreed(set.is_empty() == (set.len() == 0), "the counts of a set")?;
-    agreed(
-        set.authoritative().len() == set.len(),
-        "the counts of a set",
-    )?;
-    let counts = counts(alloc, set, v.is_well_formed())?;
-    listed(alloc, counts, set)
+    holds(are_counted(set), "the counts of a set")?;
+    listed(alloc, counts(alloc, set, is_well_formed)?, set)
+}
+
+fn are_counted(set: &Set<Keyed>) -> bool {
+    set.is_empty() == (set.len() == 0) && set.authoritative().len() == set.len()
 }
 
 fn counts(alloc: Global, set: &Set<Keyed>, is_well_formed: bool) -> Result<String, NoAnswer> {
@@ -84,13 +83,13 @@ fn listed(alloc: Global, text: String, set: &Set<Keyed>) -> Result<String, NoAns
         text.push(' ')?;
     }
     for member in set.iter() {
-        text.push_str(format!(in alloc; " {member}")?.as_str())?;
+        write!(text, " {member}")?;
     }
     Ok(text)
 }
 
 fn set_of(alloc: Global, parts: &[Part]) -> Result<Set<Keyed>, NoAnswer> {
-    Ok(Set::new(alloc, values(alloc, parts, 0)?)?)
+    Ok(Set::new(alloc, values(alloc, parts)?)?)
 }
 
 fn kept(alloc: Global, given: &[KeyedValue], set: &Set<Keyed>) -> Result<String, NoAnswer> {

@@ -3,7 +3,7 @@ use cedar_exprs::{Expr, ExprBuilder, TypedBuildFault};
 use cedar_values::{
     substitute_typed_values_into_expr, substitute_values_into_expr, try_into_expr_with_values,
 };
-use row_parts::{NoAnswer, Part};
+use row_parts::{NoAnswer, Part, ok};
 use row_trees::{Keyed, KeyedValue, bindings, expr, placed, sketch};
 use std::alloc::Global;
 use std::collections::HashMap;
@@ -43,7 +43,7 @@ fn at_once_placed(alloc: Global, e: &Expr, values: &Values) -> Result<String, No
 
 fn built_typed(alloc: Global, e: &Expr, values: &Values) -> Result<String, NoAnswer> {
     match typed_by_struct::<()>(alloc, e, values)? {
-        Ok(made) => Ok(format!(in alloc; "ok {}", sketch(alloc, &made)?)?),
+        Ok(made) => ok(alloc, &sketch(alloc, &made)?),
         Err(clash) => Ok(clash),
     }
 }

@@ -1,38 +1,35 @@
 //! Texts of values, whole and with a bound on the members that they show.
-use crate::answers::agreed;
 use cedar_values::{BoundedDisplay, BoundedToString};
-use row_parts::{NoAnswer, Part, count};
+use row_parts::{NoAnswer, Part, count, holds};
 use row_trees::{KeyedValue, value};
 use std::alloc::Global;
 use std::fmt;
 
 /// The answer to a call for a text.
-pub fn answer(alloc: Global, call: &str, args: &[Part]) -> Result<String, NoAnswer> {
-    match call {
-        "text" => match args {
-            [v] => unbounded(alloc, &value(alloc, v)?),
-            [bound, v] => bounded(alloc, count(bound)?, &value(alloc, v)?),
-            _ => Err(NoAnswer::OtherCall),
-        },
+pub fn answer(alloc: Global, args: &[Part]) -> Result<String, NoAnswer> {
+    match args {
+        [v] => unbounded(alloc, &value(alloc, v)?),
+        [bound, v] => bounded(alloc, count(bound)?, &value(alloc, v)?),
         _ => Err(NoAnswer::OtherCall),
     }
 }
 
+// Refuses a text that is not this one, where it was made.
+fn is_text(made: Result<String, NoAnswer>, text: &str, what: &'static str) -> Result<(), NoAnswer> {
+    holds(made?.as_str() == text, what)
+}
+
 fn unbounded(alloc: Global, v: &KeyedValue) -> Result<String, NoAnswer> {
     let text = whole(alloc, v)?;
-    agreed(
-        whole(alloc, v.value_kind())?.as_str() == text.as_str(),
-        "values and kinds",
-    )?;
+    let of_kind = whole(alloc, v.value_kind());
+    is_text(of_kind, text.as_str(), "values and kinds")?;
     Ok(text)
 }
 
 fn bounded(alloc: Global, bound: usize, v: &KeyedValue) -> Result<String, NoAnswer> {
     let text = within(alloc, v, bound)?;
-    agreed(
-        within(alloc, v.value_kind(), bound)?.as_str() == text.as_str(),
-        "values and kinds",
-    )?;
+    let of_kind = within(alloc, v.value_kind(), bound);
+    is_text(of_kind, text.as_str(), "values and kinds")?;
     Ok(text)
 }
 
@@ -42,16 +39,17 @@ fn whole<D: BoundedDisplay + BoundedToString + fmt::Display>(
     x: &D,
 ) -> Result<String, NoAnswer> {
     let text = x.to_string_unbounded(alloc)?;
-    agreed(
-        shown(alloc, x)?.as_str() == text.as_str(),
-        "display and string",
-    )?;
-    let mut written = String::new(alloc);
-    if x.fmt_unbounded(&mut written).is_err() {
-        return Err(NoAnswer::Memory);
-    }
-    agreed(written.as_str() == text.as_str(), "writing and string")?;
+    is_text(shown(alloc, x), text.as_str(), "display and string")?;
+    is_text(written(alloc, x), text.as_str(), "writing and string")?;
     by_option(alloc, x, None, text)
+}
+
+fn written<D: BoundedDisplay>(alloc: Global, x: &D) -> Result<String, NoAnswer> {
+    let mut written = String::new(alloc);
+    match x.fmt_unbounded(&mut written) {
+        Ok(()) => Ok(written),
+        Err(_) => Err(NoAnswer::Memory),
+    }
 }
 
 fn shown<D: fmt::Display>(alloc: Global, x: &D) -> Result<String, NoAnswer> {
@@ -65,12 +63,21 @@ fn within<D: BoundedDisplay + BoundedToString>(
     bound: usize,
 ) -> Result<String, NoAnswer> {
     let text = x.to_string_bounded(alloc, bound)?;
-    let mut written = String::new(alloc);
-    if x.fmt_bounded(&mut written, bound).is_err() {
-        return Err(NoAnswer::Memory);
-    }
-    agreed(written.as_str() == text.as_str(), "writing and string")?;
+    let written = written_within(alloc, x, bound);
+    is_text(written, text.as_str(), "writing and string")?;
     by_option(alloc, x, Some(bound), text)
+}
+
+fn written_within<D: BoundedDisplay>(
+    alloc: Global,
+    x: &D,
+    bound: usize,
+) -> Result<String, NoAnswer> {
+    let mut written = String::new(alloc);
+    match x.fmt_bounded(&mut written, bound) {
+        Ok(()) => Ok(written),
+        Err(_) => Err(NoAnswer::Memory),
+    }
 }
 
 // The same text by the calls that take a bound or none. What is written stands behind what was.
@@ -80,18 +87,39 @@ fn by_option<D: BoundedDisplay + BoundedToString>(
     bound: Option<usize>,
     text: String,
 ) -> Result<String, NoAnswer> {
-    agreed(
-        BoundedToString::to_string(x, alloc, bound)?.as_str() == text.as_str(),
-        "the strings",
-    )?;
-    let mut written = format!(in alloc; "{text}")?;
-    if BoundedDisplay::fmt(x, &mut written, bound).is_err() {
-        return Err(NoAnswer::Memory);
-    }
-    let twice = format!(in alloc; "{text}{text}")?;
-    agreed(
-        written.as_str() == twice.as_str(),
-        "what is written behind a text",
-    )?;
+    is_text(string(alloc, x, bound), text.as_str(), "the strings")?;
+    is_behind(alloc, x, bound, text.as_str())?;
     Ok(text)
+}
+
+fn string<D: BoundedToString>(
+    alloc: Global,
+    x: &D,
+    bound: Option<usize>,
+) -> Result<String, NoAnswer> {
+    Ok(BoundedToString::to_string(x, alloc, bound)?)
+}
+
+fn is_behind<D: BoundedDisplay>(
+    alloc: Global,
+    x: &D,
+    bound: Option<usize>,
+    text: &str,
+) -> Result<(), NoAnswer> {
+    let twice = format!(in alloc; "{text}{text}")?;
+    let written = written_behind(alloc, x, bound, text);
+    is_text(written, twice.as_str(), "what is written behind a text")
+}
+
+fn written_behind<D: BoundedDisplay>(
+    alloc: Global,
+    x: &D,
+    bound: Option<usize>,
+    text: &str,
+) -> Result<String, NoAnswer> {
+    let mut written = format!(in alloc; "{text}")?;
+    match BoundedDisplay::fmt(x, &mut written, bound) {
+        Ok(()) => Ok(written),
+        Err(_) => Err(NoAnswer::Memory),
+    }
 }

@@ -1,12 +1,14 @@
 //! Comparisons of values, what is inside them, and what they say of themselves.
-use crate::answers::agreed;
+use crate::copies::is_same;
 use cedar_exprs::SubstituteValue;
-use cedar_terms::{EntityUID, StaticallyTyped, Type};
+use cedar_terms::{EntityUID, StaticallyTyped};
 use cedar_values::{ExtensionValue, RepresentableExtensionValue, ValueKind};
-use row_parts::{NoAnswer, Part, boolean, sign};
+use row_parts::{Answer, NoAnswer, Part, boolean, holds, join, sign};
 use row_trees::{Keyed, KeyedValue, sketch, value};
-use std::alloc::Global;
+use std::alloc::{AllocError, Global};
+use std::cmp::Ordering;
 use std::collections::HashSet;
+use std::fmt::Display;
 
 /// The answer to a call on values.
 pub fn answer(alloc: Global, call: &str, args: &[Part]) -> Result<String, NoAnswer> {
@@ -36,42 +38,52 @@ fn of_two(alloc: Global, call: &str, v: &KeyedValue, w: &KeyedValue) -> Result<S
 }
 
 fn compared(alloc: Global, v: &KeyedValue, w: &KeyedValue) -> Result<String, NoAnswer> {
-    let order = v.cmp(w);
-    agreed((*v == *w) == order.is_eq(), "equality and order")?;
-    agreed(w.cmp(v) == order.reverse(), "the order and its reverse")?;
-    agreed(v.partial_cmp(w) == Some(order), "the orders")?;
-    agreed(
+    let order = ordered(v, w)?;
+    holds(
         v.value_kind().cmp(w.value_kind()) == order,
         "values and kinds",
     )?;
     sign(alloc, order)
 }
 
-fn typed(alloc: Global, v: &KeyedValue) -> Result<String, NoAnswer> {
-    let ty = v.type_of(alloc)?;
-    same_type(alloc, v, &ty)?;
-    Ok(format!(in alloc; "{ty}")?)
+// The order, with which the other comparisons agree.
+fn ordered<T: Ord>(a: &T, b: &T) -> Result<Ordering, NoAnswer> {
+    let order = a.cmp(b);
+    holds((*a == *b) == order.is_eq(), "equality and order")?;
+    holds(b.cmp(a) == order.reverse(), "the order and its reverse")?;
+    holds(a.partial_cmp(b) == Some(order), "the orders")?;
+    Ok(order)
 }
 
-fn same_type(alloc: Global, v: &KeyedValue, ty: &Type) -> Result<(), NoAnswer> {
-    agreed(v.value_kind().type_of(alloc)? == *ty, "values and kinds")?;
-    agreed(v.value_type(alloc)? == *ty, "the types")
+fn typed(alloc: Global, v: &KeyedValue) -> Result<String, NoAnswer> {
+    let of_kind = v.value_kind().type_of(alloc);
+    type_text(alloc, v.type_of(alloc), of_kind, v.value_type(alloc))
+}
+
+// The text of a type, where those of the kind and of what is substituted are the same.
+fn type_text<T: PartialEq + Display + Drop>(
+    alloc: Global,
+    ty: Result<T, AllocError>,
+    of_kind: Result<T, AllocError>,
+    substituted: Result<T, AllocError>,
+) -> Result<String, NoAnswer> {
+    let ty = ty?;
+    is_same(of_kind, &ty, "values and kinds")?;
+    is_same(substituted, &ty, "the types")?;
+    Ok(format!(in alloc; "{ty}")?)
 }
 
 fn uids(alloc: Global, v: &KeyedValue) -> Result<String, NoAnswer> {
     let uids = sorted(alloc, v.all_literal_uids(alloc)?)?;
     let of_kind = sorted(alloc, v.value_kind().all_literal_uids(alloc)?)?;
-    agreed(uids == of_kind, "values and kinds")?;
+    holds(uids == of_kind, "values and kinds")?;
     uid_texts(alloc, uids.as_slice())
 }
 
 fn uid_texts(alloc: Global, uids: &[EntityUID]) -> Result<String, NoAnswer> {
     let mut text = String::new(alloc);
     for uid in uids {
-        if !text.is_empty() {
-            text.push(' ')?;
-        }
-        text.push_str(format!(in alloc; "{uid}")?.as_str())?;
+        join(&mut text, " ", uid)?;
     }
     Ok(text)
 }
@@ -93,23 +105,14 @@ fn said(alloc: Global, v: &KeyedValue) -> Result<String, NoAnswer> {
 }
 
 fn said_by(alloc: Global, x: &RepresentableExtensionValue<Keyed>) -> Result<String, NoAnswer> {
-    let types = type_texts(alloc, x)?;
-    let own = own_text(alloc, x.value())?;
-    let call = called(alloc, x)?;
-    Ok(format!(in alloc; "{types} {own} {call}")?)
-}
-
-fn type_texts(alloc: Global, x: &RepresentableExtensionValue<Keyed>) -> Result<String, NoAnswer> {
-    let name = format!(in alloc; "{}", x.typename(alloc)?)?;
-    Ok(format!(in alloc; "{name} {}", x.type_of(alloc)?)?)
-}
-
-fn own_text(alloc: Global, x: &Keyed) -> Result<String, NoAnswer> {
-    Ok(format!(in alloc;
-        "{} overloaded={}",
-        x.text(),
-        x.supports_operator_overloading()
-    )?)
+    let own = x.value();
+    Answer::new(alloc)
+        .allocated(x.typename(alloc))
+        .allocated(x.type_of(alloc))
+        .word(&own.text())
+        .labelled("overloaded=", &own.supports_operator_overloading())
+        .made(called(alloc, x))
+        .end()
 }
 
 /// The call that stands for an extension value.

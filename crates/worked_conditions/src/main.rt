@@ -1,37 +1,34 @@
-//! Works the conditions of standard input, one a line, and prints each with its answer.
+//! Answers, prints and reads conditions in Cedar's own syntax; those stored here were worked by
+//! hand, or are trees of recorded calls.
+//!
+//! The first argument names a file of conditions, one a line: each is shown with its answer. Each
+//! line of standard input is a tree, written as `docs/CALLS.md` says: it is printed, what was
+//! printed is read, and the two trees are compared. The second argument names a file of texts with
+//! blank lines between them: each is read, and the program shows its tree, and how it is printed
+//! again, or why it is not read. At last it reads a text of great depth.
 #![tactic(auto)]
 
-use anyhow::Result;
-use cedar_conditions::{Bindings, BindingsError, evaluate_condition};
-use std::alloc::AllocError;
-use std::io::{BufRead as _, BufReader};
+mod conditions;
+mod deep;
+mod texts;
+mod trees;
+
+use anyhow::{Result, bail};
+use std::{env, fs};
 
 fn main(rt: HostRuntime) -> Result<()> {
-    let mut bindings = Bindings::new(rt.alloc());
-    for line in BufReader::new(rt.alloc(), rt.reader())?.lines(rt.alloc()) {
-        let line = line?;
-        println!(rt; "{line}")?;
-        match line.strip_prefix("bind ") {
-            Some(json) => bindings = bound(&rt, json)?,
-            None if is_passed_over(&line) => {}
-            None => println!(rt; "{}", evaluate_condition(rt.alloc(), &line, &bindings)?)?,
-        }
-    }
+    conditions::show(&rt, &named_file(&rt, 1)?)?;
+    println!(rt)?;
+    trees::read_back(&rt)?;
+    texts::show(&rt, &named_file(&rt, 2)?)?;
+    deep::show(&rt)?;
     Ok(())
 }
 
-// The bindings of a line; where it has none, why.
-fn bound(rt: &HostRuntime, json: &str) -> Result<Bindings> {
-    let mut bindings = Bindings::new(rt.alloc());
-    match bindings.bind_json(rt.alloc(), json) {
-        Ok(()) => {}
-        Err(BindingsError::Memory) => return Err(AllocError.into()),
-        Err(error) => println!(rt; "{error}")?,
-    }
-    Ok(bindings)
-}
-
-// Whether a line is blank or a comment.
-fn is_passed_over(line: &str) -> bool {
-    line.is_empty() || line.starts_with("//")
+// The text of the file that an argument names.
+fn named_file(rt: &HostRuntime, place: usize) -> Result<String> {
+    let Some(file) = env::args(rt)?.nth(place) else {
+        bail!("the program takes a file of conditions and a file of texts");
+    };
+    Ok(fs::read_to_string(rt, &file)?)
 }

@@ -1,4 +1,5 @@
-//! Answers rows of calls from standard input; those stored here were worked by hand.
+//! Answers rows of calls from standard input; those stored here were worked by hand, or, the
+//! evaluations at the end, by two evaluators that were written by hand in other languages.
 #![tactic(auto)]
 
 use cedar_rows::run;

@@ -1,6 +1,6 @@
 use Rattle.std.proofs.Common.{◌<◌, IfSome, arith, ap, subst}
 use Rattle.dropped_rows.specs.Sums.{fewer, no_more, one_off, first_pair_off}
-use Rattle.cedar_exprs.specs.Steps.{nodes, row_nodes, all_nodes}
+use Rattle.cedar_exprs.specs.Steps.{nodes, item_nodes, all_nodes}
 use Rattle.cedar_exprs.proofs.Fewer.{nodes_of}
 use Rattle.cedar_exprs.proofs.dropping.+dropped.Goals as goal
 
@@ -13,26 +13,21 @@ drop_below-down-smaller-in-On g t c = fewer _ _ _ _ _ (omega (arith, c.in-On.ens
 pub drop_below-down-smaller-in-Watched : goal.drop_below-down-smaller-in-Watched
 drop_below-down-smaller-in-Watched g t c = fewer _ _ _ _ _ (omega (arith, c.in-Watched.ensures)) (omega arith) (omega (arith, c.in-Watched.ensures, c.down.invariant))
 
-pub drop_below-down-smaller-in-Some : goal.drop_below-down-smaller-in-Some
-drop_below-down-smaller-in-Some g t c =
+pub drop_below-down-smaller : goal.drop_below-down-smaller
+drop_below-down-smaller g t c =
     let less = subst (λ n. IfSome n (λ left. all_nodes left < all_nodes c.down.left)) c.in-Some.is c.in-Row.ensures.1 in
     fewer _ _ _ _ _ less (omega arith) (omega (arith, less, c.down.invariant))
 
-pub drop_below-down-smaller : goal.drop_below-down-smaller
-drop_below-down-smaller g t c =
-    let less = subst (λ n. IfSome n (λ left. all_nodes left < all_nodes c.down.left)) c.in-Some-next.is c.in-Fields.ensures.1 in
-    fewer _ _ _ _ _ less (omega arith) (omega (arith, less, c.down.invariant))
-
-pub drop_row-each-preserved : goal.drop_row-each-preserved
-drop_row-each-preserved g t c = let less = one_off nodes _ _ _ c.in-Some-pop.ensures.items in omega (arith, less, c.each.invariant)
+pub drop_items-each-preserved : goal.drop_items-each-preserved
+drop_items-each-preserved g t c = let less = one_off nodes _ _ _ c.in-Some-pop.ensures.items in omega (arith, less, c.each.invariant)
 
 pub drop_fields-each-preserved : goal.drop_fields-each-preserved
 drop_fields-each-preserved g t c = let less = first_pair_off nodes _ _ _ _ c.in-Some-pop_first.ensures.removal in omega (arith, less, c.each.invariant)
 
-pub drop_row-drop_below-requires : goal.drop_row-drop_below-requires
-drop_row-drop_below-requires g t c κs within =
+pub drop_items-drop_below-requires : goal.drop_items-drop_below-requires
+drop_items-drop_below-requires g t c κs within =
     let less = one_off nodes _ _ _ c.in-Some-pop.ensures.items in
     let same = nodes_of c.in-Some-pop.item _ c.into_parts.ensures.kind in
     let part = c.strip.ensures in
-    let whole = ap (λ v. row_nodes v.items) c.in-Some.ensures in
+    let whole = ap (λ v. item_nodes v.items) c.in-Some.ensures in
     (omega (arith, less, same, part, whole, c.each.invariant, c.decreases), within)

@@ -1,15 +1,18 @@
 use Rattle.std.proofs.Common.{◌+◌, ◌*◌, ◌≤◌, length, vec_len}
-use Rattle.cedar_exprs.specs.Steps.{below_nodes, row_nodes, field_nodes, all_nodes}
+use Rattle.cedar_exprs.specs.Steps.{below_nodes, item_nodes, field_nodes, row_nodes, all_nodes}
 use Rattle.cedar_exprs.proofs.dropping.+dropped.Given as goal
 
 abbrev pub decreases-drop_below : goal.decreases-drop_below
-decreases-drop_below g l = 2 * below_nodes l.below
+decreases-drop_below g l = 3 * below_nodes l.below
 
 abbrev pub decreases-drop_row : goal.decreases-drop_row
-decreases-drop_row g l = 2 * row_nodes l.row.value.items + 1
+decreases-drop_row g l = 3 * row_nodes l.row + 2
+
+abbrev pub decreases-drop_items : goal.decreases-drop_items
+decreases-drop_items g l = 3 * item_nodes l.items.value.items + 1
 
 abbrev pub decreases-drop_fields : goal.decreases-drop_fields
-decreases-drop_fields g l = 2 * field_nodes l.fields.value.entries + 1
+decreases-drop_fields g l = 3 * field_nodes l.fields.value.entries + 1
 
 -- no more nodes are left than there were
 abbrev pub invariant-drop_below-down : goal.invariant-drop_below-down
@@ -19,14 +22,14 @@ invariant-drop_below-down g l = all_nodes l.left ≤ below_nodes l.fn.below
 abbrev pub decreases-drop_below-down : goal.decreases-drop_below-down
 decreases-drop_below-down g l = all_nodes l.left * (below_nodes l.fn.below + 1) + below_nodes l.left.below
 
-abbrev pub invariant-drop_row-each : goal.invariant-drop_row-each
-invariant-drop_row-each g l = row_nodes l.row.items ≤ row_nodes l.initial.row.items
+abbrev pub invariant-drop_items-each : goal.invariant-drop_items-each
+invariant-drop_items-each g l = item_nodes l.row.items ≤ item_nodes l.initial.row.items
 
-abbrev pub decreases-drop_row-each : goal.decreases-drop_row-each
-decreases-drop_row-each g l = vec_len l.row
+abbrev pub decreases-drop_items-each : goal.decreases-drop_items-each
+decreases-drop_items-each g l = vec_len l.row
 
 abbrev pub invariant-drop_fields-each : goal.invariant-drop_fields-each
-invariant-drop_fields-each g l = field_nodes l.fields.entries ≤ field_nodes l.initial.fields.entries
+invariant-drop_fields-each g l = field_nodes l.row.entries ≤ field_nodes l.initial.row.entries
 
 abbrev pub decreases-drop_fields-each : goal.decreases-drop_fields-each
-decreases-drop_fields-each g l = length l.fields.entries
+decreases-drop_fields-each g l = length l.row.entries

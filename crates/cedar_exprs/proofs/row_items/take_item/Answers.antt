@@ -9,4 +9,4 @@ returns-in-Ok-None g c =
     let waits = ap if_row c.in-Some.is in
     let put = subst (IsPut below_nodes _ _ _) (c.in-Ok-None.is ∙ ap Ok c.in-Ok-None.field-0-is) c.put_first.ensures in
     let last = with_last below_nodes c.last_branch.result _ _ c.last_branch.ensures.taken c.last_branch.ensures.fewer in
-    c.after_leaf.ensures below_nodes _ _ _ (omega (arith, waits, put, last))
+    c.after_leaf.ensures.fewer below_nodes _ _ _ (omega (arith, waits, put, last))

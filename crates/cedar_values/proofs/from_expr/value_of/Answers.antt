@@ -22,7 +22,7 @@ returns-in_err-step-in-Into-clause-outcome g c =
     let all = c.push.new.self.items in
     let d = c.in-Into.inner in
     let x = c.in_err-step-in-Into.field-0.0 in
-    let o : InPreorder Unit = record { order = c.nodes_in_preorder.ensures.order; trees = c.nodes_in_preorder.ensures.trees } in
+    let o : InPreorder Unit = c.nodes_in_preorder.ensures in
     let same : c.from_residual-in_err-step-in-Into.result ≡ Err x = search rules in
     let nested = course_into R all c.walk.waiting.items c.in-Into.row d c.walk.step e c.in_ok-push-in-Into.ensures.items c.in-Into.is c.walk.invariant in
     subst (λ r. MatchResult r (λ v. IsValueOf R (bare_expr e) (bare_value v)) (IsNotValueAt (first_not_readable e))) (sym same)

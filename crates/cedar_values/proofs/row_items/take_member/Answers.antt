@@ -10,4 +10,4 @@ returns-in-Ok-None g c =
     let waits = ap waiting_nodes c.in-Some.is in
     let put = subst (IsPut kind_nodes _ _ _) (c.in-Ok-None.is ∙ ap Ok c.in-Ok-None.field-0-is) c.put_first.ensures in
     let last = with_last kind_nodes c.last_branch.result _ _ c.last_branch.ensures.taken c.last_branch.ensures.fewer in
-    c.after_leaf.ensures kind_nodes _ _ _ (omega (arith, waits, put, last))
+    c.after_leaf.ensures.fewer kind_nodes _ _ _ (omega (arith, waits, put, last))

@@ -10,4 +10,4 @@ returns-in-Ok-None g c =
     let waits = ap waiting_nodes c.in-Some.is in
     let put = subst (IsPut kind_nodes _ _ _) (c.in-Ok-None.is ∙ ap Ok c.in-Ok-None.field-0-is) c.put_first_value.ensures in
     let last = with_last kind_nodes c.last_branch_value.result _ _ c.last_branch_value.ensures.taken c.last_branch_value.ensures.fewer in
-    c.after_leaf.ensures kind_nodes _ _ _ (omega (arith, waits, put, last))
+    c.after_leaf.ensures.fewer kind_nodes _ _ _ (omega (arith, waits, put, last))

@@ -11,7 +11,7 @@ use Rattle.cedar_values.proofs.value.ValueKind.try_from_expr.Goals as goal
 
 pub returns-in_err-value-clause-readable : goal.returns-in_err-value-clause-readable
 returns-in_err-value-clause-readable g c =
-    let o : InPreorder Unit = record { order = c.nodes_in_preorder.ensures.order; trees = c.nodes_in_preorder.ensures.trees } in
+    let o : InPreorder Unit = c.nodes_in_preorder.ensures in
     let e = c.args.expr in
     let same : c.from_residual.result ≡ Err c.in_err-value.field-0.0 = search rules in
     subst (IsAnswerWhere (is_readable (bare_expr e))) (sym same)
