@@ -5,25 +5,24 @@ use cedar_reader::{ReadError, read_expr};
 use std::alloc::{AllocError, Global};
 use std::io;
 
-const LEVELS: u32 = 100_000;
-
-/// Shows that depth ends neither reading nor printing.
-pub fn show(rt: &HostRuntime) -> io::Result<()> {
-    let text = nested(rt.alloc(), LEVELS)?;
+/// Shows that depth, of so many levels, ends neither reading nor printing.
+pub fn show(rt: &HostRuntime, levels: usize) -> io::Result<()> {
+    let text = nested(rt.alloc(), levels)?;
     match read_expr(rt.alloc(), &text) {
-        Ok(expr) => show_length(rt, &expr),
+        Ok(expr) => show_length(rt, &expr, levels),
         Err(ReadError::Syntax(error)) => println!(rt; "\n{error}"),
         Err(ReadError::Memory) => Err(AllocError.into()),
     }
 }
 
-fn show_length(rt: &HostRuntime, expr: &Expr) -> io::Result<()> {
+fn show_length(rt: &HostRuntime, expr: &Expr, levels: usize) -> io::Result<()> {
     let length = policy_text(rt.alloc(), expr)?.text.len();
-    println!(rt; "\n{LEVELS} conditionals in one another are read, and printed in {length} bytes")
+    let each = length.checked_div(levels).unwrap_or(0);
+    println!(rt; "\nconditionals in one another are read, and printed in {each} bytes a level")
 }
 
 // Brackets, conditionals and signs, this many of each, in one another.
-fn nested(alloc: Global, levels: u32) -> Result<String, AllocError> {
+fn nested(alloc: Global, levels: usize) -> Result<String, AllocError> {
     let mut text = String::new(alloc);
     for _ in 0..levels {
         text.push_str("(if true then -(")?;

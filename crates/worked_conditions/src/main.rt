@@ -5,7 +5,8 @@
 //! line of standard input is a tree, written as `docs/CALLS.md` says: it is printed, what was
 //! printed is read, and the two trees are compared. The second argument names a file of texts with
 //! blank lines between them: each is read, and the program shows its tree, and how it is printed
-//! again, or why it is not read. At last it reads a text of great depth.
+//! again, or why it is not read. At last it reads a text as many levels deep as the third argument
+//! says.
 #![tactic(auto)]
 
 mod conditions;
@@ -21,7 +22,7 @@ fn main(rt: HostRuntime) -> Result<()> {
     println!(rt)?;
     trees::read_back(&rt)?;
     texts::show(&rt, &named_file(&rt, 2)?)?;
-    deep::show(&rt)?;
+    deep::show(&rt, levels(&rt)?)?;
     Ok(())
 }
 
@@ -31,4 +32,12 @@ fn named_file(rt: &HostRuntime, place: usize) -> Result<String> {
         bail!("the program takes a file of conditions and a file of texts");
     };
     Ok(fs::read_to_string(rt, &file)?)
+}
+
+// How many levels the last argument asks for.
+fn levels(rt: &HostRuntime) -> Result<usize> {
+    let Some(levels) = env::args(rt)?.nth(3).and_then(|word| word.parse().ok()) else {
+        bail!("the last argument is a number of levels");
+    };
+    Ok(levels)
 }
