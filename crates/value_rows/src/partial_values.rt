@@ -45,22 +45,14 @@ fn items(alloc: Global, parts: &[Part]) -> Result<Vec<Item>, NoAnswer> {
 fn item(alloc: Global, part: &Part) -> Result<Item, NoAnswer> {
     match part.list()? {
         [head, inner] => match head.word()? {
-            "v" => known_value(alloc, inner),
-            "r" => residual(alloc, inner),
+            "v" => Ok(PartialValue::from(value(alloc, inner)?)),
+            "r" => Ok(PartialValue::Residual(expr(alloc, inner)?)),
             "u" => unknown(alloc, inner.word()?),
             "x" => with_unknown(alloc, inner),
             _ => Err(NoAnswer::NotTaken),
         },
         _ => Err(NoAnswer::NotTaken),
     }
-}
-
-fn known_value(alloc: Global, part: &Part) -> Result<Item, NoAnswer> {
-    Ok(PartialValue::from(value(alloc, part)?))
-}
-
-fn residual(alloc: Global, part: &Part) -> Result<Item, NoAnswer> {
-    Ok(PartialValue::Residual(expr(alloc, part)?))
 }
 
 fn unknown(alloc: Global, name: &str) -> Result<Item, NoAnswer> {

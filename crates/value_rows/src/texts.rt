@@ -45,9 +45,15 @@ fn whole<D: BoundedDisplay + BoundedToString + fmt::Display>(
 }
 
 fn written<D: BoundedDisplay>(alloc: Global, x: &D) -> Result<String, NoAnswer> {
-    let mut written = String::new(alloc);
-    match x.fmt_unbounded(&mut written) {
-        Ok(()) => Ok(written),
+    let mut text = String::new(alloc);
+    let end = x.fmt_unbounded(&mut text);
+    ended(text, end)
+}
+
+// A text, where its writer came to the end.
+fn ended(text: String, end: fmt::Result) -> Result<String, NoAnswer> {
+    match end {
+        Ok(()) => Ok(text),
         Err(_) => Err(NoAnswer::Memory),
     }
 }
@@ -73,11 +79,9 @@ fn written_within<D: BoundedDisplay>(
     x: &D,
     bound: usize,
 ) -> Result<String, NoAnswer> {
-    let mut written = String::new(alloc);
-    match x.fmt_bounded(&mut written, bound) {
-        Ok(()) => Ok(written),
-        Err(_) => Err(NoAnswer::Memory),
-    }
+    let mut text = String::new(alloc);
+    let end = x.fmt_bounded(&mut text, bound);
+    ended(text, end)
 }
 
 // The same text by the calls that take a bound or none. What is written stands behind what was.
@@ -118,8 +122,6 @@ fn written_behind<D: BoundedDisplay>(
     text: &str,
 ) -> Result<String, NoAnswer> {
     let mut written = format!(in alloc; "{text}")?;
-    match BoundedDisplay::fmt(x, &mut written, bound) {
-        Ok(()) => Ok(written),
-        Err(_) => Err(NoAnswer::Memory),
-    }
+    let end = BoundedDisplay::fmt(x, &mut written, bound);
+    ended(written, end)
 }

@@ -18,26 +18,24 @@ use anyhow::{Result, bail};
 use std::{env, fs};
 
 fn main(rt: HostRuntime) -> Result<()> {
-    conditions::show(&rt, &named_file(&rt, 1)?)?;
+    let (conditions_file, texts_file, levels) = arguments(&rt)?;
+    conditions::show(&rt, &fs::read_to_string(&rt, &conditions_file)?)?;
     println!(rt)?;
     trees::read_back(&rt)?;
-    texts::show(&rt, &named_file(&rt, 2)?)?;
-    deep::show(&rt, levels(&rt)?)?;
+    texts::show(&rt, &fs::read_to_string(&rt, &texts_file)?)?;
+    deep::show(&rt, levels)?;
     Ok(())
 }
 
-// The text of the file that an argument names.
-fn named_file(rt: &HostRuntime, place: usize) -> Result<String> {
-    let Some(file) = env::args(rt)?.nth(place) else {
-        bail!("the program takes a file of conditions and a file of texts");
-    };
-    Ok(fs::read_to_string(rt, &file)?)
-}
-
-// How many levels the last argument asks for.
-fn levels(rt: &HostRuntime) -> Result<usize> {
-    let Some(levels) = env::args(rt)?.nth(3).and_then(|word| word.parse().ok()) else {
-        bail!("the last argument is a number of levels");
-    };
-    Ok(levels)
+// The file of conditions, the file of texts, and the number of levels.
+fn arguments(rt: &HostRuntime) -> Result<(String, String, usize)> {
+    let mut words = env::args(rt)?.skip(1);
+    match (
+        words.next(),
+        words.next(),
+        words.next().and_then(|word| word.parse().ok()),
+    ) {
+        (Some(conditions), Some(texts), Some(levels)) => Ok((conditions, texts, levels)),
+        _ => bail!("usage: worked_conditions CONDITIONS TEXTS LEVELS"),
+    }
 }
