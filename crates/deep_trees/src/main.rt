@@ -1,12 +1,14 @@
 //! Chains of as many expressions as the argument says, each one inside the next, that are made,
-//! substituted, built, shown, checked and dropped on the usual stack; and chains of values, whose
-//! expressions are written and read back.
+//! substituted, built, shown, checked and dropped on the usual stack; chains of values, whose
+//! expressions are written and read back; and scripts that nest expressions as deep.
 #![tactic(auto)]
 
 mod checks;
+mod scripts;
 mod values;
 
 use crate::checks::{is_restricted, is_valid};
+use crate::scripts::work_scripts;
 use crate::values::{Nest, show_value};
 use cedar_exprs::{Expr, ExprBuilder};
 use cedar_names::{FromNormalizedStr, Name};
@@ -76,7 +78,7 @@ fn main(rt: HostRuntime) -> io::Result<()> {
             each(&shown.text, levels)
         )?;
     }
-    Ok(())
+    work_scripts(&rt, levels)
 }
 
 // How many levels the argument asks for.

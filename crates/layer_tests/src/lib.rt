@@ -4,7 +4,7 @@
 //! writers that refuse, sorted slices, what public clauses prove together, and the names that
 //! `cedar_ast` has.
 //!
-//! What calls answer is shown by the rows of `worked_rows`.
+//! What calls answer is shown by the rows of `answered_rows`.
 #![tactic(auto)]
 
 #[cfg(test)]

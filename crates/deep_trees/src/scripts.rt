@@ -1,10 +1,8 @@
-//! Scripts that nest expressions as many levels deep as the argument says, and that bind,
-//! substitute, simplify, show and evaluate them: each is worked on the usual stack.
-#![tactic(auto)]
+//! Scripts that nest expressions, and that bind, substitute, simplify, show and evaluate them.
 
 use cedar_script::{RunFault, run};
 use std::alloc::{AllocError, Global};
-use std::{env, io};
+use std::io;
 
 // A script that nests an expression.
 #[derive(Drop)]
@@ -63,8 +61,8 @@ impl Nest {
     }
 }
 
-fn main(rt: HostRuntime) -> io::Result<()> {
-    let levels = levels(&rt)?;
+/// Works each script, and prints how long what it shows is.
+pub fn work_scripts(rt: &HostRuntime, levels: usize) -> io::Result<()> {
     // Records take most memory, and a value that is bound is walked over most often.
     let (records, bound) = (levels / 10, levels / 100);
     let nests = [
@@ -89,14 +87,6 @@ fn main(rt: HostRuntime) -> io::Result<()> {
         }
     }
     Ok(())
-}
-
-// How many levels the argument asks for.
-fn levels(rt: &HostRuntime) -> io::Result<usize> {
-    let argument = env::args(rt)?.nth(1);
-    argument
-        .and_then(|word| word.parse().ok())
-        .ok_or(io::ErrorKind::InvalidInput.into())
 }
 
 // All that a script shows.
