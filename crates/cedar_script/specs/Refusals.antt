@@ -23,24 +23,24 @@ abbrev pub refusal_of : ExpressionConstructionError → Refusal
 refusal_of (construction.DuplicateKey e) = DuplicateKey e
 refusal_of construction.Memory = Memory
 
--- the refusal of a line whose values can't be substituted
-abbrev pub refusal_of_types : SubstitutionError → Refusal
-refusal_of_types (substitution.TypeError expected actual) = TypeError expected actual
-refusal_of_types substitution.Memory = Memory
+-- the refusal names the types that were found to differ, or memory ran out
+abbrev pub IsTypeRefusal : SubstitutionError → Refusal → Type 0
+IsTypeRefusal e (TypeError clash) = e ≡ substitution.TypeError clash.value.expected clash.value.actual
+IsTypeRefusal e r = r ≡ Memory
 
 -- the refusal of a line whose expression is to be a value
 abbrev pub refusal_of_value : Unread → Refusal
 refusal_of_value (unread.NotValue loc) = NotAValue
 refusal_of_value unread.Memory = Memory
 
--- the refusal of a line whose expression has no outcome
-abbrev pub refusal_of_call : BuildFault CallRefused → Refusal
-refusal_of_call (build.Build e) = Called e
-refusal_of_call build.Memory = Memory
+-- the refusal names the call that was refused, or memory ran out
+abbrev pub IsRefusalOfCall : BuildFault CallRefused → Refusal → Type 0
+IsRefusalOfCall e (Called refused) = e ≡ build.Build refused.value
+IsRefusalOfCall e r = r ≡ Memory
 
 -- an evaluation is refused at the first call, by the function's name
 abbrev pub IsCallRefusal : Result (Outcome NoExtension) BareName → Refusal → Type 0
-IsCallRefusal r (Called e) = r ≡ Err (bare_name e.name)
+IsCallRefusal r (Called e) = r ≡ Err (bare_name e.value.name)
 IsCallRefusal r e = e ≡ Memory
 
 -- an expression is refused as no value where a node is no literal, set or record

@@ -1,5 +1,6 @@
 //! Why a line of the script is refused.
 ghost use Rattle.std.specs.Prelude.{◌≡◌};
+ghost use Rattle.cedar_script.specs.Refusals.{IsTypeRefusal, IsRefusalOfCall};
 ghost use Rattle.cedar_script.specs.declared.refusal.Refusal.TheVariants.{Memory};
 
 use cedar_builders::{BuildFault, DuplicateKeyError, ExpressionConstructionError};
@@ -7,10 +8,12 @@ use cedar_evaluator::CallRefused;
 use cedar_exprs::SubstitutionError;
 use cedar_terms::Type;
 use cedar_values::NotValue;
-use std::alloc::{AllocError, AllocFailed};
+use std::alloc::{AllocError, AllocFailed, Global};
 use thiserror::Error;
 
 /// Why a line is refused; the text is the cause that is reported.
+///
+/// What takes much room is boxed, so that answers stay small on the way up.
 #[derive(Debug, PartialEq, Eq, Drop, Error)]
 pub enum Refusal {
     /// The bytes of the line are no text.
@@ -29,14 +32,51 @@ pub enum Refusal {
     #[error("not a value")]
     NotAValue,
     /// The value of an unknown has another type than its annotation says.
-    #[error("expected {expected}, actual {actual}")]
-    TypeError { expected: Type, actual: Type },
+    #[error("expected {}, actual {}", .0.expected, .0.actual)]
+    TypeError(Box<TypeClash>),
     /// An expression to evaluate calls an extension function.
     #[error(transparent)]
-    Called(CallRefused),
+    Called(Box<CallRefused>),
     /// Memory was wanted, and none was given.
     #[error("no memory")]
     Memory,
+}
+
+/// The type that an unknown is annotated with, and that of its value.
+#[derive(Debug, PartialEq, Eq, Drop)]
+pub struct TypeClash {
+    pub expected: Type,
+    pub actual: Type,
+}
+
+impl Refusal {
+    /// The refusal of a line whose values can't be substituted.
+    pub fn of_types(alloc: Global, error: SubstitutionError) -> Refusal
+        ensures { IsTypeRefusal error result }
+    {
+        match error {
+            SubstitutionError::TypeError { expected, actual } => {
+                match Box::new(alloc, TypeClash { expected, actual }) {
+                    Ok(clash) => Refusal::TypeError(clash),
+                    Err(_) => Refusal::Memory,
+                }
+            }
+            SubstitutionError::Memory => Refusal::Memory,
+        }
+    }
+
+    /// The refusal of a line whose expression has no outcome.
+    pub fn of_call(alloc: Global, fault: BuildFault<CallRefused>) -> Refusal
+        ensures { IsRefusalOfCall fault result }
+    {
+        match fault {
+            BuildFault::Build(refused) => match Box::new(alloc, refused) {
+                Ok(refused) => Refusal::Called(refused),
+                Err(_) => Refusal::Memory,
+            },
+            BuildFault::Memory => Refusal::Memory,
+        }
+    }
 }
 
 impl From<AllocError> for Refusal {
@@ -64,34 +104,6 @@ impl From<ExpressionConstructionError> for Refusal {
         match error {
             ExpressionConstructionError::DuplicateKey(error) => Refusal::DuplicateKey(error),
             ExpressionConstructionError::Memory => Refusal::Memory,
-        }
-    }
-}
-
-impl From<SubstitutionError> for Refusal {
-    ghost use Rattle.cedar_script.specs.Refusals.{refusal_of_types};
-
-    ghost from_gives = { λ e r. r ≡ refusal_of_types e };
-
-    fn from(error: SubstitutionError) -> Refusal {
-        match error {
-            SubstitutionError::TypeError { expected, actual } => {
-                Refusal::TypeError { expected, actual }
-            }
-            SubstitutionError::Memory => Refusal::Memory,
-        }
-    }
-}
-
-impl From<BuildFault<CallRefused>> for Refusal {
-    ghost use Rattle.cedar_script.specs.Refusals.{refusal_of_call};
-
-    ghost from_gives = { λ e r. r ≡ refusal_of_call e };
-
-    fn from(error: BuildFault<CallRefused>) -> Refusal {
-        match error {
-            BuildFault::Build(refused) => Refusal::Called(refused),
-            BuildFault::Memory => Refusal::Memory,
         }
     }
 }

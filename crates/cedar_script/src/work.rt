@@ -1,5 +1,8 @@
 //! The state of a script: a stack of expressions and the bindings of names, and what each command
 //! does to them.
+//!
+//! No command of some size is inlined: else `work` would keep room for the locals of all commands,
+//! and set it to zero at each line.
 ghost use Rattle.std.specs.Prelude.{◌≡◌, ◌≢◌, [], ◌∷◌, Ok, None, drop, take, reverse, ◌+◌, ◌<◌, ◌↔◌, OnOk, IfOk, IsErrOf, IfErr, map, string_bytes, vec_len};
 ghost use Rattle.std.specs.Rc.{rc_str_bytes};
 ghost use Rattle.cedar_names.specs.PlainNames.{bare_name};
@@ -122,7 +125,9 @@ impl State {
         ensures bindings { bindings_of self.new ≡ bindings_of self.old }
         ensures refused { IfErr result (λ e. e ≡ Refusal.Memory) }
     {
-        self.stack.push(expr)?;
+        // `push` would move it once more, since its error has the expression.
+        self.stack.reserve(1)?;
+        self.stack.push_reserved(expr);
         Ok(None)
     }
 
@@ -158,6 +163,7 @@ impl State {
     }
 
     // Takes the top, and pushes what is made of it.
+    #[inline(never)]
     fn apply_one<F>(&mut self, alloc: Global, make: F) -> Shown
     where
         F: FnOnce(Global, Expr) -> Result<Expr, AllocError>,
@@ -175,6 +181,7 @@ impl State {
     }
 
     // Takes the two top expressions, and pushes what is made of the lower and the upper one.
+    #[inline(never)]
     fn apply_two<F>(&mut self, alloc: Global, make: F) -> Shown
     where
         F: FnOnce(Global, Expr, Expr) -> Result<Expr, AllocError>,
@@ -193,6 +200,7 @@ impl State {
     }
 
     // Takes the test and the branches, the test lowest, and pushes their conditional.
+    #[inline(never)]
     fn make_conditional(&mut self, alloc: Global) -> Shown
         ensures shows { IfOk result (λ shown. shown ≡ None) }
         ensures bindings { bindings_of self.new ≡ bindings_of self.old }
@@ -209,6 +217,7 @@ impl State {
     }
 
     // Takes this many expressions, and pushes the call of the function on them.
+    #[inline(never)]
     fn make_call(&mut self, alloc: Global, name: Name, count: usize) -> Shown
         ensures shows { IfOk result (λ shown. shown ≡ None) }
         ensures bindings { bindings_of self.new ≡ bindings_of self.old }
@@ -223,6 +232,7 @@ impl State {
     }
 
     // Takes this many expressions, and pushes the set of them.
+    #[inline(never)]
     fn make_set(&mut self, alloc: Global, count: usize) -> Shown
         ensures shows { IfOk result (λ shown. shown ≡ None) }
         ensures bindings { bindings_of self.new ≡ bindings_of self.old }
@@ -237,6 +247,7 @@ impl State {
     }
 
     // Takes an expression for each key, and pushes the record of them.
+    #[inline(never)]
     fn make_record(&mut self, alloc: Global, keys: Vec<&str>) -> Shown
         ensures shows { IfOk result (λ shown. shown ≡ None) }
         ensures bindings { bindings_of self.new ≡ bindings_of self.old }
@@ -252,6 +263,7 @@ impl State {
     }
 
     // Takes the top as a value, and binds the name to it.
+    #[inline(never)]
     fn bind(&mut self, alloc: Global, name: &str) -> Shown
         ensures shows { IfOk result (λ shown. shown ≡ None) }
         ensures bound { OnOk result (TopHas
@@ -282,6 +294,7 @@ impl State {
     }
 
     // Replaces the top by its substitution.
+    #[inline(never)]
     fn substitute(&mut self, alloc: Global) -> Shown
         ensures shows { IfOk result (λ shown. shown ≡ None) }
         ensures bindings { bindings_of self.new ≡ bindings_of self.old }
@@ -297,6 +310,7 @@ impl State {
     }
 
     // Replaces the top by its substitution, if no value has another type than is expected of it.
+    #[inline(never)]
     fn substitute_typed(&mut self, alloc: Global) -> Shown
         ensures shows { IfOk result (λ shown. shown ≡ None) }
         ensures bindings { bindings_of self.new ≡ bindings_of self.old }
@@ -308,11 +322,12 @@ impl State {
         ensures depth { OnOk result (depth self.new ≡ depth self.old) }
         ensures too_few { IsErrOf result Refusal.TooFewExpressions ↔ (depth self.old < 1) }
     {
-        let top = self.pop()?.substitute_typed(alloc, &self.bindings)?;
+        let top = substitute_typed(alloc, &self.pop()?, &self.bindings)?;
         self.push(top)
     }
 
     // Replaces the top by what is left of it.
+    #[inline(never)]
     fn simplify(&mut self, alloc: Global) -> Shown
         ensures shows { IfOk result (λ shown. shown ≡ None) }
         ensures bindings { bindings_of self.new ≡ bindings_of self.old }
@@ -329,6 +344,7 @@ impl State {
     }
 
     // Shows the top, which stays.
+    #[inline(never)]
     fn show(&self, alloc: Global) -> Shown
         ensures shows { IfOk result
             (Shows ⟦<Evaluator as Builder>⟧.ops (environment (bindings_of self.now)) Command.Show
@@ -340,6 +356,7 @@ impl State {
     }
 
     // Shows the outcome of the top, which stays.
+    #[inline(never)]
     fn evaluate(&self, alloc: Global) -> Shown
         ensures shows { IfOk result
             (Shows ⟦<Evaluator as Builder>⟧.ops (environment (bindings_of self.now)) Command.Eval
@@ -359,8 +376,10 @@ impl State {
         ensures refused { IfErr result (IsCallRefusal
             (fold ⟦<Evaluator as Builder>⟧.ops (environment (bindings_of self.now)) (bare_expr expr.now))) }
     {
-        let outcome = evaluate(alloc, expr, &self.bindings)?;
-        Ok(outcome.to_string(alloc)?)
+        match evaluate(alloc, expr, &self.bindings) {
+            Ok(outcome) => Ok(outcome.to_string(alloc)?),
+            Err(fault) => Err(Refusal::of_call(alloc, fault)),
+        }
     }
 }
 
@@ -372,6 +391,7 @@ fn write_expr(alloc: Global, expr: &Expr) -> Result<String, AllocError>
     expr.into_expr::<Sketch>(alloc)?.to_text(alloc)
 }
 
+#[inline(never)]
 fn make_string(alloc: Global, text: &str) -> Result<Expr, AllocError>
     ensures { IfOk result (λ e. bare_expr e ≡ Lit (StringLit text.now)) }
 {
@@ -379,6 +399,7 @@ fn make_string(alloc: Global, text: &str) -> Result<Expr, AllocError>
     Ok(Expr::val(Literal::String(text)))
 }
 
+#[inline(never)]
 fn make_unknown(alloc: Global, name: &str, annotation: Option<Type>) -> Result<Expr, AllocError>
     ensures { IfOk result (λ e. bare_expr e ≡ unknown_tree name.now (bare_annotation annotation)) }
 {
@@ -434,6 +455,23 @@ fn into_value(alloc: Global, expr: Expr) -> Result<Value, Refusal>
     ensures refused { IfErr result (IsValueRefusal (bare_expr expr)) }
 {
     Ok(Value::try_from_expr(alloc, expr)?)
+}
+
+// Substitutes values of the types that are expected.
+fn substitute_typed(
+    alloc: Global,
+    expr: &Expr,
+    bindings: &HashMap<RcStr, Value>,
+) -> Result<Expr, Refusal>
+    ensures substituted { IfOk result (λ e.
+        fold tree_ops (environment bindings.now) (bare_expr expr.now) ≡ Ok (bare_expr e)) }
+    ensures passed { OnOk result (clash (environment bindings.now) (bare_expr expr.now) ≡ None) }
+    ensures refused { IfErr result (λ e. e ≢ Refusal.TooFewExpressions) }
+{
+    match expr.substitute_typed(alloc, bindings) {
+        Ok(expr) => Ok(expr),
+        Err(error) => Err(Refusal::of_types(alloc, error)),
+    }
 }
 
 // Makes the record of keys, each with the value at its index.
