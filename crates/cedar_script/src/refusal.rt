@@ -50,7 +50,7 @@ pub struct TypeClash {
 }
 
 impl Refusal {
-    /// The refusal of a line whose values can't be substituted.
+    /// The refusal of a line whose values can't be substituted; `Memory` where the box gets none.
     pub fn of_types(alloc: Global, error: SubstitutionError) -> Refusal
         ensures { IsTypeRefusal error result }
     {
@@ -65,7 +65,7 @@ impl Refusal {
         }
     }
 
-    /// The refusal of a line whose expression has no outcome.
+    /// The refusal of a line whose expression has no outcome; `Memory` where the box gets none.
     pub fn of_call(alloc: Global, fault: BuildFault<CallRefused>) -> Refusal
         ensures { IsRefusalOfCall fault result }
     {
