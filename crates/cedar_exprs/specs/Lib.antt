@@ -14,6 +14,7 @@ pub mod Refusals
 pub mod TypedAnswers
 pub mod TypedFaults
 pub mod Iterators
+pub mod Positions
 pub mod ShapeOnly
 pub mod Waiting
 pub mod Entries

@@ -225,7 +225,12 @@ impl<T: Copy> Expr<T> {
         ensures at_each_position { IfOk result (λ e. data_tree e ≡ data_tree self.now) }
     {
         let source_loc = Loc::clone_option(alloc, self.source_loc())?;
-        Ok(Expr::new(self.expr_kind.clone(alloc)?, source_loc, self.data))
+        // A literal needs little of the room that a copy of any kind takes.
+        let expr_kind = match &self.expr_kind {
+            ExprKind::Lit(literal) => ExprKind::Lit(literal.clone(alloc)?),
+            kind => kind.clone(alloc)?,
+        };
+        Ok(Expr::new(expr_kind, source_loc, self.data))
     }
 }
 
@@ -241,6 +246,7 @@ fn literal_bool(literal: &Literal) -> Option<bool>
 
 impl<T: Copy> ExprKind<T> {
     /// A copy, which shares the children.
+    #[inline(never)]
     pub fn clone(&self, alloc: Global) -> Result<ExprKind<T>, AllocError>
         ensures tree { IfOk result (λ k. bare_expr_kind k ≡ bare_expr_kind self.now) }
         ensures children { IfOk result (λ k. kind_children k ≡ kind_children self.now) }

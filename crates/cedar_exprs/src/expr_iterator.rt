@@ -59,7 +59,7 @@ impl<'a, T> Iterator for ExprIterator<'a, T> {
 }
 
 // Puts the children onto the stack in field order.
-fn push_children<'a, T>(stack: &mut Vec<&'a Expr<T>>, expr: &'a Expr<T>)
+pub(crate) fn push_children<'a, T>(stack: &mut Vec<&'a Expr<T>>, expr: &'a Expr<T>)
     requires { vec_len stack.old + length (children expr.now) ≤ vec_capacity stack.old }
     ensures items { referents stack.new.items ≡ referents stack.old.items ++ children expr.now }
     ensures room { vec_capacity stack.new ≡ vec_capacity stack.old }

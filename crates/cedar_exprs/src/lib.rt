@@ -16,6 +16,7 @@ mod expr_shape_only;
 pub mod laws;
 mod machine;
 mod not_restricted;
+mod positions;
 mod queries;
 mod restricted_expr;
 mod results;

@@ -5,6 +5,7 @@ ghost use Rattle.cedar_builders.specs.Queries.{is_ref, is_slot, is_unknown, is_r
 ghost use Rattle.cedar_exprs.specs.BareExpr.{bare_expr};
 
 use crate::expr::{Expr, ExprKind};
+use crate::positions::Positions;
 use std::alloc::{AllocError, Global};
 
 impl<T> Expr<T> {
@@ -42,7 +43,8 @@ impl<T> Expr<T> {
     pub fn is_projectable(&self, alloc: Global) -> Result<bool, AllocError>
         ensures { IfOk result (λ b. b ≡ is_projectable (bare_expr self.now)) }
     {
-        for position in self.subexpressions(alloc)? {
+        let mut left = Positions::of(alloc, self)?;
+        'left: while let Some(position) = left.next()? {
             if !is_projectable_node(position) {
                 return Ok(false);
             }
@@ -54,7 +56,8 @@ impl<T> Expr<T> {
     pub fn contains_unknown(&self, alloc: Global) -> Result<bool, AllocError>
         ensures { IfOk result (λ b. b ≡ contains_unknown (bare_expr self.now)) }
     {
-        for position in self.subexpressions(alloc)? {
+        let mut left = Positions::of(alloc, self)?;
+        'left: while let Some(position) = left.next()? {
             if is_unknown(position) {
                 return Ok(true);
             }

@@ -5,6 +5,7 @@ ghost use Rattle.cedar_validation.specs.ValidationErrors.{IsErrorOf};
 ghost use Rattle.cedar_exprs.specs.BareExpr.{bare_expr};
 
 use crate::expr::{Expr, ExprKind};
+use crate::positions::Positions;
 use cedar_validation::{ExprValidationError, FunctionTable, check_call, check_path};
 use std::alloc::Global;
 
@@ -26,11 +27,26 @@ impl<T: Drop> Expr<T> {
         ensures refused { IfErr result
             (IsErrorOf (first_fault (F.style_at table.now) (bare_expr self))) }
     {
-        for position in self.subexpressions(alloc)? {
-            check_node(alloc, table, position)?;
-        }
+        check_positions(alloc, table, &self)?;
         Ok(self)
     }
+}
+
+fn check_positions<T, F: FunctionTable>(
+    alloc: Global,
+    table: &F,
+    expr: &Expr<T>,
+) -> Result<(), ExprValidationError>
+    ensures passed { OnOk result
+        (first_fault (F.style_at table.now) (bare_expr expr.now) ≡ None) }
+    ensures refused { IfErr result
+        (IsErrorOf (first_fault (F.style_at table.now) (bare_expr expr.now))) }
+{
+    let mut left = Positions::of(alloc, expr)?;
+    'left: while let Some(position) = left.next()? {
+        check_node(alloc, table, position)?;
+    }
+    Ok(())
 }
 
 // A node by itself.

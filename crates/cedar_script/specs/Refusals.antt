@@ -24,9 +24,9 @@ refusal_of (construction.DuplicateKey e) = DuplicateKey e
 refusal_of construction.Memory = Memory
 
 -- the refusal names the types that were found to differ, or memory ran out
-abbrev pub IsTypeRefusal : SubstitutionError → Refusal → Type 0
-IsTypeRefusal e (TypeError clash) = e ≡ substitution.TypeError clash.value.expected clash.value.actual
-IsTypeRefusal e r = r ≡ Memory
+abbrev pub NamesClash : SubstitutionError → Refusal → Type 0
+NamesClash e (TypeError clash) = e ≡ substitution.TypeError clash.value.expected clash.value.actual
+NamesClash e r = r ≡ Memory
 
 -- the refusal of a line whose expression is to be a value
 abbrev pub refusal_of_value : Unread → Refusal
@@ -34,9 +34,9 @@ refusal_of_value (unread.NotValue loc) = NotAValue
 refusal_of_value unread.Memory = Memory
 
 -- the refusal names the call that was refused, or memory ran out
-abbrev pub IsRefusalOfCall : BuildFault CallRefused → Refusal → Type 0
-IsRefusalOfCall e (Called refused) = e ≡ build.Build refused.value
-IsRefusalOfCall e r = r ≡ Memory
+abbrev pub NamesCall : BuildFault CallRefused → Refusal → Type 0
+NamesCall e (Called refused) = e ≡ build.Build refused.value
+NamesCall e r = r ≡ Memory
 
 -- an evaluation is refused at the first call, by the function's name
 abbrev pub IsCallRefusal : Result (Outcome NoExtension) BareName → Refusal → Type 0

@@ -1,6 +1,6 @@
 //! Why a line of the script is refused.
 ghost use Rattle.std.specs.Prelude.{◌≡◌};
-ghost use Rattle.cedar_script.specs.Refusals.{IsTypeRefusal, IsRefusalOfCall};
+ghost use Rattle.cedar_script.specs.Refusals.{NamesClash, NamesCall};
 ghost use Rattle.cedar_script.specs.declared.refusal.Refusal.TheVariants.{Memory};
 
 use cedar_builders::{BuildFault, DuplicateKeyError, ExpressionConstructionError};
@@ -52,7 +52,7 @@ pub struct TypeClash {
 impl Refusal {
     /// The refusal of a line whose values can't be substituted; `Memory` where the box gets none.
     pub fn of_types(alloc: Global, error: SubstitutionError) -> Refusal
-        ensures { IsTypeRefusal error result }
+        ensures { NamesClash error result }
     {
         match error {
             SubstitutionError::TypeError { expected, actual } => {
@@ -67,7 +67,7 @@ impl Refusal {
 
     /// The refusal of a line whose expression has no outcome; `Memory` where the box gets none.
     pub fn of_call(alloc: Global, fault: BuildFault<CallRefused>) -> Refusal
-        ensures { IsRefusalOfCall fault result }
+        ensures { NamesCall fault result }
     {
         match fault {
             BuildFault::Build(refused) => match Box::new(alloc, refused) {

@@ -1,13 +1,14 @@
-use Rattle.std.proofs.Common.{◌≡◌, map}
+use Rattle.std.proofs.Common.{◌≡◌, length, map}
 use Rattle.std.specs.List.{list_any}
 use Rattle.cedar_builders.specs.Queries.{is_unknown, contains_unknown}
 use Rattle.cedar_exprs.specs.BareExpr.{bare_expr}
-use Rattle.cedar_exprs.specs.Iterators.{positions_left}
+use Rattle.cedar_exprs.specs.Positions.{still_given}
 use Rattle.cedar_exprs.proofs.expr.Expr.contains_unknown.Given as goal
 
 -- the positions that are left have the answer of all
-abbrev pub invariant-loop-position : goal.invariant-loop-position
-invariant-loop-position g l =
-    (goal.iterator-loop-position g).can_next l.position-iterator
-    × (goal.iterator-loop-position g).is_finite l.position-iterator
-    × (list_any is_unknown (map bare_expr (positions_left l.position-iterator)) ≡ contains_unknown (bare_expr l.self))
+abbrev pub invariant-left : goal.invariant-left
+invariant-left g l =
+    list_any is_unknown (map bare_expr (still_given l.left)) ≡ contains_unknown (bare_expr l.self)
+
+abbrev pub decreases-left : goal.decreases-left
+decreases-left g l = length (still_given l.left)
