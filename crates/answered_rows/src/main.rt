@@ -1,6 +1,6 @@
-//! Answers rows of calls from standard input. The answers to those stored here were worked by hand,
-//! then, for evaluations, by two evaluators written by hand in other languages, then recorded of
-//! the crate's own code.
+//! Answers rows of calls from standard input. Of the answers that are stored here the first were
+//! worked by hand, those of evaluations given by two evaluators written by hand in other languages,
+//! and the last recorded of the crate's own code.
 #![tactic(auto)]
 
 use cedar_rows::run;
