@@ -7,7 +7,7 @@ use Rattle.cedar_builders.specs.Count.{count, total, count_is}
 use Rattle.cedar_builders.specs.Fold.{on_one, on_two, and_then}
 use Rattle.cedar_builders.specs.NodeByNode.{gathered, strict_at, IsMadeByNodes}
 use Rattle.cedar_builders.specs.Walks.{children}
-use Rattle.cedar_exprs.specs.Machine.{BareTask, to_visit, to_make, visits, bare_tasks, bare_task, children_of, last_first, Takes, IsMade, IsAnswer}
+use Rattle.cedar_exprs.specs.Machine.{BareTask, to_visit, to_make, visits, bare_tasks, bare_task, children_of, last_first, Takes, IsMade, IsAnswer, IsBegun}
 use Rattle.cedar_exprs.specs.BareExpr.{bare_expr}
 use Rattle.cedar_exprs.specs.declared.expr.Expr.{Expr}
 use Rattle.cedar_exprs.specs.declared.machine.Task.{Task}
@@ -68,6 +68,20 @@ module _ {M F : Type 0} (f : BareExpr → Result M F) (root : BareExpr) where
   visited : (e : BareExpr) (ts : List BareTask) (rs : List M) → f e ≡ strict_at f e → Fits (to_visit e ∷ ts) rs → Fits (visits (children e) ++ to_make e ∷ ts) rs
   visited e ts rs strict h = visit_all (children e) (to_make e ∷ ts) rs (readied e ts rs (gathered f (children e)) refl strict h)
 
+  passed_one : (es : List BareExpr) (ts : List BareTask) (rs ms : List M) (m : M) (g : Result (List M) F) → gathered f es ≡ g → on_two (λ m ns. m ∷ ns) (Ok m) g ≡ Ok ms
+      → ((ns : List M) → gathered f es ≡ Ok ns → Fits ts ((rs ++ m ∷ []) ++ ns)) → Fits ts (rs ++ ms)
+  passed_one es ts rs ms m (Ok ns) is more rest = let same : m ∷ ns ≡ ms = cc in subst (λ xs. Fits ts (rs ++ xs)) same (subst (Fits ts) (append_assoc rs (m ∷ []) ns) (rest ns is))
+  passed_one es ts rs ms m (Err x) is more rest = cc
+
+  -- trees that gave something are visited no more
+  passed : (es : List BareExpr) (ts : List BareTask) (rs ms : List M) → gathered f es ≡ Ok ms → Fits (visits es ++ ts) rs → Fits ts (rs ++ ms)
+  passed [] ts rs ms is h = let same : [] ≡ ms = cc in subst (λ xs. Fits ts (rs ++ xs)) same (subst (Fits ts) (sym (append-nil rs)) h)
+  passed (e ∷ es) ts rs ms is h =
+      (elim (f e) as (λ r. on_two (λ m ns. m ∷ ns) r (gathered f es) ≡ Ok ms → After r (λ m. Fits (visits es ++ ts) (rs ++ m ∷ [])) → Fits ts (rs ++ ms)) [
+        | Ok m ↦ λ k l. passed_one es ts rs ms m (gathered f es) refl k (λ ns given. passed es ts (rs ++ m ∷ []) ns given l)
+        | Err x ↦ λ k l. cc
+      ]) is h
+
   -- an error ends it all
   ended : (e : BareExpr) (x : F) (K : M → Type 0) → f e ≡ Err x → After (f e) K → f root ≡ Err x
   ended e x K is h = subst (λ r. After r K) is h
@@ -117,6 +131,20 @@ fewer_steps all ts new e was is =
     let d = steps-reverse (visits (children e)) ∙ steps-visits (children e) in
     omega (arith, a, b, c, d, count_is e)
 
+total-append : (es us : List BareExpr) → total (es ++ us) ≡ total es + total us
+total-append [] us = omega arith
+total-append (e ∷ es) us = omega (arith, total-append es us)
+
+-- what is left after the first of the children were made, and the others put onto the tasks
+pub fewer_begun : (all ts new : List BareTask) (e : BareExpr) (first later : List BareExpr) → all ≡ ts ++ to_visit e ∷ [] → children e ≡ first ++ later → new ≡ (ts ++ to_make e ∷ []) ++ reverse (visits later) → suc (steps new) ≤ steps all
+fewer_begun all ts new e first later was kids is =
+    let a = ap steps was ∙ steps-append ts (to_visit e ∷ []) in
+    let b = ap steps is ∙ steps-append (ts ++ to_make e ∷ []) (reverse (visits later)) in
+    let c = steps-append ts (to_make e ∷ []) in
+    let d = steps-reverse (visits later) ∙ steps-visits later in
+    let k = ap total kids ∙ total-append first later in
+    omega (arith, a, b, c, d, k, count_is e)
+
 pub fewer_by_one : (all ts : List BareTask) (e : BareExpr) → all ≡ ts ++ to_make e ∷ [] → suc (steps ts) ≤ steps all
 fewer_by_one all ts e was = let a = ap steps was ∙ steps-append ts (to_make e ∷ []) in omega (arith, a)
 
@@ -135,6 +163,26 @@ module _ {M F : Type 0} (f : BareExpr → Result M F) (root : BareExpr) (all ts 
       ∙ ap (λ xs. xs ++ reverse (ts ++ to_make e ∷ [])) (reverse-reverse (visits (children e)))
       ∙ ap (λ xs. visits (children e) ++ xs) (reverse-append ts (to_make e ∷ [])) in
       subst (λ xs. Fits f root xs rs) (sym now) (visited f root e (reverse ts) rs strict (subst (λ xs. Fits f root xs rs) (top_first all ts (to_visit e) was) h))
+
+  -- the same where the first of the children are made at once
+  pub begun_fits : (first later : List BareExpr) (ms : List M) (new : List BareTask) (rs : List M) → f e ≡ strict_at f e → all ≡ ts ++ to_visit e ∷ [] → children e ≡ first ++ later
+      → gathered f first ≡ Ok ms → new ≡ (ts ++ to_make e ∷ []) ++ reverse (visits later) → Fits f root (first_first all) rs → Fits f root (first_first new) (rs ++ ms)
+  begun_fits first later ms new rs strict was kids given is h =
+      let now : reverse new ≡ visits later ++ to_make e ∷ reverse ts =
+      ap reverse is ∙ reverse-append (ts ++ to_make e ∷ []) (reverse (visits later))
+      ∙ ap (λ xs. xs ++ reverse (ts ++ to_make e ∷ [])) (reverse-reverse (visits later))
+      ∙ ap (λ xs. visits later ++ xs) (reverse-append ts (to_make e ∷ [])) in
+      let cut : visits (children e) ++ to_make e ∷ reverse ts ≡ visits first ++ (visits later ++ to_make e ∷ reverse ts) =
+      ap (λ es. visits es ++ to_make e ∷ reverse ts) kids ∙ ap (λ xs. xs ++ to_make e ∷ reverse ts) (map-append to_visit first later)
+      ∙ append_assoc (visits first) (visits later) (to_make e ∷ reverse ts) in
+      let there = visited f root e (reverse ts) rs strict (subst (λ xs. Fits f root xs rs) (top_first all ts (to_visit e) was) h) in
+      subst (λ xs. Fits f root xs (rs ++ ms)) (sym now)
+      (passed f root first (visits later ++ to_make e ∷ reverse ts) rs ms given (subst (λ xs. Fits f root xs rs) cut there))
+
+  -- a refusal of a child is the root's
+  pub begun_ends : (x : F) (rs : List M) → f e ≡ strict_at f e → all ≡ ts ++ to_visit e ∷ [] → gathered f (children e) ≡ Err x → Fits f root (first_first all) rs → f root ≡ Err x
+  begun_ends x rs strict was given h =
+      ended f root e x (λ m. Fits f root (reverse ts) (rs ++ m ∷ [])) (strict ∙ ap (and_then (λ _. f e)) given) (subst (λ xs. Fits f root xs rs) (top_first all ts (to_visit e) was) h)
 
   module _ {X : Type 0} (g : X → M) (done : List X) (was : all ≡ ts ++ to_make e ∷ []) (h : Fits f root (first_first all) (map g done)) where
     here : Fits f root (to_make e ∷ reverse ts) (map g done)
@@ -186,6 +234,66 @@ module _ {M F : Type 0} (f : BareExpr → Result M F) (root : BareExpr) (all ts 
 
   pub leaf_ends : (new : List X) (x : F) → Takes (length (children e)) (λ last. IsMadeOf e (map g last) (Err x)) done new → f root ≡ Err x
   leaf_ends = make_ends f root (ts ++ to_make e ∷ []) ts e g done refl made_at_once law
+
+-- what is made of a leaf
+module _ {M F : Type 0} (f : BareExpr → Result M F) (e : BareExpr) {X : Type 0} (g : X → M) (leaf : children e ≡ []) {IsMadeOf : BareExpr → List M → Result M F → Type 0} (law : IsMadeByNodes f IsMadeOf) where
+  none_taken : (last : List X) → length last ≡ length (children e) → last ≡ []
+  none_taken [] long = refl
+  none_taken (x ∷ last) long = let short : length (children e) ≡ 0 = ap length leaf in absurd (omega (arith, long, short))
+
+  -- it is what the leaf gives, and no result is taken off
+  pub leaf_gives : (done new : List X) (r : Result M F) → Takes (length (children e)) (λ last. IsMadeOf e (map g last) r) done new → (f e ≡ r) × (new ≡ done)
+  leaf_gives done new r made =
+      let none = none_taken made.0 made.2 in (
+        law.of_children e [] r (ap (gathered f) leaf) (subst (λ last. IsMadeOf e (map g last) r) none made.3),
+        sym (append-nil new) ∙ ap (λ last. new ++ last) (sym none) ∙ sym made.1,
+      )
+
+  pub leaf_answer : {R : Type 0} (fault_of : R → F) (done new : List X) (result : Result X (WalkFault R)) → IsMade g fault_of (IsMadeOf e) (length (children e)) done new result → IsAnswer g fault_of (f e) result
+  leaf_answer fault_of done new (Ok x) made = (leaf_gives done new (Ok (g x)) made).0
+  leaf_answer fault_of done new (Err (Refused r)) made = (leaf_gives done new (Err (fault_of r)) made).0
+  leaf_answer fault_of done new (Err Memory) made = tt
+
+module _ {M F : Type 0} (f : BareExpr → Result M F) where
+  all_past : (r : Result M F) (g more : Result (List M) F) (ms us : List M) → ((ns : List M) → g ≡ Ok ns → more ≡ Ok (ns ++ us)) → on_two (λ m ns. m ∷ ns) r g ≡ Ok ms → on_two (λ m ns. m ∷ ns) r more ≡ Ok (ms ++ us)
+  all_past (Ok m) (Ok ns) more ms us h is = let same : m ∷ ns ≡ ms = cc in ap (on_two (λ m ns. m ∷ ns) (Ok m)) (h ns refl) ∙ ap (λ xs. Ok (xs ++ us)) same
+  all_past (Ok m) (Err x) more ms us h is = cc
+  all_past (Err x) g more ms us h is = cc
+
+  -- one tree more gives its own behind what those before it gave
+  pub gathered_push : (es : List BareExpr) (e : BareExpr) (ms : List M) (m : M) → gathered f es ≡ Ok ms → f e ≡ Ok m → gathered f (es ++ e ∷ []) ≡ Ok (ms ++ m ∷ [])
+  gathered_push [] e ms m is here = let same : [] ≡ ms = cc in ap (λ r. on_two (λ m ns. m ∷ ns) r (Ok [])) here ∙ ap (λ xs. Ok (xs ++ m ∷ [])) same
+  gathered_push (d ∷ es) e ms m is here = all_past (f d) (gathered f es) (gathered f (es ++ e ∷ [])) ms (m ∷ []) (λ ns given. gathered_push es e ns m given here) is
+
+  refused_past : (r : Result M F) (g more : Result (List M) F) (ms : List M) (x : F) → ((ns : List M) → g ≡ Ok ns → more ≡ Err x) → on_two (λ m ns. m ∷ ns) r g ≡ Ok ms → on_two (λ m ns. m ∷ ns) r more ≡ Err x
+  refused_past (Ok m) (Ok ns) more ms x h is = ap (on_two (λ m ns. m ∷ ns) (Ok m)) (h ns refl)
+  refused_past (Ok m) (Err y) more ms x h is = cc
+  refused_past (Err y) g more ms x h is = cc
+
+  -- a refusal behind trees that gave something is the first of them all
+  pub gathered_refused : (es : List BareExpr) (e : BareExpr) (later : List BareExpr) (ms : List M) (x : F) → gathered f es ≡ Ok ms → f e ≡ Err x → gathered f (es ++ e ∷ later) ≡ Err x
+  gathered_refused [] e later ms x is here = ap (λ r. on_two (λ m ns. m ∷ ns) r (gathered f later)) here
+  gathered_refused (d ∷ es) e later ms x is here = refused_past (f d) (gathered f es) (gathered f (es ++ e ∷ later)) ms x (λ ns given. gathered_refused es e later ns x given here) is
+
+-- a row whose leaf is refused
+pub refusal_begins : {X R M F : Type 0} (f : BareExpr → Result M F) (g : X → M) (h : R → F) {IsMadeOf : BareExpr → List M → Result M F → Type 0} → IsMadeByNodes f IsMadeOf
+    → (es first later : List BareExpr) (e : BareExpr) (ms : List M) (tasks all : List BareTask) (start done new : List X) (fault : WalkFault R) (answer : Result Unit (WalkFault R))
+    → children e ≡ [] → es ≡ first ++ e ∷ later → gathered f first ≡ Ok ms → answer ≡ Err fault → IsMade g h (IsMadeOf e) (length (children e)) done new (Err fault) → IsBegun g h f es tasks all start new answer
+refusal_begins f g h law es first later e ms tasks all start done new (Refused r) answer leaf same given is made =
+    subst (IsBegun g h f es tasks all start new) (sym is)
+    (ap (gathered f) same ∙ gathered_refused f first e later ms (h r) given (leaf_gives f e g leaf law done new (Err (h r)) made).0)
+refusal_begins f g h law es first later e ms tasks all start done new Memory answer leaf same given is made =
+    subst (IsBegun g h f es tasks all start new) (sym is) tt
+
+-- a refusal in a row is the root's
+pub begun_answer : {X R M F : Type 0} (f : BareExpr → Result M F) (root : BareExpr) (g : X → M) (h : R → F) (es : List BareExpr) (tasks new : List BareTask) (done made : List X) (fault : WalkFault R) (answer : Result X (WalkFault R))
+    → ((x : F) → gathered f es ≡ Err x → f root ≡ Err x) → answer ≡ Err fault → IsBegun g h f es tasks new done made (Err fault) → IsAnswer g h (f root) answer
+begun_answer f root g h es tasks new done made (Refused r) answer ends is begun = subst (IsAnswer g h (f root)) (sym is) (ends (h r) begun)
+begun_answer f root g h es tasks new done made Memory answer ends is begun = subst (IsAnswer g h (f root)) (sym is) tt
+
+-- the children of an expression with a row
+pub row_children : {T : Type 0} (e : Expr T) (row : List (Expr T)) → children_of e ≡ row → children (bare_expr e) ≡ map bare_expr row
+row_children e row is = sym (children_bare e) ∙ ap (map bare_expr) is
 
 -- the tasks with one on top
 pub snoc_tasks : {T : Type 0} (all ts : List (Task T)) (t u : Task T) → all ≡ ts ++ t ∷ [] → t ≡ u → bare_tasks all ≡ bare_tasks ts ++ bare_task u ∷ []

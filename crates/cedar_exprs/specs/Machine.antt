@@ -1,6 +1,7 @@
 -- Walks by tasks: what a task asks for, what one step does, and what a walk answers.
 use Rattle.std.specs.Prelude.{◌≡◌, ⊤, ℕ, List, ◌++◌, length, map, reverse, Result, Ok, Err}
 use Rattle.cedar_builders.specs.BareExpr.{BareExpr}
+use Rattle.cedar_builders.specs.NodeByNode.{gathered}
 use Rattle.cedar_exprs.specs.BareExpr.{bare_expr}
 use Rattle.cedar_exprs.specs.Walks.{children}
 use Rattle.cedar_exprs.specs.declared.expr.Expr.{Expr}
@@ -46,3 +47,12 @@ abbrev pub IsMade : {X R M F : Type 0} → (X → M) → (R → F) → (List M �
 IsMade meaning_of fault_of IsMadeOf n all rest (Ok x) = Takes n (λ last. IsMadeOf (map meaning_of last) (Ok (meaning_of x))) all rest
 IsMade meaning_of fault_of IsMadeOf n all rest (Err (Refused r)) = Takes n (λ last. IsMadeOf (map meaning_of last) (Err (fault_of r))) all rest
 IsMade meaning_of fault_of IsMadeOf n all rest (Err Memory) = ⊤
+
+-- the first of some trees are made, one after the other, and walks over the others put onto the tasks;
+-- or a refusal is the first of them all
+abbrev pub IsBegun : {X R M F : Type 0} → (X → M) → (R → F) → (BareExpr → Result M F) → List BareExpr → List BareTask → List BareTask → List X → List X → Result Unit (WalkFault R) → Type 0
+IsBegun {X} meaning_of fault_of answer es tasks all done new (Ok _) =
+    (first : List BareExpr) × (later : List BareExpr) × (made : List X) × (es ≡ first ++ later) × (gathered answer first ≡ Ok (map meaning_of made))
+    × (new ≡ done ++ made) × (all ≡ tasks ++ reverse (visits later))
+IsBegun meaning_of fault_of answer es tasks all done new (Err (Refused r)) = gathered answer es ≡ Err (fault_of r)
+IsBegun meaning_of fault_of answer es tasks all done new (Err Memory) = ⊤

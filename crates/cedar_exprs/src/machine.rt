@@ -1,10 +1,10 @@
 //! Walks over trees that take no stack: their tasks and their results lie on the heap.
-ghost use Rattle.std.specs.Prelude.{◌≡◌, ◌≤◌, ◌++◌, IsTrue, List, [], ◌∷◌, map, length, Result, IfOk, vec_len};
+ghost use Rattle.std.specs.Prelude.{◌≡◌, ◌≤◌, ◌++◌, IsTrue, List, [], ◌∷◌, map, length, Result, IfOk, IfSome, vec_len};
 ghost use Rattle.cedar_builders.specs.BareExpr.{BareExpr};
 ghost use Rattle.cedar_builders.specs.NodeByNode.{IsMadeByNodes};
 ghost use Rattle.cedar_builders.specs.Walks.{children};
 ghost use Rattle.cedar_exprs.specs.BareExpr.{bare_expr};
-ghost use Rattle.cedar_exprs.specs.Machine.{IsAnswer, IsMade, bare_tasks, children_of, last_first};
+ghost use Rattle.cedar_exprs.specs.Machine.{IsAnswer, IsBegun, IsMade, bare_tasks, children_of, last_first};
 ghost use Rattle.cedar_exprs.specs.declared.machine.WalkFault.TheVariants.{Memory};
 
 use crate::expr::{Expr, ExprKind};
@@ -92,8 +92,11 @@ pub(crate) fn run<T, W: Walk<T>>(
 ) -> Result<W::Out, WalkFault<W::Refusal>>
     ensures { IsAnswer W.meaning_of W.fault_of (W.answer walk.now (bare_expr root.now)) result }
 {
-    let mut tasks = Vec::new(alloc);
     let mut done = Vec::new(alloc);
+    if is_leaf(root) {
+        return walk.make(alloc, root, &mut done);
+    }
+    let mut tasks = Vec::new(alloc);
     tasks.push(Task::Visit(root))?;
     'down: while let Some(task) = tasks.pop() {
         match task {
@@ -103,7 +106,10 @@ pub(crate) fn run<T, W: Walk<T>>(
                     put(&mut done, out)?;
                 } else {
                     tasks.push(Task::Make(node))?;
-                    push_children(&mut tasks, node)?;
+                    match row_of(node) {
+                        Some(row) => begin_row(alloc, walk, row, &mut tasks, &mut done)?,
+                        None => push_children(&mut tasks, node)?,
+                    }
                 }
             }
             Task::Make(node) => {
@@ -123,6 +129,40 @@ fn is_leaf<T>(node: &Expr<T>) -> bool
         ExprKind::Lit(_) | ExprKind::Var(_) | ExprKind::Slot(_) | ExprKind::Unknown(_) => true,
         _ => false,
     }
+}
+
+// The arguments of a call, or the members of a set.
+fn row_of<T>(node: &Expr<T>) -> Option<&[Expr<T>]>
+    ensures { IfSome result (λ row. children_of node.now ≡ row.now) }
+{
+    match node.expr_kind() {
+        ExprKind::ExtensionFunctionApp { args: row, .. } | ExprKind::Set(row) => Some(row),
+        _ => None,
+    }
+}
+
+// Makes the leaves that a row begins with, and puts what follows them onto the tasks.
+fn begin_row<'a, T, W: Walk<T>>(
+    alloc: Global,
+    walk: &W,
+    row: &'a [Expr<T>],
+    tasks: &mut Vec<Task<'a, T>>,
+    done: &mut Vec<W::Out>,
+) -> Result<(), WalkFault<W::Refusal>>
+    ensures { IsBegun W.meaning_of W.fault_of (W.answer walk.now) (map bare_expr row.now)
+        (bare_tasks tasks.old.items) (bare_tasks tasks.new.items)
+        done.old.items done.new.items result }
+{
+    let mut left = row;
+    'leaves: while let Some((first, later)) = left.split_first() {
+        if !is_leaf(first) {
+            break;
+        }
+        let out = walk.make(alloc, first, done)?;
+        put(done, out)?;
+        left = later;
+    }
+    Ok(push_row(tasks, left)?)
 }
 
 // Puts the children onto the tasks, the first on top.

@@ -2,18 +2,18 @@
 //!
 //! `make` has a small function for each kind: one function would keep room for the locals of all
 //! kinds.
-ghost use Rattle.std.specs.Prelude.{◌≡◌, ◌≤◌, Option, Ok, IfOk, [], ◌∷◌, length, map, vec_len};
+ghost use Rattle.std.specs.Prelude.{◌≡◌, ◌≤◌, Option, Some, Ok, IfOk, [], ◌∷◌, length, map, vec_len};
 ghost use Rattle.std.specs.Rc.{rc_str_bytes};
 ghost use Rattle.cedar_names.specs.PlainNames.{bare_name};
 ghost use Rattle.cedar_terms.specs.Entities.{bare_entity_type};
 ghost use Rattle.cedar_terms.specs.Unknowns.{bare_unknown};
 ghost use Rattle.cedar_builders.specs.Answers.{Gives};
 ghost use Rattle.cedar_builders.specs.BareExpr.{BareExpr};
-ghost use Rattle.cedar_builders.specs.Environment.{fold};
+ghost use Rattle.cedar_builders.specs.Environment.{empty, fold};
 ghost use Rattle.cedar_builders.specs.Keys.{keys_of, IsRising};
 ghost use Rattle.cedar_builders.specs.NodeByNode.{OfOne, OfTwo, OfThree, keyed};
 ghost use Rattle.cedar_builders.specs.Rebuilding.{checked_ops, new_or, all_new_or, renewed, IsRenewedOf, renewed_by_nodes};
-ghost use Rattle.cedar_builders.specs.Trees.{tree_ops, bound_tree, substituted};
+ghost use Rattle.cedar_builders.specs.Trees.{tree_ops, bound_tree, substituted, sure};
 ghost use Rattle.cedar_builders.specs.TypeClash.{TwoTypes, refused_binding, first_refusal};
 ghost use Rattle.cedar_builders.specs.Walks.{members_of, values_of};
 ghost use Rattle.cedar_exprs.specs.BareExpr.{bare_expr, bare_expr_kind, bare_exprs, bare_fields, further, unknown_tree};
@@ -109,7 +109,7 @@ pub(crate) fn substitute_general<S: SubstitutionFunction, V: SubstituteValue>(
         function: PhantomData,
     };
     let new = run(alloc, &walk, expr)?;
-    Ok(own_or_copy(alloc, new, expr)?)
+    Ok(new_or_copy(alloc, new, expr)?)
 }
 
 // Unknowns that are bound become their values' expressions.
@@ -119,9 +119,19 @@ struct Substitution<'a, S, V> {
     function: PhantomData<S>,
 }
 
-// A node gives its new expression, or nothing where it stays as it is and so may be shared.
-impl<S: SubstitutionFunction, V: SubstituteValue> Walk<()> for Substitution<'_, S, V> {
-    type Out = Option<Rc<Expr>>;
+// What becomes of a node.
+#[derive(Drop)]
+enum Renewed<'a, V> {
+    // It stays as it is, and so may be shared.
+    Same,
+    // It is an unknown that is bound to this value, whose expression is made where it is put.
+    Value(&'a V),
+    // It becomes this expression.
+    New(Rc<Expr>),
+}
+
+impl<'a, S: SubstitutionFunction, V: SubstituteValue> Walk<()> for Substitution<'a, S, V> {
+    type Out = Renewed<'a, V>;
 
     type Refusal = S::Refusal;
 
@@ -129,7 +139,7 @@ impl<S: SubstitutionFunction, V: SubstituteValue> Walk<()> for Substitution<'_, 
 
     ghost Fault = { TwoTypes };
 
-    ghost meaning_of = { new_tree };
+    ghost meaning_of = { new_tree V.bare_expr_of };
 
     ghost fault_of = { S.types_of };
 
@@ -144,38 +154,40 @@ impl<S: SubstitutionFunction, V: SubstituteValue> Walk<()> for Substitution<'_, 
         &self,
         alloc: Global,
         node: &Expr,
-        done: &mut Vec<Option<Rc<Expr>>>,
-    ) -> Result<Option<Rc<Expr>>, WalkFault<S::Refusal>> {
+        done: &mut Vec<Renewed<'a, V>>,
+    ) -> Result<Renewed<'a, V>, WalkFault<S::Refusal>> {
         match node.expr_kind() {
-            ExprKind::Lit(_) => Ok(None),
-            ExprKind::Var(_) => Ok(None),
-            ExprKind::Slot(_) => Ok(None),
-            ExprKind::Unknown(unknown) => {
-                Ok(Some(replace::<S, V>(alloc, unknown, self.values)?))
-            }
+            ExprKind::Lit(_) => Ok(Renewed::Same),
+            ExprKind::Var(_) => Ok(Renewed::Same),
+            ExprKind::Slot(_) => Ok(Renewed::Same),
+            ExprKind::Unknown(unknown) => Ok(replace::<S, V>(alloc, unknown, self.values)?),
             ExprKind::If {
                 test_expr,
                 then_expr,
                 else_expr,
-            } => Ok(Some(renew_if(alloc, test_expr, then_expr, else_expr, done)?)),
-            ExprKind::And { left, right } => Ok(Some(renew_and(alloc, left, right, done)?)),
-            ExprKind::Or { left, right } => Ok(Some(renew_or(alloc, left, right, done)?)),
-            ExprKind::UnaryApp { op, arg } => Ok(Some(renew_unary(alloc, *op, arg, done)?)),
+            } => Ok(Renewed::New(renew_if(alloc, test_expr, then_expr, else_expr, done)?)),
+            ExprKind::And { left, right } => Ok(Renewed::New(renew_and(alloc, left, right, done)?)),
+            ExprKind::Or { left, right } => Ok(Renewed::New(renew_or(alloc, left, right, done)?)),
+            ExprKind::UnaryApp { op, arg } => Ok(Renewed::New(renew_unary(alloc, *op, arg, done)?)),
             ExprKind::BinaryApp { op, arg1, arg2 } => {
-                Ok(Some(renew_binary(alloc, *op, arg1, arg2, done)?))
+                Ok(Renewed::New(renew_binary(alloc, *op, arg1, arg2, done)?))
             }
             ExprKind::ExtensionFunctionApp { fn_name, args } => {
-                Ok(Some(renew_call(alloc, fn_name, args, done)?))
+                Ok(Renewed::New(renew_call(alloc, fn_name, args, done)?))
             }
-            ExprKind::GetAttr { expr, attr } => Ok(Some(renew_get(alloc, expr, attr, done)?)),
-            ExprKind::HasAttr { expr, attrs } => Ok(Some(renew_has(alloc, expr, attrs, done)?)),
+            ExprKind::GetAttr { expr, attr } => Ok(Renewed::New(renew_get(
+                alloc, expr, attr, done,
+            )?)),
+            ExprKind::HasAttr { expr, attrs } => Ok(Renewed::New(renew_has(
+                alloc, expr, attrs, done,
+            )?)),
             ExprKind::Like { expr, pattern } => {
-                Ok(Some(renew_like(alloc, expr, pattern, done)?))
+                Ok(Renewed::New(renew_like(alloc, expr, pattern, done)?))
             }
-            ExprKind::Set(members) => Ok(Some(renew_set(alloc, members, done)?)),
-            ExprKind::Record(pairs) => Ok(Some(renew_record(alloc, pairs, done)?)),
+            ExprKind::Set(members) => Ok(Renewed::New(renew_set(alloc, members, done)?)),
+            ExprKind::Record(pairs) => Ok(Renewed::New(renew_record(alloc, pairs, done)?)),
             ExprKind::Is { expr, entity_type } => {
-                Ok(Some(renew_is(alloc, expr, entity_type, done)?))
+                Ok(Renewed::New(renew_is(alloc, expr, entity_type, done)?))
             }
         }
     }
@@ -184,19 +196,19 @@ impl<S: SubstitutionFunction, V: SubstituteValue> Walk<()> for Substitution<'_, 
         (env_of V.bare_type_of V.bare_expr_of w.values.now) };
 }
 
-// The expression of the value that an unknown is bound to, else the unknown.
+// The value that an unknown is bound to, else the unknown, made anew.
 #[inline(never)]
-fn replace<S: SubstitutionFunction, V: SubstituteValue>(
+fn replace<'a, S: SubstitutionFunction, V: SubstituteValue>(
     alloc: Global,
     unknown: &Unknown,
-    values: &HashMap<RcStr, V>,
-) -> Result<Rc<Expr>, WalkFault<S::Refusal>>
-    ensures tree { IfOk result (λ e.
-        bare_expr e.value
-        ≡ bound_tree
+    values: &'a HashMap<RcStr, V>,
+) -> Result<Renewed<'a, V>, WalkFault<S::Refusal>>
+    ensures tree { IfOk result (λ new.
+        new_tree V.bare_expr_of new
+        ≡ Some (bound_tree
         (env_of V.bare_type_of V.bare_expr_of values.now
         (rc_str_bytes unknown.now.name))
-        (unknown_tree (bare_unknown unknown.now))) }
+        (unknown_tree (bare_unknown unknown.now)))) }
     ensures refused { Refuses S.types_of
         (refused_binding S.refuses (bare_unknown unknown.now).annotation
         (env_of V.bare_type_of V.bare_expr_of values.now (rc_str_bytes unknown.now.name)))
@@ -205,31 +217,63 @@ fn replace<S: SubstitutionFunction, V: SubstituteValue>(
     match values.get(unknown.name.as_str()) {
         Some(value) => {
             S::check(alloc, unknown, value)?;
-            restricted_rebuilt();
-            Ok(Rc::new(alloc, value.value_expr(alloc)?.into_expr())?)
+            Ok(Renewed::Value(value))
         }
-        None => Ok(Rc::new(alloc, Expr::unknown(unknown.clone(alloc)?))?),
+        None => {
+            let unknown = Expr::unknown(unknown.clone(alloc)?);
+            Ok(Renewed::New(Rc::new(alloc, unknown)?))
+        }
     }
 }
 
+// The expression of a value, to be shared.
+#[inline(never)]
+fn shared_expr_of<V: SubstituteValue>(alloc: Global, value: &V) -> Result<Rc<Expr>, AllocError>
+    ensures { IfOk result (λ e.
+        bare_expr e.value ≡ sure (fold tree_ops empty (V.bare_expr_of value.now))) }
+{
+    Ok(Rc::new(alloc, expr_of(alloc, value)?)?)
+}
+
+// The expression of a value.
+fn expr_of<V: SubstituteValue>(alloc: Global, value: &V) -> Result<Expr, AllocError>
+    ensures { IfOk result (λ e.
+        bare_expr e ≡ sure (fold tree_ops empty (V.bare_expr_of value.now))) }
+{
+    restricted_rebuilt();
+    Ok(value.value_expr(alloc)?.into_expr())
+}
+
 // The new expression of a child, else the child, which is shared.
-fn new_or_shared(new: Option<Rc<Expr>>, child: &Rc<Expr>) -> Result<Rc<Expr>, AllocError>
-    ensures { IfOk result
-        (λ e. bare_expr e.value ≡ new_or (bare_expr child.now.value) (new_tree new)) }
+fn new_or_shared<V: SubstituteValue>(
+    alloc: Global,
+    new: Renewed<'_, V>,
+    child: &Rc<Expr>,
+) -> Result<Rc<Expr>, AllocError>
+    ensures { IfOk result (λ e.
+        bare_expr e.value
+        ≡ new_or (bare_expr child.now.value) (new_tree V.bare_expr_of new.entry)) }
 {
     match new {
-        Some(new) => Ok(new),
-        None => child.clone(),
+        Renewed::Same => child.clone(),
+        Renewed::Value(value) => shared_expr_of(alloc, value),
+        Renewed::New(new) => Ok(new),
     }
 }
 
 // The new expression of a member, else a copy of the member.
-fn own_or_copy(alloc: Global, new: Option<Rc<Expr>>, member: &Expr) -> Result<Expr, AllocError>
-    ensures { IfOk result (λ e. bare_expr e ≡ new_or (bare_expr member.now) (new_tree new)) }
+fn new_or_copy<V: SubstituteValue>(
+    alloc: Global,
+    new: Renewed<'_, V>,
+    member: &Expr,
+) -> Result<Expr, AllocError>
+    ensures { IfOk result (λ e.
+        bare_expr e ≡ new_or (bare_expr member.now) (new_tree V.bare_expr_of new.entry)) }
 {
     match new {
-        Some(new) => owned(alloc, new),
-        None => member.clone(alloc),
+        Renewed::Same => member.clone(alloc),
+        Renewed::Value(value) => expr_of(alloc, value),
+        Renewed::New(new) => owned(alloc, new),
     }
 }
 
@@ -251,108 +295,108 @@ fn node(alloc: Global, expr_kind: ExprKind<()>) -> Result<Rc<Expr>, AllocError>
 }
 
 #[inline(never)]
-fn renew_if(
+fn renew_if<V: SubstituteValue>(
     alloc: Global,
     test_expr: &Rc<Expr>,
     then_expr: &Rc<Expr>,
     else_expr: &Rc<Expr>,
-    done: &mut Vec<Option<Rc<Expr>>>,
+    done: &mut Vec<Renewed<'_, V>>,
 ) -> Result<Rc<Expr>, AllocError>
     requires { 3 ≤ vec_len done.old }
     ensures { IfOk result
-        (IsRenewedOfLast
+        (IsRenewedOfLast V.bare_expr_of
         (bare_expr test_expr.now.value ∷ bare_expr then_expr.now.value
         ∷ bare_expr else_expr.now.value ∷ [])
         (OfThree checked_ops.if_of) done.old.items done.new.items) }
 {
     let (new_test, new_then, new_else) = take_three(done);
-    let test_expr = new_or_shared(new_test, test_expr)?;
-    let then_expr = new_or_shared(new_then, then_expr)?;
-    let else_expr = new_or_shared(new_else, else_expr)?;
+    let test_expr = new_or_shared(alloc, new_test, test_expr)?;
+    let then_expr = new_or_shared(alloc, new_then, then_expr)?;
+    let else_expr = new_or_shared(alloc, new_else, else_expr)?;
     Ok(Rc::new(alloc, Expr::ite_arc(test_expr, then_expr, else_expr))?)
 }
 
 #[inline(never)]
-fn renew_and(
+fn renew_and<V: SubstituteValue>(
     alloc: Global,
     left: &Rc<Expr>,
     right: &Rc<Expr>,
-    done: &mut Vec<Option<Rc<Expr>>>,
+    done: &mut Vec<Renewed<'_, V>>,
 ) -> Result<Rc<Expr>, AllocError>
     requires { 2 ≤ vec_len done.old }
     ensures { IfOk result
-        (IsRenewedOfLast (bare_expr left.now.value ∷ bare_expr right.now.value ∷ [])
+        (IsRenewedOfLast V.bare_expr_of (bare_expr left.now.value ∷ bare_expr right.now.value ∷ [])
         (OfTwo checked_ops.and_of) done.old.items done.new.items) }
 {
     let (new_left, new_right) = take_two(done);
-    let left = new_or_shared(new_left, left)?;
-    let right = new_or_shared(new_right, right)?;
+    let left = new_or_shared(alloc, new_left, left)?;
+    let right = new_or_shared(alloc, new_right, right)?;
     Ok(Rc::new(alloc, ExprBuilder::new().and_arc(left, right))?)
 }
 
 #[inline(never)]
-fn renew_or(
+fn renew_or<V: SubstituteValue>(
     alloc: Global,
     left: &Rc<Expr>,
     right: &Rc<Expr>,
-    done: &mut Vec<Option<Rc<Expr>>>,
+    done: &mut Vec<Renewed<'_, V>>,
 ) -> Result<Rc<Expr>, AllocError>
     requires { 2 ≤ vec_len done.old }
     ensures { IfOk result
-        (IsRenewedOfLast (bare_expr left.now.value ∷ bare_expr right.now.value ∷ [])
+        (IsRenewedOfLast V.bare_expr_of (bare_expr left.now.value ∷ bare_expr right.now.value ∷ [])
         (OfTwo checked_ops.or_of) done.old.items done.new.items) }
 {
     let (new_left, new_right) = take_two(done);
-    let left = new_or_shared(new_left, left)?;
-    let right = new_or_shared(new_right, right)?;
+    let left = new_or_shared(alloc, new_left, left)?;
+    let right = new_or_shared(alloc, new_right, right)?;
     Ok(Rc::new(alloc, ExprBuilder::new().or_arc(left, right))?)
 }
 
 #[inline(never)]
-fn renew_unary(
+fn renew_unary<V: SubstituteValue>(
     alloc: Global,
     op: UnaryOp,
     arg: &Rc<Expr>,
-    done: &mut Vec<Option<Rc<Expr>>>,
+    done: &mut Vec<Renewed<'_, V>>,
 ) -> Result<Rc<Expr>, AllocError>
     requires { 1 ≤ vec_len done.old }
     ensures { IfOk result
-        (IsRenewedOfLast (bare_expr arg.now.value ∷ []) (OfOne (checked_ops.unary_of op))
+        (IsRenewedOfLast V.bare_expr_of (bare_expr arg.now.value ∷ []) (OfOne (checked_ops.unary_of op))
         done.old.items done.new.items) }
 {
-    let arg = new_or_shared(done.take_last(), arg)?;
+    let arg = new_or_shared(alloc, done.take_last(), arg)?;
     node(alloc, ExprKind::UnaryApp { op, arg })
 }
 
 #[inline(never)]
-fn renew_binary(
+fn renew_binary<V: SubstituteValue>(
     alloc: Global,
     op: BinaryOp,
     arg1: &Rc<Expr>,
     arg2: &Rc<Expr>,
-    done: &mut Vec<Option<Rc<Expr>>>,
+    done: &mut Vec<Renewed<'_, V>>,
 ) -> Result<Rc<Expr>, AllocError>
     requires { 2 ≤ vec_len done.old }
     ensures { IfOk result
-        (IsRenewedOfLast (bare_expr arg1.now.value ∷ bare_expr arg2.now.value ∷ [])
+        (IsRenewedOfLast V.bare_expr_of (bare_expr arg1.now.value ∷ bare_expr arg2.now.value ∷ [])
         (OfTwo (checked_ops.binary_of op)) done.old.items done.new.items) }
 {
     let (new1, new2) = take_two(done);
-    let arg1 = new_or_shared(new1, arg1)?;
-    let arg2 = new_or_shared(new2, arg2)?;
+    let arg1 = new_or_shared(alloc, new1, arg1)?;
+    let arg2 = new_or_shared(alloc, new2, arg2)?;
     node(alloc, ExprKind::BinaryApp { op, arg1, arg2 })
 }
 
 #[inline(never)]
-fn renew_call(
+fn renew_call<V: SubstituteValue>(
     alloc: Global,
     fn_name: &Name,
     args: &Vec<Expr>,
-    done: &mut Vec<Option<Rc<Expr>>>,
+    done: &mut Vec<Renewed<'_, V>>,
 ) -> Result<Rc<Expr>, AllocError>
     requires { length args.now.items ≤ vec_len done.old }
     ensures { IfOk result
-        (IsRenewedOfLast (members_of (bare_exprs args.now.items))
+        (IsRenewedOfLast V.bare_expr_of (members_of (bare_exprs args.now.items))
         (λ ts r. r ≡ checked_ops.call_of (bare_name fn_name.now) ts)
         done.old.items done.new.items) }
 {
@@ -364,67 +408,67 @@ fn renew_call(
 }
 
 #[inline(never)]
-fn renew_get(
+fn renew_get<V: SubstituteValue>(
     alloc: Global,
     expr: &Rc<Expr>,
     attr: &RcStr,
-    done: &mut Vec<Option<Rc<Expr>>>,
+    done: &mut Vec<Renewed<'_, V>>,
 ) -> Result<Rc<Expr>, AllocError>
     requires { 1 ≤ vec_len done.old }
     ensures { IfOk result
-        (IsRenewedOfLast (bare_expr expr.now.value ∷ [])
+        (IsRenewedOfLast V.bare_expr_of (bare_expr expr.now.value ∷ [])
         (OfOne (λ m. checked_ops.get_of m (rc_str_bytes attr.now)))
         done.old.items done.new.items) }
 {
-    let expr = new_or_shared(done.take_last(), expr)?;
+    let expr = new_or_shared(alloc, done.take_last(), expr)?;
     let attr = attr.clone()?;
     node(alloc, ExprKind::GetAttr { expr, attr })
 }
 
 #[inline(never)]
-fn renew_has(
+fn renew_has<V: SubstituteValue>(
     alloc: Global,
     expr: &Rc<Expr>,
     attrs: &NonEmpty<RcStr>,
-    done: &mut Vec<Option<Rc<Expr>>>,
+    done: &mut Vec<Renewed<'_, V>>,
 ) -> Result<Rc<Expr>, AllocError>
     requires { 1 ≤ vec_len done.old }
     ensures { IfOk result
-        (IsRenewedOfLast (bare_expr expr.now.value ∷ [])
+        (IsRenewedOfLast V.bare_expr_of (bare_expr expr.now.value ∷ [])
         (OfOne (λ m. checked_ops.has_of m (rc_str_bytes attrs.now.head) (further attrs.now)))
         done.old.items done.new.items) }
 {
-    let expr = new_or_shared(done.take_last(), expr)?;
+    let expr = new_or_shared(alloc, done.take_last(), expr)?;
     let attrs = attrs.clone(alloc)?;
     node(alloc, ExprKind::HasAttr { expr, attrs })
 }
 
 #[inline(never)]
-fn renew_like(
+fn renew_like<V: SubstituteValue>(
     alloc: Global,
     expr: &Rc<Expr>,
     pattern: &Pattern,
-    done: &mut Vec<Option<Rc<Expr>>>,
+    done: &mut Vec<Renewed<'_, V>>,
 ) -> Result<Rc<Expr>, AllocError>
     requires { 1 ≤ vec_len done.old }
     ensures { IfOk result
-        (IsRenewedOfLast (bare_expr expr.now.value ∷ [])
+        (IsRenewedOfLast V.bare_expr_of (bare_expr expr.now.value ∷ [])
         (OfOne (λ m. checked_ops.like_of m pattern.now)) done.old.items done.new.items) }
 {
-    let expr = new_or_shared(done.take_last(), expr)?;
+    let expr = new_or_shared(alloc, done.take_last(), expr)?;
     let pattern = pattern.clone(alloc)?;
     node(alloc, ExprKind::Like { expr, pattern })
 }
 
 #[inline(never)]
-fn renew_set(
+fn renew_set<V: SubstituteValue>(
     alloc: Global,
     members: &Vec<Expr>,
-    done: &mut Vec<Option<Rc<Expr>>>,
+    done: &mut Vec<Renewed<'_, V>>,
 ) -> Result<Rc<Expr>, AllocError>
     requires { length members.now.items ≤ vec_len done.old }
     ensures { IfOk result
-        (IsRenewedOfLast (members_of (bare_exprs members.now.items))
+        (IsRenewedOfLast V.bare_expr_of (members_of (bare_exprs members.now.items))
         (λ ts r. r ≡ Ok (checked_ops.set_of ts)) done.old.items done.new.items) }
 {
     let members = renew_members(alloc, members, take_many(done, members.len())?)?;
@@ -432,14 +476,14 @@ fn renew_set(
 }
 
 #[inline(never)]
-fn renew_record(
+fn renew_record<V: SubstituteValue>(
     alloc: Global,
     pairs: &BTreeMap<RcStr, Expr>,
-    done: &mut Vec<Option<Rc<Expr>>>,
+    done: &mut Vec<Renewed<'_, V>>,
 ) -> Result<Rc<Expr>, AllocError>
     requires { length pairs.now.entries ≤ vec_len done.old }
     ensures { IfOk result
-        (IsRenewedOfLast (values_of (bare_fields pairs.now.entries))
+        (IsRenewedOfLast V.bare_expr_of (values_of (bare_fields pairs.now.entries))
         (λ ts r. r ≡ Ok (checked_ops.record_of (keyed (bare_fields pairs.now.entries) ts)))
         done.old.items done.new.items) }
 {
@@ -453,40 +497,39 @@ fn renew_record(
 }
 
 #[inline(never)]
-fn renew_is(
+fn renew_is<V: SubstituteValue>(
     alloc: Global,
     expr: &Rc<Expr>,
     entity_type: &EntityType,
-    done: &mut Vec<Option<Rc<Expr>>>,
+    done: &mut Vec<Renewed<'_, V>>,
 ) -> Result<Rc<Expr>, AllocError>
     requires { 1 ≤ vec_len done.old }
     ensures { IfOk result
-        (IsRenewedOfLast (bare_expr expr.now.value ∷ [])
+        (IsRenewedOfLast V.bare_expr_of (bare_expr expr.now.value ∷ [])
         (OfOne (λ m. checked_ops.is_of m (bare_entity_type entity_type.now)))
         done.old.items done.new.items) }
 {
-    let expr = new_or_shared(done.take_last(), expr)?;
+    let expr = new_or_shared(alloc, done.take_last(), expr)?;
     let entity_type = entity_type.clone(alloc)?;
     node(alloc, ExprKind::Is { expr, entity_type })
 }
 
 // The members, each renewed.
-fn renew_members(
+fn renew_members<V: SubstituteValue>(
     alloc: Global,
     members: &Vec<Expr>,
-    new: Vec<Option<Rc<Expr>>>,
+    new: Vec<Renewed<'_, V>>,
 ) -> Result<Vec<Expr>, AllocError>
     requires { length new.items ≡ length members.now.items }
     ensures { IfOk result (λ es.
         map bare_expr es.items
-        ≡ all_new_or (map bare_expr members.now.items) (map new_tree new.items)) }
+        ≡ all_new_or (map bare_expr members.now.items) (map (new_tree V.bare_expr_of) new.entry.items)) }
 {
     let mut done = Vec::with_capacity(alloc, members.len())?;
     let mut rest = new.into_iter();
     for member in members {
         match rest.next() {
-            Some(Some(new)) => done.push_reserved(owned(alloc, new)?),
-            Some(None) => done.push_reserved(member.clone(alloc)?),
+            Some(new) => done.push_reserved(new_or_copy(alloc, new, member)?),
             None => unreachable!(),
         }
     }
@@ -494,24 +537,26 @@ fn renew_members(
 }
 
 // The keys of a record, each with its value renewed.
-fn renew_values(
+fn renew_values<V: SubstituteValue>(
     alloc: Global,
     pairs: &BTreeMap<RcStr, Expr>,
-    new: Vec<Option<Rc<Expr>>>,
+    new: Vec<Renewed<'_, V>>,
 ) -> Result<Vec<(RcStr, Expr)>, AllocError>
     requires { length new.items ≡ length pairs.now.entries }
     ensures keys { IfOk result (λ ps. keys_of ps.items ≡ keys_of pairs.now.entries) }
     ensures values { IfOk result (λ ps.
         map bare_expr (map (λ p. p.1) ps.items)
-        ≡ all_new_or (map (λ p. bare_expr p.1) pairs.now.entries) (map new_tree new.items)) }
+        ≡ all_new_or (map (λ p. bare_expr p.1) pairs.now.entries) (map (new_tree V.bare_expr_of) new.entry.items)) }
     ensures rising { IfOk result (λ ps. IsRising (keys_of ps.items)) }
 {
     let mut done = Vec::with_capacity(alloc, pairs.len())?;
     let mut rest = new.into_iter();
     for (key, value) in pairs.iter() {
         match rest.next() {
-            Some(Some(new)) => done.push_reserved((key.clone()?, owned(alloc, new)?)),
-            Some(None) => done.push_reserved((key.clone()?, value.clone(alloc)?)),
+            Some(new) => {
+                let value = new_or_copy(alloc, new, value)?;
+                done.push_reserved((key.clone()?, value))
+            }
             None => unreachable!(),
         }
     }

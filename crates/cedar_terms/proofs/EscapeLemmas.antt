@@ -1,19 +1,19 @@
 -- Why the writer's text is the UTF-8 of the escape.
 use Rattle.std.proofs.Common.{◌≡◌, ◌≢◌, ℕ, ◌<◌, ◌≤◌, ◌/◌, ◌%◌, List, [], ◌∷◌, ◌++◌, Bool, true, false, ◌&&◌, refl, sym, ◌∙◌, ap, arith, nat_lt}
-use Rattle.std.specs.Char.{is_ascii, is_ascii_control}
+use Rattle.std.specs.Char.{encode_utf8, is_ascii, is_ascii_control}
 use Rattle.std.specs.Fmt.{digit_glyph}
 use Rattle.std.specs.List.{list_all, flat_map}
 use Rattle.std.specs.Prelude.{codes}
-use Rattle.std.specs.Str.{encode_utf8_all}
+use Rattle.std.specs.Str.{IsUtf8, chars, encode_utf8_all}
 use Rattle.std.proofs.lemmas.Bool.{false≢true}
 use Rattle.std.proofs.lemmas.Bool.Decides.{nat_tests}
 use Rattle.std.proofs.lemmas.Fmt.{hex_one_digit, hex_two_digits}
 use Rattle.std.proofs.lemmas.Grind.{flat_map-append}
 use Rattle.std.proofs.lemmas.List.Folds.{list_all-append}
 use Rattle.std.specs.Cmp.Derive.{both_true}
-use Rattle.std.proofs.lemmas.Str.{encode_ascii, encodes-append}
+use Rattle.std.proofs.lemmas.Str.{encode_ascii, encodes-append, encodes-chars}
 use mathlib.Core.List.{append-nil}
-use Rattle.cedar_terms.specs.Escape.{escape_char, hexadecimal}
+use Rattle.cedar_terms.specs.Escape.{escape, escape_char, escaped, hexadecimal, is_plain}
 
 pub and-left : (a b : Bool) → (a && b) ≡ true → a ≡ true
 and-left true b h = refl
@@ -73,3 +73,33 @@ encode_flat_map-push f xs x =
     sym (encodes-append (flat_map f xs) (f x))
     ∙ ap (λ y. encode_utf8_all (flat_map f xs ++ y)) (sym (append-nil (f x)))
     ∙ ap encode_utf8_all (sym (flat_map-append f xs (x ∷ [])))
+
+-- a character of ASCII that is plain is its own escape
+plain_char : (c : ℕ) → is_plain c ≡ true → escape_char c ≡ c ∷ []
+plain_char c h = grind (arith, nat_tests)
+
+past_ascii : (c : ℕ) → 128 ≤ c → escape_char c ≡ c ∷ []
+past_ascii c h = grind (arith, nat_tests)
+
+plain_at : (c : ℕ) (rest : List ℕ) → list_all is_plain (encode_utf8 c ++ rest) ≡ true → escape_char c ≡ c ∷ []
+plain_at c rest h = elim (nat_lt c 128) as (λ v. nat_lt c 128 ≡ v → escape_char c ≡ c ∷ []) [
+  | true ↦ λ e. plain_char c (and-left (is_plain c) (list_all is_plain rest)
+        (ap (λ x. list_all is_plain (x ++ rest)) (sym (encode_ascii c (grind (arith, nat_tests)))) ∙ h))
+  | false ↦ λ e. past_ascii c (grind (arith, nat_tests))
+] refl
+
+plain_after : (c : ℕ) (rest : List ℕ) → list_all is_plain (encode_utf8 c ++ rest) ≡ true → list_all is_plain rest ≡ true
+plain_after c rest h = and-right (list_all is_plain (encode_utf8 c)) (list_all is_plain rest)
+    (sym (list_all-append is_plain (encode_utf8 c) rest) ∙ h)
+
+plain_chars : (cs : List ℕ) → list_all is_plain (encode_utf8_all cs) ≡ true → escape cs ≡ cs
+plain_chars [] h = refl
+plain_chars (c ∷ cs) h =
+    ap (λ x. x ++ escape cs) (plain_at c (encode_utf8_all cs) h)
+    ∙ ap (λ x. c ∷ x) (plain_chars cs (plain_after c (encode_utf8_all cs) h))
+
+-- a text of plain bytes is its own escape
+pub plain_text : (text : List ℕ) → IsUtf8 text → list_all is_plain text ≡ true → escaped text ≡ text
+plain_text text u h =
+    ap encode_utf8_all (plain_chars (chars text) (ap (list_all is_plain) (encodes-chars text u) ∙ h))
+    ∙ encodes-chars text u

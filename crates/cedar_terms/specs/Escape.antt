@@ -1,5 +1,5 @@
 -- How characters are shown inside quotes and in patterns.
-use Rattle.std.specs.Prelude.{ℕ, Bool, false, ◌||◌, List, [], ◌∷◌, ◌++◌, nat_lt, ◌==◌, if◌then◌else◌, codes}
+use Rattle.std.specs.Prelude.{ℕ, Bool, false, not, ◌||◌, List, [], ◌∷◌, ◌++◌, nat_lt, ◌==◌, if◌then◌else◌, codes}
 use Rattle.std.specs.List.{flat_map}
 use Rattle.std.specs.Fmt.{digits}
 use Rattle.std.specs.Str.{chars, encode_utf8_all}
@@ -25,6 +25,11 @@ escape_char c =
     if c == 92 then codes "\\\\" else
     if is_control c then codes "\\u{" ++ (hexadecimal c ++ codes "}") else
     c ∷ []
+
+-- whether a byte is neither a control of ASCII nor a quote nor a backslash: the characters of a text
+-- of such bytes are their own escapes
+abbrev pub is_plain : ℕ → Bool
+is_plain b = not (is_control b || (b == 34 || (b == 39 || b == 92)))
 
 -- the escape of each character, one after the other
 abbrev pub escape : List ℕ → List ℕ

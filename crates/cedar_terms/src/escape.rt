@@ -1,8 +1,9 @@
 //! Escapes of characters and texts (Cedar's file `literal.rs` and others).
-ghost use Rattle.std.specs.Prelude.{Some};
+ghost use Rattle.std.specs.Prelude.{◌≡◌, Some, IsTrue};
 ghost use Rattle.std.specs.Fmt.{WritesOnOk};
+ghost use Rattle.std.specs.List.{list_all};
 ghost use Rattle.std.specs.Str.{encode_utf8_all};
-ghost use Rattle.cedar_terms.specs.Escape.{escape_char, escaped};
+ghost use Rattle.cedar_terms.specs.Escape.{escape_char, escaped, is_plain};
 
 use std::fmt;
 
@@ -48,12 +49,34 @@ impl fmt::Display for Escaped<'_> {
     }
 }
 
-// Writes the escape of each character of the text.
+// Writes the escape of each character of the text. A text that is its own escape is written at once.
 fn write_escaped<W: fmt::Write>(f: &mut fmt::Formatter<W>, text: &str) -> fmt::Result
     ensures { WritesOnOk W.write_str_gives f.old result (escaped text.now) f.new }
 {
+    if is_own_escape(text) {
+        return f.write_str(text);
+    }
     for c in text.chars() {
         write!(f, "{}", EscapedChar(c))?;
     }
     Ok(())
+}
+
+// Whether no character of the text has another escape than itself.
+fn is_own_escape(text: &str) -> bool
+    ensures { IsTrue result → escaped text.now ≡ text.now }
+{
+    are_plain(text.as_bytes())
+}
+
+fn are_plain(bytes: &[u8]) -> bool
+    ensures { result ≡ list_all is_plain bytes.now }
+{
+    bytes.iter().all(|byte| is_plain(*byte))
+}
+
+fn is_plain(byte: u8) -> bool
+    ensures { result ≡ is_plain byte }
+{
+    !(byte.is_ascii_control() || byte == b'"' || byte == b'\'' || byte == b'\\')
 }

@@ -9,12 +9,12 @@ use Rattle.cedar_exprs.proofs.KeyedValues.{meant_keyed}
 use Rattle.cedar_exprs.proofs.substitution.renew_record.Goals as goal
 
 pub returns-in-Ok : goal.returns-in-Ok
-returns-in-Ok c =
+returns-in-Ok g c =
     let es = c.args.pairs.now.entries in
     let last = c.in_ok-take_many.field-0.items in
     let ps = c.in_ok-pairs in
     let means = c.in-Ok.ensures.means ps.ensures.rising in
-    let values = ps.ensures.values ∙ ap (λ bs. all_new_or bs (map new_tree last)) (sym (values_of-fields es)) in (
+    let values = ps.ensures.values ∙ ap (λ bs. all_new_or bs (map (new_tree g.V.SubstituteValue.bare_expr_of) last)) (sym (values_of-fields es)) in (
       last,
       c.in_ok-take_many.ensures.taken,
       c.in_ok-take_many.ensures.count ∙ c.len.ensures.len ∙ sym (values-length es),

@@ -10,12 +10,12 @@ pub returns-in_err-new-clause-refused : goal.returns-in_err-new-clause-refused
 returns-in_err-new-clause-refused g c =
     let env = env_of g.V.SubstituteValue.bare_type_of g.V.SubstituteValue.bare_expr_of c.args.values.now in
     let same : c.from_residual.result ≡ Err c.in_err-new.field-0.0 = search rules in
-    passed_on g.S.SubstitutionFunction.refuses env (bare_expr c.args.expr.now) new_tree g.S.SubstitutionFunction.types_of c.in_err-new.field-0.0 _ same c.in_err-new.ensures
+    passed_on g.S.SubstitutionFunction.refuses env (bare_expr c.args.expr.now) (new_tree g.V.SubstituteValue.bare_expr_of) g.S.SubstitutionFunction.types_of c.in_err-new.field-0.0 _ same c.in_err-new.ensures
 
 pub returns-clause-tree : goal.returns-clause-tree
 returns-clause-tree g c =
     let env = env_of g.V.SubstituteValue.bare_type_of g.V.SubstituteValue.bare_expr_of c.args.values.now in
-    c.in_ok-own_or_copy.ensures ∙ (renewed_is g.S.SubstitutionFunction.refuses env (bare_expr c.args.expr.now) _ c.in_ok-new.ensures).1
+    c.in_ok-new_or_copy.ensures ∙ (renewed_is g.S.SubstitutionFunction.refuses env (bare_expr c.args.expr.now) _ c.in_ok-new.ensures).1
 
 pub returns-clause-refused : goal.returns-clause-refused
 returns-clause-refused g c =
