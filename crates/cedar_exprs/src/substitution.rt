@@ -325,7 +325,8 @@ fn renew_and<V: SubstituteValue>(
 ) -> Result<Rc<Expr>, AllocError>
     requires { 2 ≤ vec_len done.old }
     ensures { IfOk result
-        (IsRenewedOfLast V.bare_expr_of (bare_expr left.now.value ∷ bare_expr right.now.value ∷ [])
+        (IsRenewedOfLast V.bare_expr_of
+        (bare_expr left.now.value ∷ bare_expr right.now.value ∷ [])
         (OfTwo checked_ops.and_of) done.old.items done.new.items) }
 {
     let (new_left, new_right) = take_two(done);
@@ -343,7 +344,8 @@ fn renew_or<V: SubstituteValue>(
 ) -> Result<Rc<Expr>, AllocError>
     requires { 2 ≤ vec_len done.old }
     ensures { IfOk result
-        (IsRenewedOfLast V.bare_expr_of (bare_expr left.now.value ∷ bare_expr right.now.value ∷ [])
+        (IsRenewedOfLast V.bare_expr_of
+        (bare_expr left.now.value ∷ bare_expr right.now.value ∷ [])
         (OfTwo checked_ops.or_of) done.old.items done.new.items) }
 {
     let (new_left, new_right) = take_two(done);
@@ -361,7 +363,8 @@ fn renew_unary<V: SubstituteValue>(
 ) -> Result<Rc<Expr>, AllocError>
     requires { 1 ≤ vec_len done.old }
     ensures { IfOk result
-        (IsRenewedOfLast V.bare_expr_of (bare_expr arg.now.value ∷ []) (OfOne (checked_ops.unary_of op))
+        (IsRenewedOfLast V.bare_expr_of (bare_expr arg.now.value ∷ [])
+        (OfOne (checked_ops.unary_of op))
         done.old.items done.new.items) }
 {
     let arg = new_or_shared(alloc, done.take_last(), arg)?;
@@ -378,7 +381,8 @@ fn renew_binary<V: SubstituteValue>(
 ) -> Result<Rc<Expr>, AllocError>
     requires { 2 ≤ vec_len done.old }
     ensures { IfOk result
-        (IsRenewedOfLast V.bare_expr_of (bare_expr arg1.now.value ∷ bare_expr arg2.now.value ∷ [])
+        (IsRenewedOfLast V.bare_expr_of
+        (bare_expr arg1.now.value ∷ bare_expr arg2.now.value ∷ [])
         (OfTwo (checked_ops.binary_of op)) done.old.items done.new.items) }
 {
     let (new1, new2) = take_two(done);
@@ -523,7 +527,8 @@ fn renew_members<V: SubstituteValue>(
     requires { length new.items ≡ length members.now.items }
     ensures { IfOk result (λ es.
         map bare_expr es.items
-        ≡ all_new_or (map bare_expr members.now.items) (map (new_tree V.bare_expr_of) new.entry.items)) }
+        ≡ all_new_or (map bare_expr members.now.items)
+        (map (new_tree V.bare_expr_of) new.entry.items)) }
 {
     let mut done = Vec::with_capacity(alloc, members.len())?;
     let mut rest = new.into_iter();
@@ -546,7 +551,8 @@ fn renew_values<V: SubstituteValue>(
     ensures keys { IfOk result (λ ps. keys_of ps.items ≡ keys_of pairs.now.entries) }
     ensures values { IfOk result (λ ps.
         map bare_expr (map (λ p. p.1) ps.items)
-        ≡ all_new_or (map (λ p. bare_expr p.1) pairs.now.entries) (map (new_tree V.bare_expr_of) new.entry.items)) }
+        ≡ all_new_or (map (λ p. bare_expr p.1) pairs.now.entries)
+        (map (new_tree V.bare_expr_of) new.entry.items)) }
     ensures rising { IfOk result (λ ps. IsRising (keys_of ps.items)) }
 {
     let mut done = Vec::with_capacity(alloc, pairs.len())?;

@@ -84,7 +84,7 @@ past_ascii c h = grind (arith, nat_tests)
 plain_at : (c : ℕ) (rest : List ℕ) → list_all is_plain (encode_utf8 c ++ rest) ≡ true → escape_char c ≡ c ∷ []
 plain_at c rest h = elim (nat_lt c 128) as (λ v. nat_lt c 128 ≡ v → escape_char c ≡ c ∷ []) [
   | true ↦ λ e. plain_char c (and-left (is_plain c) (list_all is_plain rest)
-        (ap (λ x. list_all is_plain (x ++ rest)) (sym (encode_ascii c (grind (arith, nat_tests)))) ∙ h))
+      (ap (λ x. list_all is_plain (x ++ rest)) (sym (encode_ascii c (grind (arith, nat_tests)))) ∙ h))
   | false ↦ λ e. past_ascii c (grind (arith, nat_tests))
 ] refl
 

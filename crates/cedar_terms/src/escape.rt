@@ -49,7 +49,7 @@ impl fmt::Display for Escaped<'_> {
     }
 }
 
-// Writes the escape of each character of the text. A text that is its own escape is written at once.
+// Writes the escape of each character; a text that is its own escape is written at once.
 fn write_escaped<W: fmt::Write>(f: &mut fmt::Formatter<W>, text: &str) -> fmt::Result
     ensures { WritesOnOk W.write_str_gives f.old result (escaped text.now) f.new }
 {

@@ -1,7 +1,6 @@
 use Rattle.std.proofs.Common.{◌≡◌, IsTrue, Err, Ok, [], ◌∷◌, ◌++◌, map, refl, sym, ap, ◌∙◌, append_assoc, append-nil, rules}
 use Rattle.std.proofs.lemmas.List.{map-append}
 use Rattle.cedar_exprs.specs.BareExpr.{bare_expr}
-use Rattle.cedar_exprs.specs.Machine.{bare_tasks}
 use Rattle.cedar_exprs.proofs.Running.{leaf_gives, gathered_push, refusal_begins}
 use Rattle.cedar_exprs.proofs.machine.begin_row.Goals as goal
 

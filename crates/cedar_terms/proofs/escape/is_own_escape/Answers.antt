@@ -1,4 +1,4 @@
-use Rattle.std.proofs.Common.{rules, ◌∙◌, ap, sym}
+use Rattle.std.proofs.Common.{◌∙◌, ap, sym}
 use Rattle.std.specs.List.{list_all}
 use Rattle.cedar_terms.specs.Escape.{is_plain}
 use Rattle.cedar_terms.proofs.EscapeLemmas.{plain_text}
