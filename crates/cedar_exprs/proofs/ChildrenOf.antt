@@ -61,16 +61,3 @@ values-length es = ap length (values_of-fields es) ∙ length-map es (λ e. bare
 -- what holds of a tree with so many children holds of an expression that has the tree
 pub at_tree : {T : Type 0} (P : BareExpr → ℕ → Type 0) (e : Expr T) (b : BareExpr) (n : ℕ) → bare_expr e ≡ b → n ≡ length (children b) → P b n → P (bare_expr e) (length (children (bare_expr e)))
 at_tree P e b n is long h = subst (λ t. P t (length (children t))) (sym is) (subst (P b) long h)
-
--- an answer is made of no results
-made_of_none : {X R M F : Type 0} (g : X → M) (h : R → F) (IsMadeOf : List M → Result M F → Type 0) (wanted : Result M F) (all : List X) (answer : Result X (WalkFault R))
-    → IsMadeOf [] wanted → IsAnswer g h wanted answer → IsMade g h IsMadeOf 0 all all answer
-made_of_none g h IsMadeOf wanted all (Ok x) made is = ([], sym (append-nil all), refl, subst (IsMadeOf []) is made)
-made_of_none g h IsMadeOf wanted all (Err (Refused r)) made is = ([], sym (append-nil all), refl, subst (IsMadeOf []) is made)
-made_of_none g h IsMadeOf wanted all (Err Memory) made is = tt
-
--- the answer of a leaf is
-pub leaf_made : {T X R M F : Type 0} (g : X → M) (h : R → F) (IsMadeOf : BareExpr → List M → Result M F → Type 0) (e : Expr T) (b : BareExpr) (wanted : Result M F) (all : List X) (answer : Result X (WalkFault R))
-    → bare_expr e ≡ b → 0 ≡ length (children b) → IsMadeOf b [] wanted → IsAnswer g h wanted answer → IsMade g h (IsMadeOf (bare_expr e)) (length (children (bare_expr e))) all all answer
-leaf_made g h IsMadeOf e b wanted all answer is leaf made answered =
-    at_tree (λ t n. IsMade g h (IsMadeOf t) n all all answer) e b 0 is leaf (made_of_none g h (IsMadeOf b) wanted all answer made answered)

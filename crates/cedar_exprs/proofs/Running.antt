@@ -7,7 +7,7 @@ use Rattle.cedar_builders.specs.Count.{count, total, count_is}
 use Rattle.cedar_builders.specs.Fold.{on_one, on_two, and_then}
 use Rattle.cedar_builders.specs.NodeByNode.{gathered, strict_at, IsMadeByNodes}
 use Rattle.cedar_builders.specs.Walks.{children}
-use Rattle.cedar_exprs.specs.Machine.{BareTask, to_visit, to_make, visits, bare_tasks, bare_task, children_of, last_first, Takes, IsMade, IsAnswer, IsBegun}
+use Rattle.cedar_exprs.specs.Machine.{BareTask, to_visit, to_make, visits, bare_tasks, bare_task, children_of, last_first, Takes, IsPut, IsAnswer, IsBegun}
 use Rattle.cedar_exprs.specs.BareExpr.{bare_expr}
 use Rattle.cedar_exprs.specs.declared.expr.Expr.{Expr}
 use Rattle.cedar_exprs.specs.declared.machine.Task.{Task}
@@ -249,11 +249,6 @@ module _ {M F : Type 0} (f : BareExpr → Result M F) (e : BareExpr) {X : Type 0
         sym (append-nil new) ∙ ap (λ last. new ++ last) (sym none) ∙ sym made.1,
       )
 
-  pub leaf_answer : {R : Type 0} (fault_of : R → F) (done new : List X) (result : Result X (WalkFault R)) → IsMade g fault_of (IsMadeOf e) (length (children e)) done new result → IsAnswer g fault_of (f e) result
-  leaf_answer fault_of done new (Ok x) made = (leaf_gives done new (Ok (g x)) made).0
-  leaf_answer fault_of done new (Err (Refused r)) made = (leaf_gives done new (Err (fault_of r)) made).0
-  leaf_answer fault_of done new (Err Memory) made = tt
-
 module _ {M F : Type 0} (f : BareExpr → Result M F) where
   all_past : (r : Result M F) (g more : Result (List M) F) (ms us : List M) → ((ns : List M) → g ≡ Ok ns → more ≡ Ok (ns ++ us)) → on_two (λ m ns. m ∷ ns) r g ≡ Ok ms → on_two (λ m ns. m ∷ ns) r more ≡ Ok (ms ++ us)
   all_past (Ok m) (Ok ns) more ms us h is = let same : m ∷ ns ≡ ms = cc in ap (on_two (λ m ns. m ∷ ns) (Ok m)) (h ns refl) ∙ ap (λ xs. Ok (xs ++ us)) same
@@ -278,7 +273,7 @@ module _ {M F : Type 0} (f : BareExpr → Result M F) where
 -- a row whose leaf is refused
 pub refusal_begins : {X R M F : Type 0} (f : BareExpr → Result M F) (g : X → M) (h : R → F) {IsMadeOf : BareExpr → List M → Result M F → Type 0} → IsMadeByNodes f IsMadeOf
     → (es first later : List BareExpr) (e : BareExpr) (ms : List M) (tasks all : List BareTask) (start done new : List X) (fault : WalkFault R) (answer : Result Unit (WalkFault R))
-    → children e ≡ [] → es ≡ first ++ e ∷ later → gathered f first ≡ Ok ms → answer ≡ Err fault → IsMade g h (IsMadeOf e) (length (children e)) done new (Err fault) → IsBegun g h f es tasks all start new answer
+    → children e ≡ [] → es ≡ first ++ e ∷ later → gathered f first ≡ Ok ms → answer ≡ Err fault → IsPut g h (IsMadeOf e) (length (children e)) done new (Err fault) → IsBegun g h f es tasks all start new answer
 refusal_begins f g h law es first later e ms tasks all start done new (Refused r) answer leaf same given is made =
     subst (IsBegun g h f es tasks all start new) (sym is)
     (ap (gathered f) same ∙ gathered_refused f first e later ms (h r) given (leaf_gives f e g leaf law done new (Err (h r)) made).0)
@@ -308,6 +303,6 @@ below all ts e is = is ∙ ap (λ es. ts ++ reverse (visits es)) (children_bare 
 
 -- a refusal ends the walk
 pub refusal_ends : {X R M F : Type 0} (f : BareExpr → Result M F) (root : BareExpr) (g : X → M) (h : R → F) (IsMadeOf : List M → Result M F → Type 0) (n : ℕ) (all rest : List X) (fault : WalkFault R) (answer : Result X (WalkFault R))
-    → ((x : F) → Takes n (λ last. IsMadeOf (map g last) (Err x)) all rest → f root ≡ Err x) → answer ≡ Err fault → IsMade g h IsMadeOf n all rest (Err fault) → IsAnswer g h (f root) answer
+    → ((x : F) → Takes n (λ last. IsMadeOf (map g last) (Err x)) all rest → f root ≡ Err x) → answer ≡ Err fault → IsPut g h IsMadeOf n all rest (Err fault) → IsAnswer g h (f root) answer
 refusal_ends f root g h IsMadeOf n all rest (Refused r) answer ends is made = subst (IsAnswer g h (f root)) (sym is) (ends (h r) made)
 refusal_ends f root g h IsMadeOf n all rest Memory answer ends is made = subst (IsAnswer g h (f root)) (sym is) tt

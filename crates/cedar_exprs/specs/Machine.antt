@@ -1,5 +1,5 @@
 -- Walks by tasks: what a task asks for, what one step does, and what a walk answers.
-use Rattle.std.specs.Prelude.{◌≡◌, ⊤, ℕ, List, ◌++◌, length, map, reverse, Result, Ok, Err}
+use Rattle.std.specs.Prelude.{◌≡◌, ⊤, ℕ, List, [], ◌∷◌, ◌++◌, length, map, reverse, Result, Ok, Err}
 use Rattle.cedar_builders.specs.BareExpr.{BareExpr}
 use Rattle.cedar_builders.specs.NodeByNode.{gathered}
 use Rattle.cedar_exprs.specs.BareExpr.{bare_expr}
@@ -47,6 +47,12 @@ abbrev pub IsMade : {X R M F : Type 0} → (X → M) → (R → F) → (List M �
 IsMade meaning_of fault_of IsMadeOf n all rest (Ok x) = Takes n (λ last. IsMadeOf (map meaning_of last) (Ok (meaning_of x))) all rest
 IsMade meaning_of fault_of IsMadeOf n all rest (Err (Refused r)) = Takes n (λ last. IsMadeOf (map meaning_of last) (Err (fault_of r))) all rest
 IsMade meaning_of fault_of IsMadeOf n all rest (Err Memory) = ⊤
+
+-- what is made of the last n results is put in their place, unless memory runs out
+abbrev pub IsPut : {X R M F : Type 0} → (X → M) → (R → F) → (List M → Result M F → Type 0) → ℕ → List X → List X → Result Unit (WalkFault R) → Type 0
+IsPut {X} meaning_of fault_of IsMadeOf n all new (Ok _) = (out : X) × (rest : List X) × (new ≡ rest ++ out ∷ []) × Takes n (λ last. IsMadeOf (map meaning_of last) (Ok (meaning_of out))) all rest
+IsPut meaning_of fault_of IsMadeOf n all new (Err (Refused r)) = Takes n (λ last. IsMadeOf (map meaning_of last) (Err (fault_of r))) all new
+IsPut meaning_of fault_of IsMadeOf n all new (Err Memory) = ⊤
 
 -- the first of some trees are made, one after the other, and walks over the others put onto the tasks;
 -- or a refusal is the first of them all

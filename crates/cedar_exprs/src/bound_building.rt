@@ -4,13 +4,14 @@ ghost use Rattle.cedar_builders.specs.Answers.{Gives};
 ghost use Rattle.cedar_builders.specs.Environment.{bound, empty, fold};
 ghost use Rattle.cedar_builders.specs.NodeByNode.{IsBuiltOf, fold_by_nodes};
 ghost use Rattle.cedar_exprs.specs.BareExpr.{bare_expr};
-ghost use Rattle.cedar_exprs.specs.Machine.{IsAnswer};
+ghost use Rattle.cedar_exprs.specs.Machine.{IsPut};
 ghost use Rattle.cedar_exprs.specs.RestrictedExprs.{binding_of, env_of};
 
 use crate::building::{Building, build_by};
 use crate::expr::{Expr, ExprKind};
 use crate::machine::{Walk, WalkFault, run};
 use crate::restricted_expr::SubstituteValue;
+use crate::results::put;
 use cedar_builders::{BuildFault, ExprBuilder};
 use std::alloc::Global;
 use std::collections::HashMap;
@@ -72,9 +73,9 @@ impl<T, B: ExprBuilder, V: SubstituteValue> Walk<T> for BoundBuilding<'_, B, V> 
         alloc: Global,
         node: &Expr<T>,
         done: &mut Vec<B::Expr>,
-    ) -> Result<B::Expr, WalkFault<B::BuildError>> {
+    ) -> Result<(), WalkFault<B::BuildError>> {
         match binding(self.values, node) {
-            Some(value) => build_value::<B, V>(alloc, value),
+            Some(value) => build_value::<B, V>(alloc, value, done),
             None => {
                 let building = Building::<B> { of: PhantomData };
                 building.make(alloc, node, done)
@@ -101,15 +102,18 @@ fn binding<'a, T, V: SubstituteValue>(
     }
 }
 
-// What is built of a value's expression.
+// Puts what is built of a value's expression.
 #[inline(never)]
 fn build_value<B: ExprBuilder, V: SubstituteValue>(
     alloc: Global,
     value: &V,
-) -> Result<B::Expr, WalkFault<B::BuildError>>
-    ensures { IsAnswer B.meaning_of B.fault_of
-        (fold B.ops empty (V.bare_expr_of value.now)) result }
+    done: &mut Vec<B::Expr>,
+) -> Result<(), WalkFault<B::BuildError>>
+    ensures { IsPut B.meaning_of B.fault_of
+        (λ ms r. r ≡ fold B.ops empty (V.bare_expr_of value.now)) 0
+        done.old.items done.new.items result }
 {
     let expr = value.value_expr(alloc)?;
-    run(alloc, &Building::<B> { of: PhantomData }, expr.as_expr())
+    let built = run(alloc, &Building::<B> { of: PhantomData }, expr.as_expr())?;
+    Ok(put(done, built)?)
 }

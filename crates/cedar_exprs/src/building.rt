@@ -12,11 +12,11 @@ ghost use Rattle.cedar_builders.specs.Answers.{Gives};
 ghost use Rattle.cedar_builders.specs.Environment.{empty, fold, own};
 ghost use Rattle.cedar_builders.specs.NodeByNode.{OfOne, OfTwo, OfThree, IsBuiltOf, keyed, fold_by_nodes};
 ghost use Rattle.cedar_exprs.specs.BareExpr.{bare_expr, bare_fields, further};
-ghost use Rattle.cedar_exprs.specs.Machine.{IsAnswer, IsMade};
+ghost use Rattle.cedar_exprs.specs.Machine.{IsPut};
 
 use crate::expr::{Expr, ExprKind};
 use crate::machine::{Walk, WalkFault, run};
-use crate::results::{keyed, take_many, take_three, take_two};
+use crate::results::{keyed, put, take_many, take_three, take_two};
 use cedar_builders::{
     BuildFault, ExprBuilder, ExprBuilderInfallibleBuild, ExpressionConstructionError,
 };
@@ -125,13 +125,13 @@ impl<T, B: ExprBuilder> Walk<T> for Building<B> {
         alloc: Global,
         node: &Expr<T>,
         done: &mut Vec<B::Expr>,
-    ) -> Result<B::Expr, WalkFault<B::BuildError>> {
+    ) -> Result<(), WalkFault<B::BuildError>> {
         let builder = builder_at::<B>(alloc, node.source_loc())?;
         match node.expr_kind() {
-            ExprKind::Lit(literal) => build_literal(alloc, builder, literal),
-            ExprKind::Var(var) => build_var(alloc, builder, *var),
-            ExprKind::Slot(slot) => build_slot(alloc, builder, *slot),
-            ExprKind::Unknown(unknown) => build_unknown(alloc, builder, unknown),
+            ExprKind::Lit(literal) => build_literal(alloc, builder, literal, done),
+            ExprKind::Var(var) => build_var(alloc, builder, *var, done),
+            ExprKind::Slot(slot) => build_slot(alloc, builder, *slot, done),
+            ExprKind::Unknown(unknown) => build_unknown(alloc, builder, unknown, done),
             ExprKind::If { .. } => build_if(alloc, builder, done),
             ExprKind::And { .. } => build_and(alloc, builder, done),
             ExprKind::Or { .. } => build_or(alloc, builder, done),
@@ -164,12 +164,15 @@ fn build_literal<B: ExprBuilder>(
     alloc: Global,
     builder: B,
     literal: &Literal,
-) -> Result<B::Expr, WalkFault<B::BuildError>>
+    done: &mut Vec<B::Expr>,
+) -> Result<(), WalkFault<B::BuildError>>
     requires { B.is_new builder }
-    ensures { IsAnswer B.meaning_of B.fault_of (Ok (B.ops.lit_of (bare_literal literal.now)))
-        result }
+    ensures { IsPut B.meaning_of B.fault_of
+        (λ ms r. r ≡ Ok (B.ops.lit_of (bare_literal literal.now))) 0
+        done.old.items done.new.items result }
 {
-    Ok(builder.val(alloc, literal.clone(alloc)?)?)
+    let built = builder.val(alloc, literal.clone(alloc)?)?;
+    Ok(put(done, built)?)
 }
 
 #[inline(never)]
@@ -177,11 +180,14 @@ fn build_var<B: ExprBuilder>(
     alloc: Global,
     builder: B,
     var: Var,
-) -> Result<B::Expr, WalkFault<B::BuildError>>
+    done: &mut Vec<B::Expr>,
+) -> Result<(), WalkFault<B::BuildError>>
     requires { B.is_new builder }
-    ensures { IsAnswer B.meaning_of B.fault_of (Ok (B.ops.var_of var)) result }
+    ensures { IsPut B.meaning_of B.fault_of (λ ms r. r ≡ Ok (B.ops.var_of var)) 0
+        done.old.items done.new.items result }
 {
-    Ok(builder.var(alloc, var)?)
+    let built = builder.var(alloc, var)?;
+    Ok(put(done, built)?)
 }
 
 #[inline(never)]
@@ -189,11 +195,14 @@ fn build_slot<B: ExprBuilder>(
     alloc: Global,
     builder: B,
     slot: SlotId,
-) -> Result<B::Expr, WalkFault<B::BuildError>>
+    done: &mut Vec<B::Expr>,
+) -> Result<(), WalkFault<B::BuildError>>
     requires { B.is_new builder }
-    ensures { IsAnswer B.meaning_of B.fault_of (Ok (B.ops.slot_of slot)) result }
+    ensures { IsPut B.meaning_of B.fault_of (λ ms r. r ≡ Ok (B.ops.slot_of slot)) 0
+        done.old.items done.new.items result }
 {
-    Ok(builder.slot(alloc, slot)?)
+    let built = builder.slot(alloc, slot)?;
+    Ok(put(done, built)?)
 }
 
 #[inline(never)]
@@ -201,13 +210,15 @@ fn build_unknown<B: ExprBuilder>(
     alloc: Global,
     builder: B,
     unknown: &Unknown,
-) -> Result<B::Expr, WalkFault<B::BuildError>>
+    done: &mut Vec<B::Expr>,
+) -> Result<(), WalkFault<B::BuildError>>
     requires { B.is_new builder }
-    ensures { IsAnswer B.meaning_of B.fault_of
-        (Ok (B.ops.unknown_of (bare_unknown unknown.now).name
-        (bare_unknown unknown.now).annotation)) result }
+    ensures { IsPut B.meaning_of B.fault_of
+        (λ ms r. r ≡ Ok (B.ops.unknown_of (bare_unknown unknown.now).name
+        (bare_unknown unknown.now).annotation)) 0 done.old.items done.new.items result }
 {
-    Ok(builder.unknown(alloc, unknown.clone(alloc)?)?)
+    let built = builder.unknown(alloc, unknown.clone(alloc)?)?;
+    Ok(put(done, built)?)
 }
 
 #[inline(never)]
@@ -215,14 +226,15 @@ fn build_if<B: ExprBuilder>(
     alloc: Global,
     builder: B,
     done: &mut Vec<B::Expr>,
-) -> Result<B::Expr, WalkFault<B::BuildError>>
+) -> Result<(), WalkFault<B::BuildError>>
     requires new { B.is_new builder }
     requires room { 3 ≤ vec_len done.old }
-    ensures { IsMade B.meaning_of B.fault_of (OfThree B.ops.if_of) 3
+    ensures { IsPut B.meaning_of B.fault_of (OfThree B.ops.if_of) 3
         done.old.items done.new.items result }
 {
     let (test_expr, then_expr, else_expr) = take_three(done);
-    Ok(builder.ite(alloc, test_expr, then_expr, else_expr)?)
+    let built = builder.ite(alloc, test_expr, then_expr, else_expr)?;
+    Ok(put(done, built)?)
 }
 
 #[inline(never)]
@@ -230,14 +242,15 @@ fn build_and<B: ExprBuilder>(
     alloc: Global,
     builder: B,
     done: &mut Vec<B::Expr>,
-) -> Result<B::Expr, WalkFault<B::BuildError>>
+) -> Result<(), WalkFault<B::BuildError>>
     requires new { B.is_new builder }
     requires room { 2 ≤ vec_len done.old }
-    ensures { IsMade B.meaning_of B.fault_of (OfTwo B.ops.and_of) 2
+    ensures { IsPut B.meaning_of B.fault_of (OfTwo B.ops.and_of) 2
         done.old.items done.new.items result }
 {
     let (left, right) = take_two(done);
-    Ok(builder.and(alloc, left, right)?)
+    let built = builder.and(alloc, left, right)?;
+    Ok(put(done, built)?)
 }
 
 #[inline(never)]
@@ -245,14 +258,15 @@ fn build_or<B: ExprBuilder>(
     alloc: Global,
     builder: B,
     done: &mut Vec<B::Expr>,
-) -> Result<B::Expr, WalkFault<B::BuildError>>
+) -> Result<(), WalkFault<B::BuildError>>
     requires new { B.is_new builder }
     requires room { 2 ≤ vec_len done.old }
-    ensures { IsMade B.meaning_of B.fault_of (OfTwo B.ops.or_of) 2
+    ensures { IsPut B.meaning_of B.fault_of (OfTwo B.ops.or_of) 2
         done.old.items done.new.items result }
 {
     let (left, right) = take_two(done);
-    Ok(builder.or(alloc, left, right)?)
+    let built = builder.or(alloc, left, right)?;
+    Ok(put(done, built)?)
 }
 
 #[inline(never)]
@@ -261,13 +275,15 @@ fn build_unary<B: ExprBuilder>(
     builder: B,
     op: UnaryOp,
     done: &mut Vec<B::Expr>,
-) -> Result<B::Expr, WalkFault<B::BuildError>>
+) -> Result<(), WalkFault<B::BuildError>>
     requires new { B.is_new builder }
     requires room { 1 ≤ vec_len done.old }
-    ensures { IsMade B.meaning_of B.fault_of (OfOne (B.ops.unary_of op)) 1
+    ensures { IsPut B.meaning_of B.fault_of (OfOne (B.ops.unary_of op)) 1
         done.old.items done.new.items result }
 {
-    Ok(builder.unary_app(alloc, op, done.take_last())?)
+    let child = done.take_last();
+    let built = builder.unary_app(alloc, op, child)?;
+    Ok(put(done, built)?)
 }
 
 #[inline(never)]
@@ -276,14 +292,15 @@ fn build_binary<B: ExprBuilder>(
     builder: B,
     op: BinaryOp,
     done: &mut Vec<B::Expr>,
-) -> Result<B::Expr, WalkFault<B::BuildError>>
+) -> Result<(), WalkFault<B::BuildError>>
     requires new { B.is_new builder }
     requires room { 2 ≤ vec_len done.old }
-    ensures { IsMade B.meaning_of B.fault_of (OfTwo (B.ops.binary_of op)) 2
+    ensures { IsPut B.meaning_of B.fault_of (OfTwo (B.ops.binary_of op)) 2
         done.old.items done.new.items result }
 {
     let (arg1, arg2) = take_two(done);
-    Ok(builder.binary_app(alloc, op, arg1, arg2)?)
+    let built = builder.binary_app(alloc, op, arg1, arg2)?;
+    Ok(put(done, built)?)
 }
 
 #[inline(never)]
@@ -293,16 +310,16 @@ fn build_call<B: ExprBuilder>(
     fn_name: &Name,
     count: usize,
     done: &mut Vec<B::Expr>,
-) -> Result<B::Expr, WalkFault<B::BuildError>>
+) -> Result<(), WalkFault<B::BuildError>>
     requires new { B.is_new builder }
     requires room { count ≤ vec_len done.old }
-    ensures { IsMade B.meaning_of B.fault_of
+    ensures { IsPut B.meaning_of B.fault_of
         (λ ms r. r ≡ B.ops.call_of (bare_name fn_name.now) ms) count
         done.old.items done.new.items result }
 {
     let args = take_many(done, count)?;
     match builder.call_extension_fn(alloc, fn_name.clone(alloc)?, args) {
-        Ok(call) => Ok(call),
+        Ok(call) => Ok(put(done, call)?),
         Err(BuildFault::Build(error)) => Err(WalkFault::Refused(error)),
         Err(BuildFault::Memory) => Err(WalkFault::Memory),
     }
@@ -314,13 +331,15 @@ fn build_get<B: ExprBuilder>(
     builder: B,
     attr: &RcStr,
     done: &mut Vec<B::Expr>,
-) -> Result<B::Expr, WalkFault<B::BuildError>>
+) -> Result<(), WalkFault<B::BuildError>>
     requires new { B.is_new builder }
     requires room { 1 ≤ vec_len done.old }
-    ensures { IsMade B.meaning_of B.fault_of (OfOne (λ m. B.ops.get_of m (rc_str_bytes attr.now))) 1
+    ensures { IsPut B.meaning_of B.fault_of (OfOne (λ m. B.ops.get_of m (rc_str_bytes attr.now))) 1
         done.old.items done.new.items result }
 {
-    Ok(builder.get_attr(alloc, done.take_last(), attr.clone()?)?)
+    let child = done.take_last();
+    let built = builder.get_attr(alloc, child, attr.clone()?)?;
+    Ok(put(done, built)?)
 }
 
 #[inline(never)]
@@ -329,14 +348,16 @@ fn build_has<B: ExprBuilder>(
     builder: B,
     attrs: &NonEmpty<RcStr>,
     done: &mut Vec<B::Expr>,
-) -> Result<B::Expr, WalkFault<B::BuildError>>
+) -> Result<(), WalkFault<B::BuildError>>
     requires new { B.is_new builder }
     requires room { 1 ≤ vec_len done.old }
-    ensures { IsMade B.meaning_of B.fault_of
+    ensures { IsPut B.meaning_of B.fault_of
         (OfOne (λ m. B.ops.has_of m (rc_str_bytes attrs.now.head) (further attrs.now))) 1
         done.old.items done.new.items result }
 {
-    Ok(builder.extended_has_attr(alloc, done.take_last(), attrs.clone(alloc)?)?)
+    let child = done.take_last();
+    let built = builder.extended_has_attr(alloc, child, attrs.clone(alloc)?)?;
+    Ok(put(done, built)?)
 }
 
 #[inline(never)]
@@ -345,13 +366,15 @@ fn build_like<B: ExprBuilder>(
     builder: B,
     pattern: &Pattern,
     done: &mut Vec<B::Expr>,
-) -> Result<B::Expr, WalkFault<B::BuildError>>
+) -> Result<(), WalkFault<B::BuildError>>
     requires new { B.is_new builder }
     requires room { 1 ≤ vec_len done.old }
-    ensures { IsMade B.meaning_of B.fault_of (OfOne (λ m. B.ops.like_of m pattern.now)) 1
+    ensures { IsPut B.meaning_of B.fault_of (OfOne (λ m. B.ops.like_of m pattern.now)) 1
         done.old.items done.new.items result }
 {
-    Ok(builder.like(alloc, done.take_last(), pattern.clone(alloc)?)?)
+    let child = done.take_last();
+    let built = builder.like(alloc, child, pattern.clone(alloc)?)?;
+    Ok(put(done, built)?)
 }
 
 #[inline(never)]
@@ -360,14 +383,15 @@ fn build_set<B: ExprBuilder>(
     builder: B,
     count: usize,
     done: &mut Vec<B::Expr>,
-) -> Result<B::Expr, WalkFault<B::BuildError>>
+) -> Result<(), WalkFault<B::BuildError>>
     requires new { B.is_new builder }
     requires room { count ≤ vec_len done.old }
-    ensures { IsMade B.meaning_of B.fault_of (λ ms r. r ≡ Ok (B.ops.set_of ms)) count
+    ensures { IsPut B.meaning_of B.fault_of (λ ms r. r ≡ Ok (B.ops.set_of ms)) count
         done.old.items done.new.items result }
 {
     let members = take_many(done, count)?;
-    Ok(builder.set(alloc, members)?)
+    let built = builder.set(alloc, members)?;
+    Ok(put(done, built)?)
 }
 
 #[inline(never)]
@@ -376,16 +400,16 @@ fn build_record<B: ExprBuilder, T>(
     builder: B,
     pairs: &BTreeMap<RcStr, Expr<T>>,
     done: &mut Vec<B::Expr>,
-) -> Result<B::Expr, WalkFault<B::BuildError>>
+) -> Result<(), WalkFault<B::BuildError>>
     requires new { B.is_new builder }
     requires room { length pairs.now.entries ≤ vec_len done.old }
-    ensures { IsMade B.meaning_of B.fault_of
+    ensures { IsPut B.meaning_of B.fault_of
         (λ ms r. r ≡ Ok (B.ops.record_of (keyed (bare_fields pairs.now.entries) ms)))
         (length pairs.now.entries) done.old.items done.new.items result }
 {
     let values = take_many(done, pairs.len())?;
     match builder.record(alloc, keyed(alloc, pairs, values)?) {
-        Ok(record) => Ok(record),
+        Ok(record) => Ok(put(done, record)?),
         Err(ExpressionConstructionError::Memory) => Err(WalkFault::Memory),
         // The keys of a map rise, and the builder accepts such pairs.
         Err(ExpressionConstructionError::DuplicateKey(_)) => unreachable!(),
@@ -398,12 +422,14 @@ fn build_is<B: ExprBuilder>(
     builder: B,
     entity_type: &EntityType,
     done: &mut Vec<B::Expr>,
-) -> Result<B::Expr, WalkFault<B::BuildError>>
+) -> Result<(), WalkFault<B::BuildError>>
     requires new { B.is_new builder }
     requires room { 1 ≤ vec_len done.old }
-    ensures { IsMade B.meaning_of B.fault_of
+    ensures { IsPut B.meaning_of B.fault_of
         (OfOne (λ m. B.ops.is_of m (bare_entity_type entity_type.now))) 1
         done.old.items done.new.items result }
 {
-    Ok(builder.is_entity_type(alloc, done.take_last(), entity_type.clone(alloc)?)?)
+    let child = done.take_last();
+    let built = builder.is_entity_type(alloc, child, entity_type.clone(alloc)?)?;
+    Ok(put(done, built)?)
 }

@@ -4,7 +4,7 @@ ghost use Rattle.cedar_builders.specs.BareExpr.{BareExpr};
 ghost use Rattle.cedar_builders.specs.NodeByNode.{IsMadeByNodes};
 ghost use Rattle.cedar_builders.specs.Walks.{children};
 ghost use Rattle.cedar_exprs.specs.BareExpr.{bare_expr};
-ghost use Rattle.cedar_exprs.specs.Machine.{IsAnswer, IsBegun, IsMade, bare_tasks, children_of, last_first};
+ghost use Rattle.cedar_exprs.specs.Machine.{IsAnswer, IsBegun, IsPut, bare_tasks, children_of, last_first};
 ghost use Rattle.cedar_exprs.specs.declared.machine.WalkFault.TheVariants.{Memory};
 
 use crate::expr::{Expr, ExprKind};
@@ -60,16 +60,16 @@ pub(crate) trait Walk<T> {
     // What is made of a node and what its children gave.
     ghost is_made_of: { Self → BareExpr → List Meaning → Result Meaning Fault → Type 0 };
 
-    // What a node gives, where the last of `done` are what its children gave, in field order: they
-    // are taken off.
+    // Puts what a node gives in the place of what its children gave, the last of `done`, in field
+    // order.
     fn make(
         &self,
         alloc: Global,
         node: &Expr<T>,
         done: &mut Vec<Self::Out>,
-    ) -> Result<Self::Out, WalkFault<Self::Refusal>>
+    ) -> Result<(), WalkFault<Self::Refusal>>
         requires { length (children (bare_expr node.now)) ≤ vec_len done.old }
-        ensures { IsMade meaning_of fault_of (is_made_of self.now (bare_expr node.now))
+        ensures { IsPut meaning_of fault_of (is_made_of self.now (bare_expr node.now))
             (length (children (bare_expr node.now))) done.old.items done.new.items result };
 
     ghost by_nodes: { (walk : Self) → IsMadeByNodes (answer walk) (is_made_of walk) };
@@ -94,7 +94,8 @@ pub(crate) fn run<T, W: Walk<T>>(
 {
     let mut done = Vec::new(alloc);
     if is_leaf(root) {
-        return walk.make(alloc, root, &mut done);
+        walk.make(alloc, root, &mut done)?;
+        return Ok(done.take_last());
     }
     let mut tasks = Vec::new(alloc);
     tasks.push(Task::Visit(root))?;
@@ -102,8 +103,7 @@ pub(crate) fn run<T, W: Walk<T>>(
         match task {
             Task::Visit(node) => {
                 if is_leaf(node) {
-                    let out = walk.make(alloc, node, &mut done)?;
-                    put(&mut done, out)?;
+                    walk.make(alloc, node, &mut done)?;
                 } else {
                     tasks.push(Task::Make(node))?;
                     match row_of(node) {
@@ -113,8 +113,7 @@ pub(crate) fn run<T, W: Walk<T>>(
                 }
             }
             Task::Make(node) => {
-                let out = walk.make(alloc, node, &mut done)?;
-                put(&mut done, out)?;
+                walk.make(alloc, node, &mut done)?;
             }
         }
     }
@@ -158,8 +157,7 @@ fn begin_row<'a, T, W: Walk<T>>(
         if !is_leaf(first) {
             break;
         }
-        let out = walk.make(alloc, first, done)?;
-        put(done, out)?;
+        walk.make(alloc, first, done)?;
         left = later;
     }
     Ok(push_row(tasks, left)?)

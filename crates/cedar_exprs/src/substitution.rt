@@ -15,8 +15,9 @@ ghost use Rattle.cedar_builders.specs.NodeByNode.{OfOne, OfTwo, OfThree, keyed};
 ghost use Rattle.cedar_builders.specs.Rebuilding.{checked_ops, new_or, all_new_or, renewed, IsRenewedOf, renewed_by_nodes};
 ghost use Rattle.cedar_builders.specs.Trees.{tree_ops, bound_tree, substituted, sure};
 ghost use Rattle.cedar_builders.specs.TypeClash.{TwoTypes, refused_binding, first_refusal};
-ghost use Rattle.cedar_builders.specs.Walks.{members_of, values_of};
+ghost use Rattle.cedar_builders.specs.Walks.{children, members_of, values_of};
 ghost use Rattle.cedar_exprs.specs.BareExpr.{bare_expr, bare_expr_kind, bare_exprs, bare_fields, further, unknown_tree};
+ghost use Rattle.cedar_exprs.specs.Machine.{IsMade};
 ghost use Rattle.cedar_exprs.specs.Refusals.{Refuses};
 ghost use Rattle.cedar_exprs.specs.Renewal.{new_tree, IsRenewedOfLast};
 ghost use Rattle.cedar_exprs.specs.RestrictedExprs.{env_of};
@@ -25,7 +26,7 @@ use crate::builder::ExprBuilder;
 use crate::expr::{Expr, ExprKind};
 use crate::machine::{Walk, WalkFault, run};
 use crate::restricted_expr::SubstituteValue;
-use crate::results::{take_many, take_three, take_two};
+use crate::results::{put, take_many, take_three, take_two};
 use crate::substitution_function::{SubstitutionFunction, UntypedSubstitution};
 use cedar_builders::laws::{built_after, restricted_rebuilt, substituted_by_fold};
 use cedar_builders::{
@@ -155,7 +156,30 @@ impl<'a, S: SubstitutionFunction, V: SubstituteValue> Walk<()> for Substitution<
         alloc: Global,
         node: &Expr,
         done: &mut Vec<Renewed<'a, V>>,
-    ) -> Result<Renewed<'a, V>, WalkFault<S::Refusal>> {
+    ) -> Result<(), WalkFault<S::Refusal>> {
+        let new = self.renew(alloc, node, done)?;
+        Ok(put(done, new)?)
+    }
+
+    ghost by_nodes = { λ w. renewed_by_nodes S.refuses
+        (env_of V.bare_type_of V.bare_expr_of w.values.now) };
+}
+
+impl<'a, S: SubstitutionFunction, V: SubstituteValue> Substitution<'a, S, V> {
+    // What becomes of a node: what became of its children is taken off the results.
+    #[inline(always)]
+    fn renew(
+        &self,
+        alloc: Global,
+        node: &Expr,
+        done: &mut Vec<Renewed<'a, V>>,
+    ) -> Result<Renewed<'a, V>, WalkFault<S::Refusal>>
+        requires { length (children (bare_expr node.now)) ≤ vec_len done.old }
+        ensures { IsMade (new_tree V.bare_expr_of) S.types_of
+            (IsRenewedOf S.refuses (env_of V.bare_type_of V.bare_expr_of self.now.values.now)
+            (bare_expr node.now))
+            (length (children (bare_expr node.now))) done.old.items done.new.items result }
+    {
         match node.expr_kind() {
             ExprKind::Lit(_) => Ok(Renewed::Same),
             ExprKind::Var(_) => Ok(Renewed::Same),
@@ -191,9 +215,6 @@ impl<'a, S: SubstitutionFunction, V: SubstituteValue> Walk<()> for Substitution<
             }
         }
     }
-
-    ghost by_nodes = { λ w. renewed_by_nodes S.refuses
-        (env_of V.bare_type_of V.bare_expr_of w.values.now) };
 }
 
 // The value that an unknown is bound to, else the unknown, made anew.

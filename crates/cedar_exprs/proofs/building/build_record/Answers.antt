@@ -10,8 +10,13 @@ returns-in-Ok g c =
     let ps = c.in_ok-keyed in
     let fields = bare_fields c.args.pairs.now.entries in
     let means = c.in-Ok.ensures.means c.requires.new ps.ensures.rising in (
-      c.in_ok-values.values.items,
-      c.in_ok-values.ensures.taken,
-      c.in_ok-values.ensures.count ∙ c.len.ensures.len,
-      ap Ok (means ∙ ap B.ops.record_of (meant_keyed B.meaning_of ps.field-0.items c.args.pairs.now.entries ps.ensures.keys ∙ ap (λ xs. keyed fields (map B.meaning_of xs)) ps.ensures.values)),
+      c.in-Ok.record,
+      _,
+      c.in_ok-put-in-Ok.ensures,
+      (
+        c.in_ok-values.values.items,
+        c.in_ok-values.ensures.taken,
+        c.in_ok-values.ensures.count ∙ c.len.ensures.len,
+        ap Ok (means ∙ ap B.ops.record_of (meant_keyed B.meaning_of ps.field-0.items c.args.pairs.now.entries ps.ensures.keys ∙ ap (λ xs. keyed fields (map B.meaning_of xs)) ps.ensures.values)),
+      ),
     )

@@ -13,8 +13,9 @@ down-smaller-in-Continue-branch-3 g c = leaf_leaves _ _ (bare_expr c.in-Visit.no
 pub down-preserved-in-Continue-branch-3 : goal.down-preserved-in-Continue-branch-3
 down-preserved-in-Continue-branch-3 g c =
     let was = snoc_tasks _ _ _ _ c.in-Some.ensures.items c.in-Visit.is in
+    let made = c.in_ok-make-in-Visit.ensures in
     leaf_fits (g.W.Walk.answer c.args.walk.now) (bare_expr c.args.root.now) _ _ (bare_expr c.in-Visit.node.now) g.W.Walk.meaning_of c.down.done.items was c.down.invariant (c.is_leaf-in-Visit.ensures c.if-is_leaf-2.true)
-    (g.met.W.Walk.by_nodes c.args.walk.now) _ _ _ c.in_ok-out-in-Visit.ensures c.in_ok-put-in-Visit.ensures
+    (g.met.W.Walk.by_nodes c.args.walk.now) made.1 made.0 _ made.3 made.2
 
 pub down-smaller-in-Continue-branch-5 : goal.down-smaller-in-Continue-branch-5
 down-smaller-in-Continue-branch-5 g c =
@@ -59,8 +60,9 @@ down-smaller g c = fewer_by_one _ _ (bare_expr c.in-Make.node.now) (snoc_tasks _
 pub down-preserved : goal.down-preserved
 down-preserved g c =
     let was = snoc_tasks _ _ _ _ c.in-Some.ensures.items c.in-Make.is in
+    let made = c.in_ok-make-in-Make.ensures in
     make_fits (g.W.Walk.answer c.args.walk.now) (bare_expr c.args.root.now) _ _ (bare_expr c.in-Make.node.now) g.W.Walk.meaning_of c.down.done.items was c.down.invariant
-    (g.met.W.Walk.by_nodes c.args.walk.now) _ _ _ c.in_ok-out-in-Make.ensures c.in_ok-put-in-Make.ensures
+    (g.met.W.Walk.by_nodes c.args.walk.now) made.1 made.0 _ made.3 made.2
 
 pub make-requires-in-Make : goal.make-requires-in-Make
 make-requires-in-Make g c =
@@ -68,22 +70,22 @@ make-requires-in-Make g c =
     let there = make_room (g.W.Walk.answer c.args.walk.now) (bare_expr c.args.root.now) _ _ _ g.W.Walk.meaning_of c.down.done.items was c.down.invariant in
     omega (arith, there, c.down.done.ok.0)
 
-pub returns-in_err-out-in-Make : goal.returns-in_err-out-in-Make
-returns-in_err-out-in-Make g c =
+pub returns-in_err-make-in-Make : goal.returns-in_err-make-in-Make
+returns-in_err-make-in-Make g c =
     let W = g.W.Walk in
     let e = bare_expr c.in-Make.node.now in
     let root = bare_expr c.args.root.now in
     let was = snoc_tasks _ _ _ _ c.in-Some.ensures.items c.in-Make.is in
-    let same : c.from_residual-in_err-out-in-Make.result ≡ Err c.in_err-out-in-Make.field-0.0 = search rules in
-    refusal_ends (W.answer c.args.walk.now) root W.meaning_of W.fault_of (W.is_made_of c.args.walk.now e) (length (children e)) _ _ c.in_err-out-in-Make.field-0.0 _
-    (make_ends (W.answer c.args.walk.now) root _ _ e W.meaning_of c.down.done.items was c.down.invariant (g.met.W.Walk.by_nodes c.args.walk.now) _) same c.in_err-out-in-Make.ensures
+    let same : c.from_residual-in_err-make-in-Make.result ≡ Err c.in_err-make-in-Make.field-0.0 = search rules in
+    refusal_ends (W.answer c.args.walk.now) root W.meaning_of W.fault_of (W.is_made_of c.args.walk.now e) (length (children e)) _ _ c.in_err-make-in-Make.field-0.0 _
+    (make_ends (W.answer c.args.walk.now) root _ _ e W.meaning_of c.down.done.items was c.down.invariant (g.met.W.Walk.by_nodes c.args.walk.now) _) same c.in_err-make-in-Make.ensures
 
-pub returns-in_err-out-in-Visit : goal.returns-in_err-out-in-Visit
-returns-in_err-out-in-Visit g c =
+pub returns-in_err-make-in-Visit : goal.returns-in_err-make-in-Visit
+returns-in_err-make-in-Visit g c =
     let W = g.W.Walk in
     let e = bare_expr c.in-Visit.node.now in
     let root = bare_expr c.args.root.now in
     let was = snoc_tasks _ _ _ _ c.in-Some.ensures.items c.in-Visit.is in
-    let same : c.from_residual-in_err-out-in-Visit.result ≡ Err c.in_err-out-in-Visit.field-0.0 = search rules in
-    refusal_ends (W.answer c.args.walk.now) root W.meaning_of W.fault_of (W.is_made_of c.args.walk.now e) (length (children e)) _ _ c.in_err-out-in-Visit.field-0.0 _
-    (leaf_ends (W.answer c.args.walk.now) root _ _ e W.meaning_of c.down.done.items was c.down.invariant (c.is_leaf-in-Visit.ensures c.if-is_leaf-2.true) (g.met.W.Walk.by_nodes c.args.walk.now) _) same c.in_err-out-in-Visit.ensures
+    let same : c.from_residual-in_err-make-in-Visit.result ≡ Err c.in_err-make-in-Visit.field-0.0 = search rules in
+    refusal_ends (W.answer c.args.walk.now) root W.meaning_of W.fault_of (W.is_made_of c.args.walk.now e) (length (children e)) _ _ c.in_err-make-in-Visit.field-0.0 _
+    (leaf_ends (W.answer c.args.walk.now) root _ _ e W.meaning_of c.down.done.items was c.down.invariant (c.is_leaf-in-Visit.ensures c.if-is_leaf-2.true) (g.met.W.Walk.by_nodes c.args.walk.now) _) same c.in_err-make-in-Visit.ensures

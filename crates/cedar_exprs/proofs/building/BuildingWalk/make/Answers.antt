@@ -1,4 +1,4 @@
-use Rattle.std.proofs.Common.{Ok, length, refl, ap, ◌∙◌, sym, arith}
+use Rattle.std.proofs.Common.{length, refl, ap, ◌∙◌, sym, arith}
 use Rattle.cedar_names.specs.PlainNames.{bare_name}
 use Rattle.cedar_terms.specs.Literals.{bare_literal}
 use Rattle.cedar_terms.specs.Unknowns.{bare_unknown}
@@ -7,9 +7,9 @@ use Rattle.cedar_builders.specs.Environment.{own}
 use Rattle.cedar_builders.specs.NodeByNode.{IsBuiltOf}
 use Rattle.cedar_builders.specs.Walks.{children}
 use Rattle.cedar_exprs.specs.BareExpr.{bare_exprs, bare_fields, unknown_tree}
-use Rattle.cedar_exprs.specs.Machine.{IsMade}
+use Rattle.cedar_exprs.specs.Machine.{IsPut}
 use Rattle.cedar_exprs.specs.declared.expr.KindOf.TheVariants.{Lit as LitOf, Var as VarOf, Slot as SlotOf, Unknown as UnknownOf}
-use Rattle.cedar_exprs.proofs.ChildrenOf.{bare_at_call, bare_at_set, bare_at_map, members-length, values-length, at_tree, leaf_made}
+use Rattle.cedar_exprs.proofs.ChildrenOf.{bare_at_call, bare_at_set, bare_at_map, members-length, values-length, at_tree}
 use Rattle.cedar_exprs.proofs.Records.{bare_at}
 use Rattle.cedar_exprs.proofs.building.BuildingWalk.make.Goals as goal
 
@@ -37,7 +37,7 @@ returns-in-ExtensionFunctionApp g c =
     let B = g.B.ExprBuilder in
     let v = c.deref.result.now in
     let k = c.in-ExtensionFunctionApp in
-    at_tree (λ b n. IsMade B.meaning_of B.fault_of (IsBuiltOf B.ops (own B.ops) b) n c.args.done.now.items c.build_call.new.done.items c.build_call.result)
+    at_tree (λ b n. IsPut B.meaning_of B.fault_of (IsBuiltOf B.ops (own B.ops) b) n c.args.done.now.items c.build_call.new.done.items c.build_call.result)
     c.args.node.now (ExtensionFunctionApp (bare_name k.fn_name) (bare_exprs v.items)) c.len.result (bare_at_call c.args.node.now k.fn_name k.args v (sym c.expr_kind.ensures ∙ k.is) c.deref.ensures)
     (omega (arith, members-length v.items, c.len.ensures, v.ok.0)) c.build_call.ensures
 
@@ -45,7 +45,7 @@ pub returns-in-Set : goal.returns-in-Set
 returns-in-Set g c =
     let B = g.B.ExprBuilder in
     let v = c.deref-in-Set.result.now in
-    at_tree (λ b n. IsMade B.meaning_of B.fault_of (IsBuiltOf B.ops (own B.ops) b) n c.args.done.now.items c.build_set.new.done.items c.build_set.result)
+    at_tree (λ b n. IsPut B.meaning_of B.fault_of (IsBuiltOf B.ops (own B.ops) b) n c.args.done.now.items c.build_set.new.done.items c.build_set.result)
     c.args.node.now (Set (bare_exprs v.items)) c.len-in-Set.result (bare_at_set c.args.node.now c.in-Set.members v (sym c.expr_kind.ensures ∙ c.in-Set.is) c.deref-in-Set.ensures)
     (omega (arith, members-length v.items, c.len-in-Set.ensures, v.ok.0)) c.build_set.ensures
 
@@ -53,7 +53,7 @@ pub returns-in-Record : goal.returns-in-Record
 returns-in-Record g c =
     let B = g.B.ExprBuilder in
     let m = c.deref-in-Record.result.now in
-    at_tree (λ b n. IsMade B.meaning_of B.fault_of (IsBuiltOf B.ops (own B.ops) b) n c.args.done.now.items c.build_record.new.done.items c.build_record.result)
+    at_tree (λ b n. IsPut B.meaning_of B.fault_of (IsBuiltOf B.ops (own B.ops) b) n c.args.done.now.items c.build_record.new.done.items c.build_record.result)
     c.args.node.now (Record (bare_fields m.entries)) (length m.entries) (bare_at_map c.args.node.now c.in-Record.pairs m (sym c.expr_kind.ensures ∙ c.in-Record.is) c.deref-in-Record.ensures)
     (sym (values-length m.entries)) c.build_record.ensures
 
@@ -61,26 +61,26 @@ pub returns-in-Lit : goal.returns-in-Lit
 returns-in-Lit g c =
     let B = g.B.ExprBuilder in
     let k = c.in-Lit in
-    leaf_made B.meaning_of B.fault_of (IsBuiltOf B.ops (own B.ops)) c.args.node.now (Lit (bare_literal k.literal)) (Ok (B.ops.lit_of (bare_literal k.literal))) c.args.done.now.items c.build_literal.result
-    (bare_at c.args.node.now (LitOf k.literal) (sym c.expr_kind.ensures ∙ k.is)) refl refl c.build_literal.ensures
+    at_tree (λ b n. IsPut B.meaning_of B.fault_of (IsBuiltOf B.ops (own B.ops) b) n c.args.done.now.items c.build_literal.new.done.items c.build_literal.result)
+    c.args.node.now (Lit (bare_literal k.literal)) 0 (bare_at c.args.node.now (LitOf k.literal) (sym c.expr_kind.ensures ∙ k.is)) refl c.build_literal.ensures
 
 pub returns-in-Var : goal.returns-in-Var
 returns-in-Var g c =
     let B = g.B.ExprBuilder in
     let k = c.in-Var in
-    leaf_made B.meaning_of B.fault_of (IsBuiltOf B.ops (own B.ops)) c.args.node.now (Var k.var) (Ok (B.ops.var_of k.var)) c.args.done.now.items c.build_var.result
-    (bare_at c.args.node.now (VarOf k.var) (sym c.expr_kind.ensures ∙ k.is)) refl refl c.build_var.ensures
+    at_tree (λ b n. IsPut B.meaning_of B.fault_of (IsBuiltOf B.ops (own B.ops) b) n c.args.done.now.items c.build_var.new.done.items c.build_var.result)
+    c.args.node.now (Var k.var) 0 (bare_at c.args.node.now (VarOf k.var) (sym c.expr_kind.ensures ∙ k.is)) refl c.build_var.ensures
 
 pub returns-in-Slot : goal.returns-in-Slot
 returns-in-Slot g c =
     let B = g.B.ExprBuilder in
     let k = c.in-Slot in
-    leaf_made B.meaning_of B.fault_of (IsBuiltOf B.ops (own B.ops)) c.args.node.now (Slot k.slot) (Ok (B.ops.slot_of k.slot)) c.args.done.now.items c.build_slot.result
-    (bare_at c.args.node.now (SlotOf k.slot) (sym c.expr_kind.ensures ∙ k.is)) refl refl c.build_slot.ensures
+    at_tree (λ b n. IsPut B.meaning_of B.fault_of (IsBuiltOf B.ops (own B.ops) b) n c.args.done.now.items c.build_slot.new.done.items c.build_slot.result)
+    c.args.node.now (Slot k.slot) 0 (bare_at c.args.node.now (SlotOf k.slot) (sym c.expr_kind.ensures ∙ k.is)) refl c.build_slot.ensures
 
 pub returns-in-Unknown : goal.returns-in-Unknown
 returns-in-Unknown g c =
     let B = g.B.ExprBuilder in
     let k = c.in-Unknown in
-    leaf_made B.meaning_of B.fault_of (IsBuiltOf B.ops (own B.ops)) c.args.node.now (unknown_tree (bare_unknown k.unknown)) (Ok (B.ops.unknown_of (bare_unknown k.unknown).name (bare_unknown k.unknown).annotation)) c.args.done.now.items c.build_unknown.result
-    (bare_at c.args.node.now (UnknownOf k.unknown) (sym c.expr_kind.ensures ∙ k.is)) refl refl c.build_unknown.ensures
+    at_tree (λ b n. IsPut B.meaning_of B.fault_of (IsBuiltOf B.ops (own B.ops) b) n c.args.done.now.items c.build_unknown.new.done.items c.build_unknown.result)
+    c.args.node.now (unknown_tree (bare_unknown k.unknown)) 0 (bare_at c.args.node.now (UnknownOf k.unknown) (sym c.expr_kind.ensures ∙ k.is)) refl c.build_unknown.ensures

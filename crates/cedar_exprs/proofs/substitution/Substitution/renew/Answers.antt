@@ -11,7 +11,7 @@ use Rattle.cedar_exprs.specs.Renewal.{new_tree}
 use Rattle.cedar_exprs.specs.RestrictedExprs.{env_of}
 use Rattle.cedar_exprs.proofs.ChildrenOf.{bare_at_unknown, bare_at_call, bare_at_set, bare_at_map, bare_at_is, members-length, values-length, at_tree}
 use Rattle.cedar_exprs.proofs.Refused.{none_refused}
-use Rattle.cedar_exprs.proofs.substitution.SubstitutionWalkUnit.make.Goals as goal
+use Rattle.cedar_exprs.proofs.substitution.Substitution.renew.Goals as goal
 
 pub renew_call-requires : goal.renew_call-requires
 renew_call-requires g c =
