@@ -1,7 +1,6 @@
 -- Nodes that are bound, and the others.
-use Rattle.std.proofs.Common.{Bor, option_map, ◌≡◌, List, [], length, ℕ, Option, Some, None, Result, Ok, Err, refl, sym, ap, subst, ◌∙◌}
+use Rattle.std.proofs.Common.{Bor, option_map, ◌≡◌, List, length, ℕ, Option, Some, None, Result, refl, subst}
 use Rattle.std.specs.Option.{option_copied}
-use Rattle.std.proofs.lemmas.List.{append-nil}
 use Rattle.cedar_terms.specs.Types.{BareType}
 use Rattle.cedar_builders.specs.BareExpr.{BareExpr, Unknown}
 use Rattle.cedar_builders.specs.Environment.{Env, bound, empty, fold, own}
@@ -11,7 +10,6 @@ use Rattle.cedar_builders.specs.Walks.{children}
 use Rattle.cedar_exprs.specs.Machine.{IsPut}
 use Rattle.cedar_exprs.specs.RestrictedExprs.{binding_of}
 use Rattle.cedar_exprs.specs.declared.machine.WalkFault.{WalkFault}
-use Rattle.cedar_exprs.specs.declared.machine.WalkFault.TheVariants.{Refused, Memory}
 
 -- what is made of a reference's value
 pub of_copied : {A C : Type 0} (f : A → C) (r : Option (Bor A)) → option_map (λ v. f v.now) r ≡ option_map f (option_copied r)

@@ -1,5 +1,5 @@
 -- The bare trees and the children of expressions with lists of children.
-use Rattle.std.proofs.Common.{◌≡◌, ℕ, Bool, List, [], ◌∷◌, map, length, Result, Ok, Err, Global, refl, sym, ap, ◌∙◌, subst, append-nil, BTreeMap, Vec}
+use Rattle.std.proofs.Common.{◌≡◌, ℕ, Bool, List, [], ◌∷◌, map, length, Global, refl, sym, ap, ◌∙◌, subst, BTreeMap, Vec}
 use Rattle.std.proofs.lemmas.List.{length-map}
 use Rattle.std.proofs.lemmas.List.Folds.{list_all-map}
 use Rattle.std.specs.List.{list_all}
@@ -14,11 +14,8 @@ use Rattle.cedar_terms.specs.declared.unknown.Unknown.{Unknown as UnknownOf}
 use Rattle.cedar_builders.specs.BareExpr.{BareExpr, ExtensionFunctionApp, Set, Record, Is, trees_of}
 use Rattle.cedar_builders.specs.Walks.{members_of, values_of, children}
 use Rattle.cedar_exprs.specs.BareExpr.{bare_expr, bare_exprs, bare_fields, kind_of, unknown_tree}
-use Rattle.cedar_exprs.specs.Machine.{IsAnswer, IsMade}
 use Rattle.cedar_exprs.specs.declared.expr.Expr.{Expr}
 use Rattle.cedar_exprs.specs.declared.expr.KindOf.TheVariants.{ExtensionFunctionApp as CallOf, Set as SetOf, Record as RecordOf, Unknown as OneUnknown, Is as IsOf}
-use Rattle.cedar_exprs.specs.declared.machine.WalkFault.{WalkFault}
-use Rattle.cedar_exprs.specs.declared.machine.WalkFault.TheVariants.{Refused, Memory}
 use Rattle.cedar_exprs.proofs.Records.{bare_at}
 
 -- the bare tree of an expression that is known to be a call, a set or a record
