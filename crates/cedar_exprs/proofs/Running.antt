@@ -122,15 +122,6 @@ steps-reverse (t ∷ ts) =
     let front : steps (t ∷ ts) ≡ steps (t ∷ []) + steps ts = steps-append (t ∷ []) ts in
     omega (arith, turned, two, front, steps-reverse ts)
 
--- what is left after a tree gave way to its children
-pub fewer_steps : (all ts new : List BareTask) (e : BareExpr) → all ≡ ts ++ to_visit e ∷ [] → new ≡ (ts ++ to_make e ∷ []) ++ reverse (visits (children e)) → suc (steps new) ≤ steps all
-fewer_steps all ts new e was is =
-    let a = ap steps was ∙ steps-append ts (to_visit e ∷ []) in
-    let b = ap steps is ∙ steps-append (ts ++ to_make e ∷ []) (reverse (visits (children e))) in
-    let c = steps-append ts (to_make e ∷ []) in
-    let d = steps-reverse (visits (children e)) ∙ steps-visits (children e) in
-    omega (arith, a, b, c, d, count_is e)
-
 total-append : (es us : List BareExpr) → total (es ++ us) ≡ total es + total us
 total-append [] us = omega arith
 total-append (e ∷ es) us = omega (arith, total-append es us)
@@ -145,6 +136,10 @@ fewer_begun all ts new e first later was kids is =
     let k = ap total kids ∙ total-append first later in
     omega (arith, a, b, c, d, k, count_is e)
 
+-- what is left after a tree gave way to its children
+pub fewer_steps : (all ts new : List BareTask) (e : BareExpr) → all ≡ ts ++ to_visit e ∷ [] → new ≡ (ts ++ to_make e ∷ []) ++ reverse (visits (children e)) → suc (steps new) ≤ steps all
+fewer_steps all ts new e was is = fewer_begun all ts new e [] (children e) was refl is
+
 pub fewer_by_one : (all ts : List BareTask) (e : BareExpr) → all ≡ ts ++ to_make e ∷ [] → suc (steps ts) ≤ steps all
 fewer_by_one all ts e was = let a = ap steps was ∙ steps-append ts (to_make e ∷ []) in omega (arith, a)
 
@@ -155,16 +150,7 @@ top_first : (all ts : List BareTask) (t : BareTask) → all ≡ ts ++ t ∷ [] �
 top_first all ts t is = ap reverse is ∙ reverse-append ts (t ∷ [])
 
 module _ {M F : Type 0} (f : BareExpr → Result M F) (root : BareExpr) (all ts : List BareTask) (e : BareExpr) where
-  pub visit_fits : (new : List BareTask) (rs : List M) → f e ≡ strict_at f e → all ≡ ts ++ to_visit e ∷ [] → new ≡ (ts ++ to_make e ∷ []) ++ reverse (visits (children e))
-      → Fits f root (first_first all) rs → Fits f root (first_first new) rs
-  visit_fits new rs strict was is h =
-      let now : reverse new ≡ visits (children e) ++ to_make e ∷ reverse ts =
-      ap reverse is ∙ reverse-append (ts ++ to_make e ∷ []) (reverse (visits (children e)))
-      ∙ ap (λ xs. xs ++ reverse (ts ++ to_make e ∷ [])) (reverse-reverse (visits (children e)))
-      ∙ ap (λ xs. visits (children e) ++ xs) (reverse-append ts (to_make e ∷ [])) in
-      subst (λ xs. Fits f root xs rs) (sym now) (visited f root e (reverse ts) rs strict (subst (λ xs. Fits f root xs rs) (top_first all ts (to_visit e) was) h))
-
-  -- the same where the first of the children are made at once
+  -- a tree gives way to itself and its children, of which the first are made at once
   pub begun_fits : (first later : List BareExpr) (ms : List M) (new : List BareTask) (rs : List M) → f e ≡ strict_at f e → all ≡ ts ++ to_visit e ∷ [] → children e ≡ first ++ later
       → gathered f first ≡ Ok ms → new ≡ (ts ++ to_make e ∷ []) ++ reverse (visits later) → Fits f root (first_first all) rs → Fits f root (first_first new) (rs ++ ms)
   begun_fits first later ms new rs strict was kids given is h =
@@ -178,6 +164,11 @@ module _ {M F : Type 0} (f : BareExpr → Result M F) (root : BareExpr) (all ts 
       let there = visited f root e (reverse ts) rs strict (subst (λ xs. Fits f root xs rs) (top_first all ts (to_visit e) was) h) in
       subst (λ xs. Fits f root xs (rs ++ ms)) (sym now)
       (passed f root first (visits later ++ to_make e ∷ reverse ts) rs ms given (subst (λ xs. Fits f root xs rs) cut there))
+
+  -- the same where none of them is
+  pub visit_fits : (new : List BareTask) (rs : List M) → f e ≡ strict_at f e → all ≡ ts ++ to_visit e ∷ [] → new ≡ (ts ++ to_make e ∷ []) ++ reverse (visits (children e))
+      → Fits f root (first_first all) rs → Fits f root (first_first new) rs
+  visit_fits new rs strict was is h = subst (Fits f root (first_first new)) (append-nil rs) (begun_fits [] (children e) [] new rs strict was refl refl is h)
 
   -- a refusal of a child is the root's
   pub begun_ends : (x : F) (rs : List M) → f e ≡ strict_at f e → all ≡ ts ++ to_visit e ∷ [] → gathered f (children e) ≡ Err x → Fits f root (first_first all) rs → f root ≡ Err x

@@ -1,6 +1,6 @@
 //! Substitution of unknowns by values, as a walk.
 //!
-//! `make` has a small function for each kind: one function would keep room for the locals of all
+//! `renew` has a small function for each kind: one function would keep room for the locals of all
 //! kinds.
 ghost use Rattle.std.specs.Prelude.{◌≡◌, ◌≤◌, Option, Some, Ok, IfOk, [], ◌∷◌, length, map, vec_len};
 ghost use Rattle.std.specs.Rc.{rc_str_bytes};
