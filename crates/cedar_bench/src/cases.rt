@@ -20,6 +20,7 @@ pub enum Call {
     MatchUsual,
     Substitute(Input),
     SubstituteTyped,
+    Drop(Input),
     Build,
     Show,
     Walk,
@@ -59,6 +60,7 @@ impl Call {
             Call::MatchUsual => patterns::time_match_usual(rt, size),
             Call::Substitute(input) => expressions::time_substitute(rt, input, size),
             Call::SubstituteTyped => expressions::time_substitute_typed(rt, size),
+            Call::Drop(input) => expressions::time_drop(rt, input, size),
             Call::Build => expressions::time_build(rt, size),
             Call::Show => expressions::time_show(rt, size),
             Call::Walk => expressions::time_walk(rt, size),
@@ -125,7 +127,7 @@ const CALLS: [usize; 3] = [1_000, 10_000, 100_000];
 const LINES: [usize; 3] = [1_000, 10_000, 100_000];
 
 /// The name of each case, its sizes from the least up, and its call.
-pub static CASES: [(&str, &[usize], Call); 71] = [
+pub static CASES: [(&str, &[usize], Call); 75] = [
     ("names-read", &NAMES, Call::ReadNames),
     ("names-refuse", &NAMES, Call::RefuseNames),
     ("names-sort", &NAMES, Call::SortNames),
@@ -141,6 +143,10 @@ pub static CASES: [(&str, &[usize], Call); 71] = [
     ("subst-wide", &NODES, Call::Substitute(Wide)),
     ("subst-records", &RECORDS, Call::Substitute(Records)),
     ("subst-deep", &NODES, Call::Substitute(Deep)),
+    ("drop-balanced", &FULL, Call::Drop(Balanced)),
+    ("drop-wide", &NODES, Call::Drop(Wide)),
+    ("drop-records", &RECORDS, Call::Drop(Records)),
+    ("drop-deep", &NODES, Call::Drop(Deep)),
     ("build", &FULL, Call::Build),
     ("show", &FULL, Call::Show),
     ("walk", &FULL, Call::Walk),

@@ -40,6 +40,13 @@ pub fn time_substitute_typed(rt: &HostRuntime, nodes: usize) -> Result<Duration,
     watch.stop(expr.substitute_typed(rt.alloc(), &values))
 }
 
+/// Drops an expression of so many nodes, which shares none of them.
+pub fn time_drop(rt: &HostRuntime, input: Input, nodes: usize) -> Result<Duration, CaseFault> {
+    let expr = input.expr(rt.alloc(), nodes)?;
+    let watch = Stopwatch::start(rt);
+    watch.stop::<(), CaseFault>(Ok(drop(expr)))
+}
+
 /// Builds a tree of so many nodes again.
 pub fn time_build(rt: &HostRuntime, nodes: usize) -> Result<Duration, CaseFault> {
     let expr = sums(rt.alloc(), Leaves::Untyped, nodes)?;

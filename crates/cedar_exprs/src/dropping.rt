@@ -23,13 +23,54 @@ use std::collections::BTreeMap;
 use std::mem;
 use std::rc::{Rc, RcStr};
 
+// How many levels of an expression are dropped by recursion, which is faster than the loop.
+const LEVELS: u32 = 128;
+
 // Drops a kind with all that it alone owns.
 pub(crate) fn drop_kind<T: Drop>(kind: ExprKind<T>) {
-    drop_below(strip(kind));
+    drop_near(strip(kind), LEVELS);
 }
 
-// Drops what stands below a node, as far as it alone owns it, without memory, and without the stack
-// but where a weak pointer keeps a block. Leaves are dropped where they lie.
+// Drops what stands below a node, as far as it alone owns it: so many levels by recursion, and what
+// is deeper by the loop.
+#[cycle(dropped)]
+fn drop_near<T: Drop>(below: Below<T>, levels: u32) {
+    if levels == 0 {
+        return drop_below(below);
+    }
+    match below {
+        Below::Nothing => {}
+        Below::One(child) => drop_child(child, levels - 1),
+        Below::Two(first, second) => {
+            drop_child(first, levels - 1);
+            drop_child(second, levels - 1);
+        }
+        Below::Three(first, second, third) => {
+            drop_child(first, levels - 1);
+            drop_child(second, levels - 1);
+            drop_child(third, levels - 1);
+        }
+        Below::Row(row) => drop_row(row, levels - 1),
+    }
+}
+
+#[cycle(dropped)]
+fn drop_child<T: Drop>(child: Rc<Expr<T>>, levels: u32) {
+    if let Some(node) = Rc::into_inner(child) {
+        drop_node(node, levels);
+    }
+}
+
+#[cycle(dropped)]
+#[inline(always)]
+fn drop_node<T: Drop>(node: Expr<T>, levels: u32) {
+    if let Some(below) = node.into_below() {
+        drop_near(below, levels);
+    }
+}
+
+// The same by a loop alone, without memory, and without the stack but where a weak pointer keeps a
+// block. Leaves are dropped where they lie.
 //
 // What is not dropped yet waits, in two lists, in blocks that are to be freed anyway. A node that
 // is done with, but for some of its children, waits: its own block holds those children and the
@@ -51,7 +92,7 @@ fn drop_below<T: Drop>(below: Below<T>) {
                 left = next;
             }
             Step::Row(row, next) => {
-                drop_row(row);
+                drop_row(row, 0);
                 match next {
                     Some(next) => left = next,
                     None => return,
@@ -164,7 +205,8 @@ fn unless_leaf<T: Drop>(child: Rc<Expr<T>>) -> Option<Rc<Expr<T>>>
     None
 }
 
-// Into an only child. Nothing waits for it, so its block is freed at once.
+// Into an only child, and on as long as there is one alone. Nothing waits for them, so their blocks are
+// freed at once.
 fn go_through<T: Drop>(
     child: Rc<Expr<T>>,
     waiting: Option<Rc<Expr<T>>>,
@@ -173,16 +215,22 @@ fn go_through<T: Drop>(
     ensures { (k n : ℕ) → nodes child.value + (if_node waiting + if_row rows) < n
         → IsStep k n result }
 {
-    match Rc::into_inner(child) {
-        Some(node) => match strip(node.into_parts().0) {
-            Below::Nothing => go_up(waiting, rows),
-            below => Step::On(Left {
-                below,
-                waiting,
-                rows,
-            }),
-        },
-        None => go_up(waiting, rows),
+    let mut child = child;
+    'only: loop {
+        match Rc::into_inner(child) {
+            Some(node) => match strip(node.into_parts().0) {
+                Below::Nothing => return go_up(waiting, rows),
+                Below::One(next) => child = next,
+                below => {
+                    return Step::On(Left {
+                        below,
+                        waiting,
+                        rows,
+                    });
+                }
+            },
+            None => return go_up(waiting, rows),
+        }
     }
 }
 
@@ -369,31 +417,32 @@ fn resumed<T>(last: Option<Below<T>>, is_only: bool, row: Row<T>) -> Left<T>
     }
 }
 
-// Drops a row that can't wait.
+// Drops a row, so many levels by recursion.
 #[cycle(dropped)]
-fn drop_row<T: Drop>(row: Row<T>) {
+fn drop_row<T: Drop>(row: Row<T>, levels: u32) {
     match row {
-        Row::Items(items) => drop_items(items),
-        Row::Fields(fields) => drop_fields(fields),
+        Row::Items(items) => drop_items(items, levels),
+        Row::Fields(fields) => drop_fields(fields, levels),
     }
 }
 
 #[cycle(dropped)]
-fn drop_items<T: Drop>(items: Rc<Vec<Expr<T>>>) {
+fn drop_items<T: Drop>(items: Rc<Vec<Expr<T>>>, levels: u32) {
     if let Some(mut row) = Rc::into_inner(items) {
         'each: while let Some(item) = row.pop() {
-            drop_below(strip(item.into_parts().0));
+            drop_node(item, levels);
         }
         row.destroy_empty();
     }
 }
 
 #[cycle(dropped)]
-fn drop_fields<T: Drop>(fields: Rc<BTreeMap<RcStr, Expr<T>>>) {
+fn drop_fields<T: Drop>(fields: Rc<BTreeMap<RcStr, Expr<T>>>, levels: u32) {
     if let Some(mut row) = Rc::into_inner(fields) {
-        'each: while let Some((key, item)) = row.pop_first() {
+        // From the last on: without its first entry, a node of the map has to move all others.
+        'each: while let Some((key, item)) = row.pop_last() {
             drop(key);
-            drop_below(strip(item.into_parts().0));
+            drop_node(item, levels);
         }
         row.destroy_empty();
     }

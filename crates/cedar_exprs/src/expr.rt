@@ -1,8 +1,9 @@
 //! Expression trees.
-ghost use Rattle.std.specs.Prelude.{◌≡◌, IsTrue, IfOk};
+ghost use Rattle.std.specs.Prelude.{◌≡◌, [], IsTrue, IfOk};
 ghost use Rattle.std.specs.Option.{option_copied};
 ghost use Rattle.cedar_terms.specs.Literals.{bare_literal};
 ghost use Rattle.cedar_builders.specs.Trees.{bool_of, literal_bool};
+ghost use Rattle.cedar_builders.specs.Walks as bare;
 ghost use Rattle.cedar_exprs.specs.BareExpr.{bare_expr, bare_expr_kind, kind_of, expr_place, data_of};
 ghost use Rattle.cedar_exprs.specs.ExprData.{data_tree, kind_data};
 ghost use Rattle.cedar_exprs.specs.Steps.{is_leaf};
@@ -138,13 +139,15 @@ impl<T> Expr<T> {
 
     // Whether nothing stands below it.
     pub(crate) fn is_leaf(&self) -> bool
-        ensures { result ≡ is_leaf (kind_of self.now) }
+        ensures kind { result ≡ is_leaf (kind_of self.now) }
+        ensures childless { IsTrue result → bare.children (bare_expr self.now) ≡ [] }
     {
         matches!(
             &self.expr_kind,
             ExprKind::Lit(_) | ExprKind::Var(_) | ExprKind::Slot(_) | ExprKind::Unknown(_)
         )
     }
+
     // The Boolean that the expression is a literal of.
     pub(crate) fn as_bool(&self) -> Option<bool>
         ensures { result ≡ bool_of (bare_expr self.now) }

@@ -93,7 +93,7 @@ pub(crate) fn run<T, W: Walk<T>>(
     ensures { IsAnswer W.meaning_of W.fault_of (W.answer walk.now (bare_expr root.now)) result }
 {
     let mut done = Vec::new(alloc);
-    if is_leaf(root) {
+    if root.is_leaf() {
         walk.make(alloc, root, &mut done)?;
         return Ok(done.take_last());
     }
@@ -102,7 +102,7 @@ pub(crate) fn run<T, W: Walk<T>>(
     'down: while let Some(task) = tasks.pop() {
         match task {
             Task::Visit(node) => {
-                if is_leaf(node) {
+                if node.is_leaf() {
                     walk.make(alloc, node, &mut done)?;
                 } else {
                     tasks.push(Task::Make(node))?;
@@ -118,16 +118,6 @@ pub(crate) fn run<T, W: Walk<T>>(
         }
     }
     Ok(done.take_last())
-}
-
-// Whether a node is of a kind without children.
-fn is_leaf<T>(node: &Expr<T>) -> bool
-    ensures { IsTrue result → children (bare_expr node.now) ≡ [] }
-{
-    match node.expr_kind() {
-        ExprKind::Lit(_) | ExprKind::Var(_) | ExprKind::Slot(_) | ExprKind::Unknown(_) => true,
-        _ => false,
-    }
 }
 
 // The arguments of a call, or the members of a set.
@@ -154,7 +144,7 @@ fn begin_row<'a, T, W: Walk<T>>(
 {
     let mut left = row;
     'leaves: while let Some((first, later)) = left.split_first() {
-        if !is_leaf(first) {
+        if !first.is_leaf() {
             break;
         }
         walk.make(alloc, first, done)?;

@@ -1,6 +1,11 @@
 -- A name with a namespace stays as it is.
-use Rattle.std.proofs.Common.{◌≡◌, ◌≢◌, ℕ, List, [], ◌∷◌, ◌++◌, Option, Some, None, refl, sym, ap, ◌∙◌}
-use Rattle.cedar_names.specs.Names.{BareName, qualified, qualified_by}
+use Rattle.std.proofs.Common.{◌≡◌, ◌≢◌, ℕ, List, [], ◌∷◌, ◌++◌, Option, Some, None, false, refl, sym, ap, ◌∙◌}
+use native.Mathlib.Omega.{arith}
+use Rattle.std.proofs.lemmas.List.Folds.{list_any-append}
+use Rattle.std.specs.Option.{option_map}
+use Rattle.cedar_names.specs.declared.plain_name.Name.{Name}
+use Rattle.cedar_names.specs.Names.{BareName, qualified, qualified_by, has_reserved}
+use Rattle.cedar_names.specs.PlainNames.{bare_name}
 
 stays_by : (p : List (List ℕ)) (n ns : BareName) → n.path ≡ p → p ≢ []
     → qualified_by n.path n.basename ns ≡ n
@@ -25,3 +30,17 @@ twice_by (i ∷ is) b ns further = stays (qualified_by (i ∷ is) b ns) further 
 pub twice : (n ns : BareName) (further : Option BareName)
     → qualified (qualified n (Some ns)) further ≡ qualified n (Some ns)
 twice n ns further = twice_by n.path n.basename ns further
+
+reserved_within : (p : List (List ℕ)) (b : List ℕ) (ns : BareName)
+    → has_reserved (record { path = p; basename = b }) ≡ false → has_reserved ns ≡ false
+    → has_reserved (qualified_by p b ns) ≡ false
+reserved_within [] b ns h k = grind (arith, list_any-append)
+reserved_within (i ∷ is) b ns h k = h
+
+-- nothing reserved comes of names that are not
+pub unreserved : (n : Name) (ns : Option Name)
+    → has_reserved (qualified (bare_name n) (option_map bare_name ns)) ≡ false
+unreserved n None = n.not_reserved
+unreserved n (Some ns) =
+    reserved_within (bare_name n).path (bare_name n).basename (bare_name ns) n.not_reserved
+    ns.not_reserved

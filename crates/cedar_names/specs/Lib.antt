@@ -2,6 +2,7 @@ pub mod Grammar
 pub mod Names
 pub mod NameOrder
 pub mod Place
+pub mod PathsAndPlaces
 pub mod InternalNames
 pub mod Readers
 pub mod PlainNames

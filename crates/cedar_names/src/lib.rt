@@ -9,6 +9,7 @@ pub mod laws;
 mod loc;
 mod name;
 mod non_empty;
+mod path_and_place;
 mod plain_name;
 mod raw_name;
 mod slot;

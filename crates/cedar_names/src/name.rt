@@ -17,6 +17,7 @@ use crate::err::ParseErrors;
 use crate::from_normalized_str::FromNormalizedStr;
 use crate::id::{Id, read_id};
 use crate::loc::Loc;
+use crate::path_and_place::PathAndPlace;
 use crate::plain_name::Name;
 use std::alloc::{AllocError, Global};
 use std::cmp::Ordering;
@@ -62,9 +63,7 @@ fn join(alloc: Global, first: &Id, further: &[Id]) -> Result<String, AllocError>
 #[derive(Debug, Drop)]
 pub struct InternalName {
     basename: Id,
-    // An empty path is kept as none, so that a name of one identifier needs no memory.
-    path: Option<Vec<Id>>,
-    loc: Option<Loc>,
+    rest: PathAndPlace,
 }
 
 impl InternalName {
@@ -74,11 +73,9 @@ impl InternalName {
             record { path = path.items; basename = basename } }
         ensures place { internal_name_place result ≡ loc }
     {
-        let path = if path.is_empty() { None } else { Some(path) };
         InternalName {
             basename,
-            path,
-            loc,
+            rest: PathAndPlace::new(path, loc),
         }
     }
 
@@ -89,8 +86,7 @@ impl InternalName {
     {
         InternalName {
             basename: id,
-            path: None,
-            loc,
+            rest: PathAndPlace::without_path(loc),
         }
     }
 
@@ -127,13 +123,8 @@ impl InternalName {
             bare_internal_name n ≡ within (bare_internal_name namespace) basename) }
         ensures place { IfOk result (λ n. internal_name_place n ≡ loc) }
     {
-        let InternalName {
-            basename: last,
-            path,
-            loc: _,
-        } = namespace;
-        let mut path = path.unwrap_or(Vec::new(alloc));
-        path.push(last)?;
+        let mut path = namespace.rest.into_path(alloc);
+        path.push(namespace.basename)?;
         Ok(InternalName::new(basename, path, loc))
     }
 
@@ -141,7 +132,7 @@ impl InternalName {
     pub fn loc(&self) -> Option<&Loc>
         ensures { option_copied result ≡ internal_name_place self.now }
     {
-        self.loc.as_ref()
+        self.rest.loc()
     }
 
     /// Its last identifier.
@@ -249,10 +240,7 @@ impl InternalName {
     fn path(&self) -> &[Id]
         ensures { result.now ≡ (bare_internal_name self.now).path }
     {
-        match &self.path {
-            None => &[],
-            Some(path) => path.as_slice(),
-        }
+        self.rest.path()
     }
 }
 

@@ -52,5 +52,7 @@ pub fn common_type(first: Option<Type>, second: Option<Type>) -> Option<Type>
     ensures { option_map bare_type result
         ≡ common (option_map bare_type first) (option_map bare_type second) }
 {
-    if first == second { first } else { None }
+    let first = first?;
+    let second = second?;
+    if first == second { Some(first) } else { None }
 }

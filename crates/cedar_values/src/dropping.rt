@@ -18,16 +18,28 @@ use dropped_rows::Taken;
 use std::collections::BTreeMap;
 use std::rc::{Rc, RcStr};
 
+// How many levels of a value are dropped by recursion, which is faster than the loop.
+const LEVELS: u32 = 128;
+
 // Drops a kind with all that it alone owns.
-#[cycle(dropped)]
 pub(crate) fn drop_kind<X: Drop>(kind: ValueKind<X>) {
+    drop_near(kind, LEVELS);
+}
+
+// The same: so many levels by recursion, and what is deeper by the loop.
+#[cycle(dropped)]
+fn drop_near<X: Drop>(kind: ValueKind<X>, levels: u32) {
     if let Some(branch) = unless_leaf(kind) {
-        drop_branch(branch);
+        if levels == 0 {
+            drop_branch(branch);
+        } else {
+            drop_row(branch, levels - 1);
+        }
     }
 }
 
-// Drops a kind that has values inside, without memory, and without the stack but where a weak
-// pointer keeps a record.
+// Drops a kind that has values inside by a loop, without memory, and without the stack but where a
+// weak pointer keeps a record.
 //
 // A row (the members of a set, the values of a record) that is gone into waits, in its own block,
 // with the items that it still has: the first of them is the row that waits below it.
@@ -39,7 +51,7 @@ fn drop_branch<X: Drop>(kind: ValueKind<X>) {
             Step::Into(next) => left = next,
             Step::On(next) => left = next,
             Step::Row(row, next) => {
-                drop_row(row);
+                drop_row(row, 0);
                 match next {
                     Some(next) => left = next,
                     None => return,
@@ -218,33 +230,34 @@ fn resumed<X>(last: Option<ValueKind<X>>, is_only: bool, row: ValueKind<X>) -> L
     }
 }
 
-// Drops a row that can't wait.
+// Drops a row, so many levels by recursion.
 #[cycle(dropped)]
-fn drop_row<X: Drop>(row: ValueKind<X>) {
+fn drop_row<X: Drop>(row: ValueKind<X>, levels: u32) {
     match row {
         ValueKind::Lit(literal) => drop(literal),
-        ValueKind::Set(set) => drop_members(set.into_row()),
-        ValueKind::Record(pairs) => drop_pairs(pairs),
+        ValueKind::Set(set) => drop_members(set.into_row(), levels),
+        ValueKind::Record(pairs) => drop_pairs(pairs, levels),
         ValueKind::ExtensionValue(value) => drop(value),
     }
 }
 
 #[cycle(dropped)]
-fn drop_members<X: Drop>(row: Rc<Vec<Value<X>>>) {
+fn drop_members<X: Drop>(row: Rc<Vec<Value<X>>>, levels: u32) {
     if let Some(mut row) = Rc::into_inner(row) {
         'each: while let Some(item) = row.pop() {
-            drop_kind(item.into_kind());
+            drop_near(item.into_kind(), levels);
         }
         row.destroy_empty();
     }
 }
 
 #[cycle(dropped)]
-fn drop_pairs<X: Drop>(row: Rc<BTreeMap<RcStr, Value<X>>>) {
+fn drop_pairs<X: Drop>(row: Rc<BTreeMap<RcStr, Value<X>>>, levels: u32) {
     if let Some(mut row) = Rc::into_inner(row) {
-        'each: while let Some((key, item)) = row.pop_first() {
+        // From the last on: without its first entry, a node of the map has to move all others.
+        'each: while let Some((key, item)) = row.pop_last() {
             drop(key);
-            drop_kind(item.into_kind());
+            drop_near(item.into_kind(), levels);
         }
         row.destroy_empty();
     }

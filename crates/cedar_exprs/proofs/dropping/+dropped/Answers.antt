@@ -1,7 +1,6 @@
 use Rattle.std.proofs.Common.{◌<◌, IfSome, arith, ap, subst}
-use Rattle.dropped_rows.specs.Sums.{fewer, no_more, one_off, first_pair_off}
-use Rattle.cedar_exprs.specs.Steps.{nodes, item_nodes, all_nodes}
-use Rattle.cedar_exprs.proofs.Fewer.{nodes_of}
+use Rattle.dropped_rows.specs.Sums.{fewer, no_more, one_off, last_pair_off}
+use Rattle.cedar_exprs.specs.Steps.{nodes, item_nodes, field_nodes, all_nodes}
 use Rattle.cedar_exprs.proofs.dropping.+dropped.Goals as goal
 
 pub drop_below-down-smaller-in-Into : goal.drop_below-down-smaller-in-Into
@@ -22,12 +21,16 @@ pub drop_items-each-preserved : goal.drop_items-each-preserved
 drop_items-each-preserved g t c = let less = one_off nodes _ _ _ c.in-Some-pop.ensures.items in omega (arith, less, c.each.invariant)
 
 pub drop_fields-each-preserved : goal.drop_fields-each-preserved
-drop_fields-each-preserved g t c = let less = first_pair_off nodes _ _ _ _ c.in-Some-pop_first.ensures.removal in omega (arith, less, c.each.invariant)
+drop_fields-each-preserved g t c = let less = last_pair_off nodes _ _ _ _ c.in-Some-pop_last.ensures.removal in omega (arith, less, c.each.invariant)
 
-pub drop_items-drop_below-requires : goal.drop_items-drop_below-requires
-drop_items-drop_below-requires g t c κs within =
+pub drop_items-drop_node-requires : goal.drop_items-drop_node-requires
+drop_items-drop_node-requires g t c κs within =
     let less = one_off nodes _ _ _ c.in-Some-pop.ensures.items in
-    let same = nodes_of c.in-Some-pop.item _ c.into_parts.ensures.kind in
-    let part = c.strip.ensures in
     let whole = ap (λ v. item_nodes v.items) c.in-Some.ensures in
-    (omega (arith, less, same, part, whole, c.each.invariant, c.decreases), within)
+    (omega (arith, less, whole, c.each.invariant, c.decreases), within)
+
+pub drop_fields-drop_node-requires : goal.drop_fields-drop_node-requires
+drop_fields-drop_node-requires g t c κs within =
+    let less = last_pair_off nodes _ _ _ _ c.in-Some-pop_last.ensures.removal in
+    let whole = ap (λ v. field_nodes v.entries) c.in-Some.ensures in
+    (omega (arith, less, whole, c.each.invariant, c.decreases), within)

@@ -16,7 +16,7 @@ leaves-preserved g c =
     let before = c.leaves.invariant in
     let cut : c.leaves.left.now ≡ first ∷ c.in-Some.later.now = search rules in
     let leaf : IsTrue c.is_leaf.result = search rules in
-    let gives = leaf_gives (W.answer c.args.walk.now) (bare_expr first) W.meaning_of (c.is_leaf.ensures leaf) (g.met.W.Walk.by_nodes c.args.walk.now) _ _ (Ok (W.meaning_of out)) made.3 in (
+    let gives = leaf_gives (W.answer c.args.walk.now) (bare_expr first) W.meaning_of (c.is_leaf.ensures.childless leaf) (g.met.W.Walk.by_nodes c.args.walk.now) _ _ (Ok (W.meaning_of out)) made.3 in (
       before.0 ++ bare_expr first ∷ [],
       before.1 ++ out ∷ [],
       before.2 ∙ ap (λ es. before.0 ++ map bare_expr es) cut ∙ sym (append_assoc before.0 (bare_expr first ∷ []) (map bare_expr c.in-Some.later.now)),
@@ -33,4 +33,4 @@ returns-in_err-make g c =
     let leaf : IsTrue c.is_leaf.result = search rules in
     let same : c.from_residual.result ≡ Err c.in_err-make.field-0.0 = search rules in
     refusal_begins (W.answer c.args.walk.now) W.meaning_of W.fault_of (g.met.W.Walk.by_nodes c.args.walk.now) _ before.0 (map bare_expr c.in-Some.later.now) (bare_expr first) _ _ _ _ _ _ c.in_err-make.field-0.0 _
-    (c.is_leaf.ensures leaf) (before.2 ∙ ap (λ es. before.0 ++ map bare_expr es) cut) before.3 same c.in_err-make.ensures
+    (c.is_leaf.ensures.childless leaf) (before.2 ∙ ap (λ es. before.0 ++ map bare_expr es) cut) before.3 same c.in_err-make.ensures

@@ -14,7 +14,7 @@ pub down-preserved-in-Continue-branch-3 : goal.down-preserved-in-Continue-branch
 down-preserved-in-Continue-branch-3 g c =
     let was = snoc_tasks _ _ _ _ c.in-Some.ensures.items c.in-Visit.is in
     let made = c.in_ok-make-in-Visit.ensures in
-    leaf_fits (g.W.Walk.answer c.args.walk.now) (bare_expr c.args.root.now) _ _ (bare_expr c.in-Visit.node.now) g.W.Walk.meaning_of c.down.done.items was c.down.invariant (c.is_leaf-in-Visit.ensures c.if-is_leaf-2.true)
+    leaf_fits (g.W.Walk.answer c.args.walk.now) (bare_expr c.args.root.now) _ _ (bare_expr c.in-Visit.node.now) g.W.Walk.meaning_of c.down.done.items was c.down.invariant (c.is_leaf-in-Visit.ensures.childless c.if-is_leaf-2.true)
     (g.met.W.Walk.by_nodes c.args.walk.now) made.1 made.0 _ made.3 made.2
 
 pub down-smaller-in-Continue-branch-5 : goal.down-smaller-in-Continue-branch-5
@@ -88,4 +88,4 @@ returns-in_err-make-in-Visit g c =
     let was = snoc_tasks _ _ _ _ c.in-Some.ensures.items c.in-Visit.is in
     let same : c.from_residual-in_err-make-in-Visit.result ≡ Err c.in_err-make-in-Visit.field-0.0 = search rules in
     refusal_ends (W.answer c.args.walk.now) root W.meaning_of W.fault_of (W.is_made_of c.args.walk.now e) (length (children e)) _ _ c.in_err-make-in-Visit.field-0.0 _
-    (leaf_ends (W.answer c.args.walk.now) root _ _ e W.meaning_of c.down.done.items was c.down.invariant (c.is_leaf-in-Visit.ensures c.if-is_leaf-2.true) (g.met.W.Walk.by_nodes c.args.walk.now) _) same c.in_err-make-in-Visit.ensures
+    (leaf_ends (W.answer c.args.walk.now) root _ _ e W.meaning_of c.down.done.items was c.down.invariant (c.is_leaf-in-Visit.ensures.childless c.if-is_leaf-2.true) (g.met.W.Walk.by_nodes c.args.walk.now) _) same c.in_err-make-in-Visit.ensures

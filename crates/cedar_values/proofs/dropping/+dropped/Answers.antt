@@ -1,5 +1,5 @@
 use Rattle.std.proofs.Common.{◌<◌, IfSome, arith, suc, ap, subst, ◌∙◌}
-use Rattle.dropped_rows.specs.Sums.{fewer, no_more, one_off, first_pair_off}
+use Rattle.dropped_rows.specs.Sums.{fewer, no_more, one_off, last_pair_off}
 use Rattle.cedar_values.specs.Drops.{value_nodes, row_nodes, entry_nodes, all_nodes}
 use Rattle.cedar_values.proofs.Fewer.{nodes_of_kind, set_nodes, record_nodes}
 use Rattle.cedar_values.proofs.dropping.+dropped.Goals as goal
@@ -30,18 +30,18 @@ pub drop_members-each-preserved : goal.drop_members-each-preserved
 drop_members-each-preserved g t c = let less = one_off value_nodes _ _ _ c.in-Some-pop.ensures.items in omega (arith, less, c.each.invariant)
 
 pub drop_pairs-each-preserved : goal.drop_pairs-each-preserved
-drop_pairs-each-preserved g t c = let less = first_pair_off value_nodes _ _ _ _ c.in-Some-pop_first.ensures.removal in omega (arith, less, c.each.invariant)
+drop_pairs-each-preserved g t c = let less = last_pair_off value_nodes _ _ _ _ c.in-Some-pop_last.ensures.removal in omega (arith, less, c.each.invariant)
 
-pub drop_members-drop_kind-requires : goal.drop_members-drop_kind-requires
-drop_members-drop_kind-requires g t c κs within =
+pub drop_members-drop_near-requires : goal.drop_members-drop_near-requires
+drop_members-drop_near-requires g t c κs within =
     let less = one_off value_nodes _ _ _ c.in-Some-pop.ensures.items in
     let same = nodes_of_kind c.in-Some-pop.item _ c.into_kind.ensures in
     let whole = ap (λ v. row_nodes v.items) c.in-Some.ensures in
     (omega (arith, less, same, whole, c.each.invariant, c.decreases), within)
 
-pub drop_pairs-drop_kind-requires : goal.drop_pairs-drop_kind-requires
-drop_pairs-drop_kind-requires g t c κs within =
-    let less = first_pair_off value_nodes _ _ _ _ c.in-Some-pop_first.ensures.removal in
-    let same = nodes_of_kind c.in-Some-pop_first.item _ c.into_kind.ensures in
+pub drop_pairs-drop_near-requires : goal.drop_pairs-drop_near-requires
+drop_pairs-drop_near-requires g t c κs within =
+    let less = last_pair_off value_nodes _ _ _ _ c.in-Some-pop_last.ensures.removal in
+    let same = nodes_of_kind c.in-Some-pop_last.item _ c.into_kind.ensures in
     let whole = ap (λ m. entry_nodes m.entries) c.in-Some.ensures in
     (omega (arith, less, same, whole, c.each.invariant, c.decreases), within)

@@ -3,8 +3,8 @@ use Rattle.cedar_values.specs.Counts.{kind_nodes}
 use Rattle.cedar_values.specs.Drops.{row_nodes, entry_nodes, all_nodes}
 use Rattle.cedar_values.proofs.dropping.+dropped.Given as goal
 
-abbrev pub decreases-drop_kind : goal.decreases-drop_kind
-decreases-drop_kind g l = 4 * kind_nodes l.kind + 3
+abbrev pub decreases-drop_near : goal.decreases-drop_near
+decreases-drop_near g l = 4 * kind_nodes l.kind + 3
 
 abbrev pub decreases-drop_branch : goal.decreases-drop_branch
 decreases-drop_branch g l = 4 * kind_nodes l.kind + 2

@@ -1,0 +1,75 @@
+//! The path and the place of a name.
+ghost use Rattle.std.specs.Prelude.{◌≡◌, []};
+ghost use Rattle.std.specs.Option.{option_copied};
+ghost use Rattle.cedar_names.specs.PathsAndPlaces.{path_in, place_in};
+
+use crate::id::Id;
+use crate::loc::Loc;
+use std::alloc::Global;
+
+// The path and the place of a name, as far as it has them.
+//
+// Two options would take eight bytes more. An expression, which may hold a name, would then have more
+// than 128 bytes, and the compiler copies up to so many in line.
+#[derive(Debug, Drop)]
+pub(crate) enum PathAndPlace {
+    Neither,
+    Path(Vec<Id>),
+    Place(Loc),
+    Both(Vec<Id>, Loc),
+}
+
+impl PathAndPlace {
+    // An empty path is kept as none, so that a name of one identifier needs no memory.
+    pub(crate) fn new(path: Vec<Id>, loc: Option<Loc>) -> PathAndPlace
+        ensures path { path_in result ≡ path.items }
+        ensures place { place_in result ≡ loc }
+    {
+        if path.is_empty() {
+            return PathAndPlace::without_path(loc);
+        }
+        match loc {
+            None => PathAndPlace::Path(path),
+            Some(loc) => PathAndPlace::Both(path, loc),
+        }
+    }
+
+    pub(crate) fn without_path(loc: Option<Loc>) -> PathAndPlace
+        ensures path { path_in result ≡ [] }
+        ensures place { place_in result ≡ loc }
+    {
+        match loc {
+            None => PathAndPlace::Neither,
+            Some(loc) => PathAndPlace::Place(loc),
+        }
+    }
+
+    pub(crate) fn path(&self) -> &[Id]
+        ensures { result.now ≡ path_in self.now }
+    {
+        match self {
+            PathAndPlace::Neither | PathAndPlace::Place(_) => &[],
+            PathAndPlace::Path(path) | PathAndPlace::Both(path, _) => path.as_slice(),
+        }
+    }
+
+    pub(crate) fn into_path(self, alloc: Global) -> Vec<Id>
+        ensures { result.items ≡ path_in self }
+    {
+        match self {
+            PathAndPlace::Neither => Vec::new(alloc),
+            PathAndPlace::Path(path) => path,
+            PathAndPlace::Place(_loc) => Vec::new(alloc),
+            PathAndPlace::Both(path, _loc) => path,
+        }
+    }
+
+    pub(crate) fn loc(&self) -> Option<&Loc>
+        ensures { option_copied result ≡ place_in self.now }
+    {
+        match self {
+            PathAndPlace::Neither | PathAndPlace::Path(_) => None,
+            PathAndPlace::Place(loc) | PathAndPlace::Both(_, loc) => Some(loc),
+        }
+    }
+}
