@@ -18,13 +18,10 @@ use crate::below::{Below, Row, drop_leaf, strip};
 use crate::expr::{Expr, ExprKind};
 use crate::row_items::{last_branch, last_branch_value, take_item, take_value};
 use cedar_terms::UnaryOp;
-use dropped_rows::Taken;
+use dropped_rows::{LEVELS, Taken};
 use std::collections::BTreeMap;
 use std::mem;
 use std::rc::{Rc, RcStr};
-
-// How many levels of an expression are dropped by recursion, which is faster than the loop.
-const LEVELS: u32 = 128;
 
 // Drops a kind with all that it alone owns.
 pub(crate) fn drop_kind<T: Drop>(kind: ExprKind<T>) {
@@ -54,6 +51,7 @@ fn drop_near<T: Drop>(below: Below<T>, levels: u32) {
     }
 }
 
+// Drops a child, so many levels by recursion.
 #[cycle(dropped)]
 fn drop_child<T: Drop>(child: Rc<Expr<T>>, levels: u32) {
     if let Some(node) = Rc::into_inner(child) {
@@ -61,6 +59,7 @@ fn drop_child<T: Drop>(child: Rc<Expr<T>>, levels: u32) {
     }
 }
 
+// Drops a node, so many levels below it by recursion. A leaf is dropped where it lies.
 #[cycle(dropped)]
 #[inline(always)]
 fn drop_node<T: Drop>(node: Expr<T>, levels: u32) {
@@ -69,8 +68,8 @@ fn drop_node<T: Drop>(node: Expr<T>, levels: u32) {
     }
 }
 
-// The same by a loop alone, without memory, and without the stack but where a weak pointer keeps a
-// block. Leaves are dropped where they lie.
+// Drops what stands below a node by a loop, without memory, and without the stack but where a weak
+// pointer keeps a block. Leaves are dropped where they lie.
 //
 // What is not dropped yet waits, in two lists, in blocks that are to be freed anyway. A node that
 // is done with, but for some of its children, waits: its own block holds those children and the

@@ -14,19 +14,16 @@ ghost use Rattle.cedar_values.specs.Drops.{
 use crate::row_items::{last_branch, last_branch_value, take_member, take_value};
 use crate::set::Set;
 use crate::value::{Value, ValueKind};
-use dropped_rows::Taken;
+use dropped_rows::{LEVELS, Taken};
 use std::collections::BTreeMap;
 use std::rc::{Rc, RcStr};
-
-// How many levels of a value are dropped by recursion, which is faster than the loop.
-const LEVELS: u32 = 128;
 
 // Drops a kind with all that it alone owns.
 pub(crate) fn drop_kind<X: Drop>(kind: ValueKind<X>) {
     drop_near(kind, LEVELS);
 }
 
-// The same: so many levels by recursion, and what is deeper by the loop.
+// Drops a kind: so many levels by recursion, and what is deeper by the loop.
 #[cycle(dropped)]
 fn drop_near<X: Drop>(kind: ValueKind<X>, levels: u32) {
     if let Some(branch) = unless_leaf(kind) {
