@@ -9,7 +9,7 @@ from dataclasses import dataclass, field
 TOP = os.path.dirname(os.path.dirname(os.path.abspath(__file__)))
 CRATES = os.path.join(TOP, "crates")
 FN = re.compile(r"(pub )?(?:const )?(?:final )?fn (\w+)")
-TYPE = re.compile(r"pub (struct|enum|trait|type) (\w+)")
+TYPE = re.compile(r"pub (struct|enum|trait|type|const) (\w+)")
 
 
 @dataclass
@@ -35,7 +35,7 @@ class Call:
 
 @dataclass
 class Item:
-    """A public type or trait, with its declaration as it stands."""
+    """A public type, trait or constant, with its declaration as it stands."""
 
     kind: str
     name: str
