@@ -54,7 +54,7 @@ impl<T: Drop> Expr<T> {
 }
 
 // Drops all of a kind but what stands below it.
-#[inline(never)]
+#[inline(always)]
 pub(crate) fn strip<T: Drop>(kind: ExprKind<T>) -> Below<T>
     ensures { below_nodes result ≡ kind_nodes kind }
 {

@@ -72,6 +72,7 @@ impl<T: Default + Copy> ExprBuilder<T> {
     }
 
     /// The node of this kind, as it stands: nothing is simplified.
+    #[inline(always)]
     pub fn with_expr_kind(self, expr_kind: ExprKind<T>) -> Expr<T>
         ensures node { IsMadeBy self (bare_expr_kind expr_kind) (kind_children expr_kind) result }
         ensures kind { kind_of result ≡ expr_kind }
@@ -231,6 +232,7 @@ impl<T: Default + Copy> expr_builder::ExprBuilder for ExprBuilder<T> {
         Ok(self.with_expr_kind(ExprKind::Unknown(unknown)))
     }
 
+    #[inline(always)]
     fn ite(
         self,
         alloc: Global,
@@ -251,6 +253,7 @@ impl<T: Default + Copy> expr_builder::ExprBuilder for ExprBuilder<T> {
         ))
     }
 
+    #[inline(always)]
     fn and(self, alloc: Global, left: Expr<T>, right: Expr<T>) -> Result<Expr<T>, AllocError>
         ensures { IfOk result
             (IsMadeBy self (tree_ops.and_of (bare_expr left) (bare_expr right))
@@ -265,6 +268,7 @@ impl<T: Default + Copy> expr_builder::ExprBuilder for ExprBuilder<T> {
         }
     }
 
+    #[inline(always)]
     fn or(self, alloc: Global, left: Expr<T>, right: Expr<T>) -> Result<Expr<T>, AllocError>
         ensures { IfOk result
             (IsMadeBy self (tree_ops.or_of (bare_expr left) (bare_expr right))
@@ -279,6 +283,7 @@ impl<T: Default + Copy> expr_builder::ExprBuilder for ExprBuilder<T> {
         }
     }
 
+    #[inline(always)]
     fn unary_app(self, alloc: Global, op: UnaryOp, arg: Expr<T>) -> Result<Expr<T>, AllocError>
         ensures { IfOk result
             (IsMadeBy self (tree_ops.unary_of op (bare_expr arg)) (arg ∷ [])) }
@@ -289,6 +294,7 @@ impl<T: Default + Copy> expr_builder::ExprBuilder for ExprBuilder<T> {
         }))
     }
 
+    #[inline(always)]
     fn binary_app(
         self,
         alloc: Global,
@@ -323,6 +329,7 @@ impl<T: Default + Copy> expr_builder::ExprBuilder for ExprBuilder<T> {
         }))
     }
 
+    #[inline(always)]
     fn get_attr(self, alloc: Global, expr: Expr<T>, attr: RcStr) -> Result<Expr<T>, AllocError>
         ensures { IfOk result
             (IsMadeBy self (tree_ops.get_of (bare_expr expr) (rc_str_bytes attr))
@@ -334,6 +341,7 @@ impl<T: Default + Copy> expr_builder::ExprBuilder for ExprBuilder<T> {
         }))
     }
 
+    #[inline(always)]
     fn extended_has_attr(
         self,
         alloc: Global,
@@ -359,6 +367,7 @@ impl<T: Default + Copy> expr_builder::ExprBuilder for ExprBuilder<T> {
         self.extended_has_attr(alloc, expr, NonEmpty::new(attr, Vec::new(alloc)))
     }
 
+    #[inline(always)]
     fn like(self, alloc: Global, expr: Expr<T>, pattern: Pattern) -> Result<Expr<T>, AllocError>
         ensures { IfOk result
             (IsMadeBy self (tree_ops.like_of (bare_expr expr) pattern) (expr ∷ [])) }
@@ -369,6 +378,7 @@ impl<T: Default + Copy> expr_builder::ExprBuilder for ExprBuilder<T> {
         }))
     }
 
+    #[inline(always)]
     fn is_entity_type(
         self,
         alloc: Global,

@@ -204,8 +204,8 @@ fn unless_leaf<T: Drop>(child: Rc<Expr<T>>) -> Option<Rc<Expr<T>>>
     None
 }
 
-// Into an only child, and on as long as there is one alone. Nothing waits for them, so their blocks are
-// freed at once.
+// Into an only child, and on as long as there is one alone. Nothing waits for them, so their blocks
+// are freed at once.
 fn go_through<T: Drop>(
     child: Rc<Expr<T>>,
     waiting: Option<Rc<Expr<T>>>,

@@ -51,6 +51,7 @@ impl<'a, T> Iterator for ExprIterator<'a, T> {
 
     ghost remaining = { item_count positions_left };
 
+    #[inline(always)]
     fn next(&mut self) -> Option<&'a Expr<T>> {
         let expr = self.stack.pop()?;
         push_children(&mut self.stack, expr);
@@ -59,6 +60,7 @@ impl<'a, T> Iterator for ExprIterator<'a, T> {
 }
 
 // Puts the children onto the stack in field order.
+#[inline(always)]
 pub(crate) fn push_children<'a, T>(stack: &mut Vec<&'a Expr<T>>, expr: &'a Expr<T>)
     requires { vec_len stack.old + length (children expr.now) ≤ vec_capacity stack.old }
     ensures items { referents stack.new.items ≡ referents stack.old.items ++ children expr.now }
@@ -90,6 +92,7 @@ pub(crate) fn push_children<'a, T>(stack: &mut Vec<&'a Expr<T>>, expr: &'a Expr<
     }
 }
 
+#[inline(always)]
 fn push_two<'a, T>(stack: &mut Vec<&'a Expr<T>>, first: &'a Expr<T>, second: &'a Expr<T>)
     requires { vec_len stack.old + 2 ≤ vec_capacity stack.old }
     ensures items { referents stack.new.items

@@ -18,6 +18,7 @@ pub(crate) fn put<X: Drop>(done: &mut Vec<X>, out: X) -> Result<(), AllocError>
 }
 
 // The last two results, which are taken off.
+#[inline(always)]
 pub(crate) fn take_two<X: Drop>(done: &mut Vec<X>) -> (X, X)
     requires { 2 ≤ vec_len done.old }
     ensures { done.old.items ≡ done.new.items ++ result.0 ∷ result.1 ∷ [] }
@@ -28,6 +29,7 @@ pub(crate) fn take_two<X: Drop>(done: &mut Vec<X>) -> (X, X)
 }
 
 // The last three results, which are taken off.
+#[inline(always)]
 pub(crate) fn take_three<X: Drop>(done: &mut Vec<X>) -> (X, X, X)
     requires { 3 ≤ vec_len done.old }
     ensures { done.old.items ≡ done.new.items ++ result.0 ∷ result.1 ∷ result.2 ∷ [] }

@@ -9,8 +9,8 @@ use std::alloc::Global;
 
 // The path and the place of a name, as far as it has them.
 //
-// Two options would take eight bytes more. An expression, which may hold a name, would then have more
-// than 128 bytes, and the compiler copies up to so many in line.
+// Two options would take eight bytes more. An expression, which may hold a name, would then have
+// more than 128 bytes, and the compiler copies up to so many in line.
 #[derive(Debug, Drop)]
 pub(crate) enum PathAndPlace {
     Neither,

@@ -113,6 +113,7 @@ impl Pieces {
     }
 
     // Puts a text before all pieces.
+    #[inline(always)]
     fn put_before(&mut self, alloc: Global, text: &str) -> Result<(), AllocError>
         ensures { OnOk result (joined self.new ≡ text.now ++ joined self.old) }
     {
@@ -124,6 +125,7 @@ impl Pieces {
     }
 
     // Puts a part behind a space.
+    #[inline(always)]
     fn push(&mut self, part: SExpression) -> Result<(), AllocError>
         ensures { OnOk result (joined self.new ≡ joined self.old ++ 32 ∷ text_of part) }
     {
@@ -132,6 +134,7 @@ impl Pieces {
     }
 
     // Puts a leaf or a list at the end.
+    #[inline(always)]
     fn add(&mut self, form: Form) -> Result<(), AllocError>
         ensures { OnOk result (joined self.new ≡ joined self.old ++ form_text form) }
     {
@@ -144,6 +147,7 @@ impl Pieces {
     }
 
     // Puts a list at the end.
+    #[inline(always)]
     fn add_list(&mut self, list: Pieces) -> Result<(), AllocError>
         ensures { OnOk result (joined self.new ≡ joined self.old ++ joined list) }
     {
@@ -369,6 +373,7 @@ impl ExprBuilder for Sketch {
         self
     }
 
+    #[inline(always)]
     fn val(self, _: Global, literal: Literal) -> Result<SExpression, AllocError> {
         Ok(SExpression {
             form: Form::Literal(literal),
@@ -387,6 +392,7 @@ impl ExprBuilder for Sketch {
         })
     }
 
+    #[inline(always)]
     fn unknown(self, alloc: Global, unknown: Unknown) -> Result<SExpression, AllocError> {
         let mut list = Pieces::open(alloc, "(unknown")?;
         list.push_text(&unknown.name)?;
@@ -407,6 +413,7 @@ impl ExprBuilder for Sketch {
         list.close()
     }
 
+    #[inline(always)]
     fn and(
         self,
         alloc: Global,
@@ -416,6 +423,7 @@ impl ExprBuilder for Sketch {
         list_of_two(alloc, "(and ", left, right)
     }
 
+    #[inline(always)]
     fn or(
         self,
         alloc: Global,
@@ -425,6 +433,7 @@ impl ExprBuilder for Sketch {
         list_of_two(alloc, "(or ", left, right)
     }
 
+    #[inline(always)]
     fn unary_app(
         self,
         alloc: Global,
@@ -434,6 +443,7 @@ impl ExprBuilder for Sketch {
         Pieces::open_with(alloc, unary_opening(op), arg)?.close()
     }
 
+    #[inline(always)]
     fn binary_app(
         self,
         alloc: Global,

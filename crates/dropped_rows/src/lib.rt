@@ -7,8 +7,8 @@
 ghost use Rattle.std.specs.Prelude.{◌≡◌, ℕ, ◌+◌, ◌<◌};
 ghost use Rattle.dropped_rows.specs.Rows.{IsTaken, taken_after, waiting_nodes};
 
-/// How many levels of a tree are dropped by recursion. It is faster than a loop, which drops what is
-/// deeper.
+/// How many levels of a tree are dropped by recursion. It is faster than a loop, which drops what
+/// is deeper.
 pub const LEVELS: u32 = 128;
 
 /// What is taken out of a row: what stands below an item.
