@@ -27,10 +27,7 @@ module _ {I : Type 0} (f : I → ℕ) where
   pairs-snoc [] k x = omega arith
   pairs-snoc (p ∷ ps) k x = omega (arith, pairs-snoc ps k x)
 
-  -- a map without its first value, and without its last one
-  pub first_pair_off : (all ps : List (RcStr Global × I)) (k : RcStr Global) (x : I) → all ≡ (k, x) ∷ ps → pair_nodes f all ≡ pair_nodes f ps + f x
-  first_pair_off all ps k x is = let here = ap (pair_nodes f) is in omega (arith, here)
-
+  -- a map without its last value
   pub last_pair_off : (all ps : List (RcStr Global × I)) (k : RcStr Global) (x : I) → all ≡ ps ++ (k, x) ∷ [] → pair_nodes f all ≡ pair_nodes f ps + f x
   last_pair_off all ps k x is = ap (pair_nodes f) is ∙ pairs-snoc ps k x
 
