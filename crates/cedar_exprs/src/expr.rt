@@ -203,8 +203,9 @@ impl<T> Expr<T> {
         ensures place { expr_place result ≡ source_loc }
         ensures of_node { data_of result ≡ data_of self }
     {
-        let (expr_kind, _, data) = self.into_parts();
-        Expr::new(expr_kind, source_loc, data)
+        let mut expr = self;
+        expr.source_loc = source_loc;
+        expr
     }
 
     /// Replaces the data of the outermost node.
@@ -221,6 +222,7 @@ impl<T> Expr<T> {
 
 impl<T: Copy> Expr<T> {
     /// A copy, which shares the children.
+    #[inline(always)]
     pub fn clone(&self, alloc: Global) -> Result<Expr<T>, AllocError>
         ensures tree { IfOk result (λ e. bare_expr e ≡ bare_expr self.now) }
         ensures place { IfOk result (λ e. expr_place e ≡ expr_place self.now) }

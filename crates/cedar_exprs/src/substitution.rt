@@ -283,6 +283,7 @@ fn new_or_shared<V: SubstituteValue>(
 }
 
 // The new expression of a member, else a copy of the member.
+#[inline(always)]
 fn new_or_copy<V: SubstituteValue>(
     alloc: Global,
     new: Renewed<'_, V>,

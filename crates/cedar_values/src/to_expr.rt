@@ -33,7 +33,8 @@ ghost use Rattle.cedar_values.specs.WellFormed.{kind_well_formed, well_formed};
 use crate::extension_value::{ExtensionValue, RepresentableExtensionValue};
 use crate::put_last::put_last;
 use crate::value::{Value, ValueKind};
-use cedar_exprs::{Expr, RestrictedExpr};
+use cedar_builders::ExprBuilder as _;
+use cedar_exprs::{Expr, ExprBuilder, ExprKind, RestrictedExpr};
 use cedar_names::{Loc, Name};
 use cedar_terms::Literal;
 use cedar_value_trees::laws::expressions_read_back;
@@ -282,8 +283,10 @@ fn literal_at(alloc: Global, literal: &Literal, loc: Option<&Loc>) -> Result<Exp
     ensures tree { IfOk result (λ e. bare_expr e ≡ Lit (bare_literal literal.now)) }
     ensures place { IfOk result (λ e. expr_place e ≡ option_copied loc.entry) }
 {
-    let expr = Expr::val(literal.clone(alloc)?);
-    Ok(at_place(expr, Loc::clone_option(alloc, loc)?))
+    let source_loc = Loc::clone_option(alloc, loc)?;
+    let literal = literal.clone(alloc)?;
+    let builder = ExprBuilder::new().with_maybe_source_loc(source_loc);
+    Ok(builder.with_expr_kind(ExprKind::Lit(literal)))
 }
 
 // The expression of an extension value, at a place.
