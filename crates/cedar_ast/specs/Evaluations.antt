@@ -2,8 +2,8 @@
 pub use Rattle.cedar_builders.specs.Laws.{both}
 pub use Rattle.cedar_values.specs.BareValues.{bare_value}
 pub use Rattle.cedar_values.specs.Holders.{NoExtension, plain_env}
-pub use Rattle.evaluations.specs.Evaluator.{evaluator_ops}
-pub use Rattle.evaluations.specs.Laws.{is_closed}
+pub use Rattle.semantics_eval.specs.Evaluator.{evaluator_ops}
+pub use Rattle.semantics_eval.specs.Laws.{is_closed}
 pub use Rattle.cedar_evaluator.specs.Laws.{HasValue, IsDecided}
 pub use Rattle.cedar_evaluator.specs.Outcomes.{meaning_of, result_of}
 pub use Rattle.cedar_evaluator.specs.declared.fault.EvalFault.TheVariants.{Open, WrongType, Overflow, Missing, Store}

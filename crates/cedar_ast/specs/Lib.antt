@@ -16,10 +16,10 @@ pub use Rattle.cedar_exprs.specs.MadeNode
 pub use Rattle.cedar_exprs.specs.RecordPairs
 pub use Rattle.cedar_exprs.specs.Refusals
 pub use Rattle.cedar_exprs.specs.RestrictedExprs
-pub use Rattle.cedar_value_trees.specs.BareValue
-pub use Rattle.cedar_value_trees.specs.ValueExpr
-pub use Rattle.cedar_value_trees.specs.ValueOrder
-pub use Rattle.cedar_value_trees.specs.ValueTypes
+pub use Rattle.semantics_values.specs.BareValue
+pub use Rattle.semantics_values.specs.ValueExpr
+pub use Rattle.semantics_values.specs.ValueOrder
+pub use Rattle.semantics_values.specs.ValueTypes
 pub use Rattle.cedar_values.specs.BareCalls
 pub use Rattle.cedar_values.specs.BareValues
 pub use Rattle.cedar_values.specs.BoundedTexts

@@ -3,7 +3,7 @@ use crate::fault::{CaseFault, expect};
 use crate::stopwatch::Stopwatch;
 use crate::trees::{Leaves, bound_to, comparisons, sums};
 use cedar_exprs::Expr;
-use cedar_simplifier::{Part, simplify};
+use cedar_simplifier::{Simplified, simplify};
 use cedar_values::Value;
 use std::alloc::{AllocError, Global};
 use std::collections::HashMap;
@@ -51,7 +51,7 @@ fn simplified(
     rest: Rest,
     expr: &Expr,
     values: &HashMap<RcStr, Value>,
-) -> Result<Part, CaseFault> {
+) -> Result<Simplified, CaseFault> {
     let part = simplify(alloc, expr, values)?;
     expect(part.is_known() == matches!(rest, Rest::Closed))?;
     Ok(part)

@@ -50,7 +50,7 @@ pub fn bound_to<V: Drop>(alloc: Global, value: V) -> Result<HashMap<RcStr, V>, A
 
 /// A full tree of `+`, of which every second node is a leaf.
 pub fn sums(alloc: Global, leaves: Leaves, nodes: usize) -> Result<Expr, CaseFault> {
-    only(
+    tree_of_level(
         alloc,
         make_leaves(alloc, leaves, nodes / 2 + 1)?,
         Level::Pairs(BinaryOp::Add),
@@ -62,7 +62,7 @@ pub fn comparisons(alloc: Global, nodes: usize) -> Result<Expr, CaseFault> {
     let leaves = make_leaves(alloc, Leaves::Untyped, nodes / 2 + 1)?;
     let sums = by_two(alloc, leaves, BinaryOp::Add)?;
     let tests = by_two(alloc, sums, BinaryOp::Less)?;
-    only(alloc, tests, Level::Pairs(BinaryOp::Eq))
+    tree_of_level(alloc, tests, Level::Pairs(BinaryOp::Eq))
 }
 
 /// A set of leaves.
@@ -74,14 +74,14 @@ pub fn set(alloc: Global, nodes: usize) -> Result<Expr, CaseFault> {
 /// Records of ten records each, and so on.
 pub fn records(alloc: Global, nodes: usize) -> Result<Expr, CaseFault> {
     let leaves = make_leaves(alloc, Leaves::Untyped, nodes - nodes / 10)?;
-    only(alloc, leaves, Level::Records)
+    tree_of_level(alloc, leaves, Level::Records)
 }
 
 /// Records of ten, of which the first, the third and so on is asked for its attribute k3, and any
 /// other whether it has it; ten of these in a record, and so on.
 pub fn questions(alloc: Global, nodes: usize) -> Result<Expr, CaseFault> {
     let leaves = make_leaves(alloc, Leaves::Untyped, nodes - nodes / 11 * 2)?;
-    only(alloc, leaves, Level::Questions)
+    tree_of_level(alloc, leaves, Level::Questions)
 }
 
 /// A chain of `!` over the unknown x.
@@ -132,7 +132,7 @@ fn number(number: usize) -> Result<Expr, CaseFault> {
 }
 
 // What is left of the expressions when level after level was made of them until there is one.
-fn only(alloc: Global, leaves: Vec<Expr>, level: Level) -> Result<Expr, CaseFault> {
+fn tree_of_level(alloc: Global, leaves: Vec<Expr>, level: Level) -> Result<Expr, CaseFault> {
     let mut exprs = leaves;
     for _ in 0..usize::BITS {
         if exprs.len() > 1 {

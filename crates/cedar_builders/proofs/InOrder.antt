@@ -1,4 +1,4 @@
--- Pairs with distinct keys that are put to their places one by one are the same pairs, and their keys rise.
+-- Pairs with distinct keys that are put to their places one by one are the same pairs, and their keys ascend.
 use Rattle.std.proofs.Common.{◌≡◌, List, [], ◌∷◌, ◌++◌, fold, Bool, true, false, not, Less, Equal, Greater, nat_cmp, refl, ap, sym, ◌∙◌, subst, append-nil, IsTrue}
 use Rattle.std.specs.Prelude.{IsPermutation}
 use Rattle.std.specs.Ordering.{match_ordering, is_eq, ordering_reverse}
@@ -9,7 +9,7 @@ use Rattle.std.proofs.Math.Bool.{and-eq-true_iff}
 use Rattle.std.proofs.lemmas.Bool.{false≢true}
 use Rattle.std.proofs.lemmas.List.Sorted.{IsPermutation-refl, IsPermutation-sym, IsPermutation-trans, IsPermutation-cons, IsPermutation-middle, IsPermutation-append_right}
 use Rattle.cedar_builders.specs.BareExpr.{Text}
-use Rattle.cedar_builders.specs.Keys.{is_among, are_distinct, IsRising, in_key_order, IsInKeyOrder}
+use Rattle.cedar_builders.specs.Keys.{is_among, are_distinct, IsAscending, in_key_order, IsInKeyOrder}
 use Rattle.cedar_builders.proofs.DistinctKeys.{texts, same, put, among-put, or_none}
 
 -- whether a key is below those of a list
@@ -38,14 +38,14 @@ module _ {A : Type 0} where
         | Greater ↦ (below.0, put_below k es p below.1 h)
       ]
 
-  put_rises : (es : List (Text × A)) (p : Text × A) → IsRising (texts es) → IsRising (texts (put es p))
+  put_ascends : (es : List (Text × A)) (p : Text × A) → IsAscending (texts es) → IsAscending (texts (put es p))
   unfolding IsStrictlySortedBy
-  put_rises [] p h = (tt, tt)
-  put_rises (e ∷ es) p h =
-      elim (slice_cmp nat_cmp p.0 e.0) as (λ o. slice_cmp nat_cmp p.0 e.0 ≡ o → IsRising (texts (match_ordering o (p ∷ e ∷ es) ((e.0, p.1) ∷ es) (e ∷ put es p)))) [
+  put_ascends [] p h = (tt, tt)
+  put_ascends (e ∷ es) p h =
+      elim (slice_cmp nat_cmp p.0 e.0) as (λ o. slice_cmp nat_cmp p.0 e.0 ≡ o → IsAscending (texts (match_ordering o (p ∷ e ∷ es) ((e.0, p.1) ∷ es) (e ∷ put es p)))) [
         | Less ↦ λ is. ((is, below_all p.0 e.0 (texts es) is h.0), h)
         | Equal ↦ λ is. h
-        | Greater ↦ λ is. (put_below e.0 es p h.0 (nat_list_cmp_total.antisymm e.0 p.0 ∙ ap ordering_reverse is), put_rises es p h.1)
+        | Greater ↦ λ is. (put_below e.0 es p h.0 (nat_list_cmp_total.antisymm e.0 p.0 ∙ ap ordering_reverse is), put_ascends es p h.1)
       ] refl
 
   -- a pair whose key is new is added
@@ -68,9 +68,9 @@ module _ {A : Type 0} where
       let differ : same k p.0 ≡ false = nat_list_eq_equiv.symm k p.0 ∙ parts.0 in
       (among-put k es p ∙ rw (differ, apart.0) refl, apart_put ks es p parts.1 apart.1)
 
-  put_all_rise : (es ps : List (Text × A)) → IsRising (texts es) → IsRising (texts (fold put es ps))
-  put_all_rise es [] h = h
-  put_all_rise es (p ∷ ps) h = put_all_rise (put es p) ps (put_rises es p h)
+  put_all_ascend : (es ps : List (Text × A)) → IsAscending (texts es) → IsAscending (texts (fold put es ps))
+  put_all_ascend es [] h = h
+  put_all_ascend es (p ∷ ps) h = put_all_ascend (put es p) ps (put_ascends es p h)
 
   put_all_same : (es ps : List (Text × A)) → IsTrue (are_distinct (texts ps)) → Apart (texts ps) (texts es) → IsPermutation (ps ++ es) (fold put es ps)
   put_all_same es [] h apart = IsPermutation-refl es
@@ -88,5 +88,5 @@ module _ {A : Type 0} where
   unfolding IsStrictlySortedBy
   pairs_in_key_order ps h = record {
     same = subst (λ qs. IsPermutation qs (in_key_order ps)) (append-nil ps) (put_all_same [] ps h (apart_none (texts ps)));
-    rises = put_all_rise [] ps tt;
+    ascends = put_all_ascend [] ps tt;
   }

@@ -1,4 +1,4 @@
--- Pairs whose keys rise, and keys of which one stands twice.
+-- Pairs whose keys ascend, and keys of which one stands twice.
 use Rattle.std.proofs.Common.{◌≡◌, List, [], ◌∷◌, ◌++◌, fold, Bool, true, false, not, ◌&&◌, ◌||◌, Less, Greater, nat_cmp, refl, ap, sym, ◌∙◌, subst, append_assoc, append-nil}
 use Rattle.std.specs.Ordering.{is_eq, ordering_reverse}
 use Rattle.std.specs.List.{AllByRecursion}
@@ -7,7 +7,7 @@ use Rattle.std.specs.Cmp.Lexicographic.{slice_cmp, nat_list_eq_equiv, nat_list_c
 use Rattle.std.proofs.lemmas.Bool.{false≢true}
 use Rattle.std.proofs.lemmas.List.Folds.{list_any-append}
 use Rattle.cedar_builders.specs.BareExpr.{Text}
-use Rattle.cedar_builders.specs.Keys.{is_among, are_distinct, IsRising, HasRepeat, in_key_order, IsFirstRepeat}
+use Rattle.cedar_builders.specs.Keys.{is_among, are_distinct, IsAscending, HasRepeat, in_key_order, IsFirstRepeat}
 use Rattle.cedar_builders.specs.Errors.{key_of, OnDuplicateKey}
 use Rattle.cedar_builders.specs.declared.expression_construction_errors.ExpressionConstructionError.{ExpressionConstructionError}
 use Rattle.cedar_builders.specs.declared.expression_construction_errors.ExpressionConstructionError.TheVariants.{DuplicateKey, Memory}
@@ -45,16 +45,16 @@ absent k (l ∷ ks) h =
     let differ : same k l ≡ false = texts_ties k l ∙ ap is_eq h.0 in
     rw (differ, absent k ks h.1) refl
 
--- keys that rise are distinct
-rising_distinct : (ks : List Text) → IsRising ks → are_distinct ks ≡ true
+-- keys that ascend are distinct
+ascending_distinct : (ks : List Text) → IsAscending ks → are_distinct ks ≡ true
 unfolding IsStrictlySortedBy
-rising_distinct [] h = refl
-rising_distinct (k ∷ ks) h = rw (absent k ks h.0, rising_distinct ks h.1) refl
+ascending_distinct [] h = refl
+ascending_distinct (k ∷ ks) h = rw (absent k ks h.0, ascending_distinct ks h.1) refl
 
--- keys that rise are never refused as duplicates
-pub rising_accepted : (ks : List Text) (e : ExpressionConstructionError) → OnDuplicateKey (λ d. IsFirstRepeat ks (key_of d)) e → IsRising ks → e ≡ Memory
-rising_accepted ks (DuplicateKey d) r h = absurd (false≢true (sym (first_repeats ks (key_of d) r) ∙ rising_distinct ks h))
-rising_accepted ks Memory r h = refl
+-- keys that ascend are never refused as duplicates
+pub ascending_accepted : (ks : List Text) (e : ExpressionConstructionError) → OnDuplicateKey (λ d. IsFirstRepeat ks (key_of d)) e → IsAscending ks → e ≡ Memory
+ascending_accepted ks (DuplicateKey d) r h = absurd (false≢true (sym (first_repeats ks (key_of d) r) ∙ ascending_distinct ks h))
+ascending_accepted ks Memory r h = refl
 
 -- a refusal means that some key stands twice
 pub repeat_found : (ks : List Text) (e : ExpressionConstructionError) → OnDuplicateKey (λ d. IsFirstRepeat ks (key_of d)) e → OnDuplicateKey (λ d. HasRepeat ks) e
@@ -66,19 +66,19 @@ module _ {A : Type 0} where
   below_later k [] p more h = h.0
   below_later k (d ∷ done) p more h = below_later k done p more h.1
 
-  push_last : (done : List (Text × A)) (p : Text × A) (more : List (Text × A)) → IsRising (texts (done ++ (p ∷ more))) → put done p ≡ done ++ (p ∷ [])
+  push_last : (done : List (Text × A)) (p : Text × A) (more : List (Text × A)) → IsAscending (texts (done ++ (p ∷ more))) → put done p ≡ done ++ (p ∷ [])
   unfolding IsStrictlySortedBy
   push_last [] p more h = refl
   push_last (d ∷ done) p more h =
       let above : slice_cmp nat_cmp p.0 d.0 ≡ Greater = nat_list_cmp_total.antisymm p.0 d.0 ∙ ap ordering_reverse (below_later d.0 done p more h.0) in
       rw above (ap (λ es. d ∷ es) (push_last done p more h.1))
 
-  kept_from : (done ps : List (Text × A)) → IsRising (texts (done ++ ps)) → fold put done ps ≡ done ++ ps
+  kept_from : (done ps : List (Text × A)) → IsAscending (texts (done ++ ps)) → fold put done ps ≡ done ++ ps
   kept_from done [] h = sym (append-nil done)
   kept_from done (p ∷ ps) h =
       ap (λ es. fold put es ps) (push_last done p ps h)
-      ∙ (kept_from (done ++ (p ∷ [])) ps (subst (λ es. IsRising (texts es)) (sym (append_assoc done (p ∷ []) ps)) h) ∙ append_assoc done (p ∷ []) ps)
+      ∙ (kept_from (done ++ (p ∷ [])) ps (subst (λ es. IsAscending (texts es)) (sym (append_assoc done (p ∷ []) ps)) h) ∙ append_assoc done (p ∷ []) ps)
 
-  -- pairs whose keys rise are in the order of their keys
-  pub rising_kept : (ps : List (Text × A)) → IsRising (texts ps) → in_key_order ps ≡ ps
-  rising_kept ps h = kept_from [] ps h
+  -- pairs whose keys ascend are in the order of their keys
+  pub ascending_kept : (ps : List (Text × A)) → IsAscending (texts ps) → in_key_order ps ≡ ps
+  ascending_kept ps h = kept_from [] ps h

@@ -19,8 +19,8 @@ abbrev pub meant_pairs : {A M : Type 0} → (A → M) → List (RcStr Global × 
 meant_pairs f = map (λ p. (rc_str_bytes p.0, f p.1))
 
 -- each key is below those behind it, by bytes
-abbrev pub IsRising : List Text → Type 0
-IsRising = IsStrictlySortedBy (slice_cmp nat_cmp)
+abbrev pub IsAscending : List Text → Type 0
+IsAscending = IsStrictlySortedBy (slice_cmp nat_cmp)
 
 -- whether a key is one of these
 abbrev pub is_among : Text → List Text → Bool
@@ -43,10 +43,10 @@ keyed = map (λ p. (rc_str_bytes p.0, p.1))
 abbrev pub in_key_order : {A : Type 0} → List (Text × A) → List (Text × A)
 in_key_order ps = fold (λ es p. insert_entry (slice_cmp nat_cmp) es p.0 p.1) [] ps
 
--- they are the same pairs, and their keys rise
+-- they are the same pairs, and their keys ascend
 pub record IsInKeyOrder {A : Type 0} (ps es : List (Text × A)) : Type 0 where
   pub same : IsPermutation ps es
-  pub rises : IsRising (map (λ e. e.0) es)
+  pub ascends : IsAscending (map (λ e. e.0) es)
 
 -- the first key that stands behind an equal one
 pub record IsFirstRepeat (ks : List Text) (k : Text) : Type 0 where

@@ -9,7 +9,7 @@ pub mod Lawful
 pub mod Laws
 pub mod TypeClash
 pub mod Keys
-pub mod RisingKeys
+pub mod AscendingKeys
 pub mod Errors
 pub mod SubstitutionErrors
 pub mod Answers

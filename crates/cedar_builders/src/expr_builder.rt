@@ -11,7 +11,7 @@ ghost use Rattle.cedar_terms.specs.declared.ops.BinaryOp.{BinaryOp};
 ghost use Rattle.cedar_terms.specs.Unknowns.{bare_unknown};
 ghost use Rattle.cedar_builders.specs.Ops.{Ops};
 ghost use Rattle.cedar_builders.specs.Lawful.{Lawful};
-ghost use Rattle.cedar_builders.specs.Keys.{keys_of, meant_pairs, IsRising, HasRepeat};
+ghost use Rattle.cedar_builders.specs.Keys.{keys_of, meant_pairs, IsAscending, HasRepeat};
 ghost use Rattle.cedar_builders.specs.Errors.{OnDuplicateKey};
 ghost use Rattle.cedar_builders.specs.Answers.{Gives, Means};
 ghost use Rattle.cedar_builders.specs.BuildFaults.{build_fault_text};
@@ -278,7 +278,7 @@ pub trait ExprBuilder: Sized + Drop {
         ensures { is_new self
             → Means meaning_of (ops.set_of (map meaning_of members.items)) result };
 
-    /// A record by its keys and values. Pairs whose keys rise strictly, by bytes, are always
+    /// A record by its keys and values. Pairs whose keys ascend strictly, by bytes, are always
     /// accepted; a builder may refuse others with `DuplicateKey`, where a key stands twice.
     fn record(
         self,
@@ -286,9 +286,9 @@ pub trait ExprBuilder: Sized + Drop {
         pairs: Vec<(RcStr, Self::Expr)>,
     ) -> Result<Self::Expr, ExpressionConstructionError>
         ensures means { is_new self
-            → IsRising (keys_of pairs.items)
+            → IsAscending (keys_of pairs.items)
             → Means meaning_of (ops.record_of (meant_pairs meaning_of pairs.items)) result }
-        ensures accepts { IsRising (keys_of pairs.items) → IfErr result (λ e. e ≡ error.Memory) }
+        ensures accepts { IsAscending (keys_of pairs.items) → IfErr result (λ e. e ≡ error.Memory) }
         ensures refuses { IfErr result (OnDuplicateKey (λ _. HasRepeat (keys_of pairs.items))) };
 
     /// `expr has attr`: whether an entity or a record has the attribute.

@@ -1,6 +1,6 @@
 //! Maps of pairs that come in any order.
 ghost use Rattle.std.specs.Prelude.{◌≡◌, IfOk, IfErr, OnOk, IsTrue, codes};
-ghost use Rattle.cedar_builders.specs.Keys.{keys_of, are_distinct, keyed, in_key_order, IsFirstRepeat, IsRising, HasRepeat};
+ghost use Rattle.cedar_builders.specs.Keys.{keys_of, are_distinct, keyed, in_key_order, IsFirstRepeat, IsAscending, HasRepeat};
 ghost use Rattle.cedar_builders.specs.Errors.{key_of, context_of, OnDuplicateKey};
 ghost use Rattle.cedar_builders.specs.declared.expression_construction_errors.ExpressionConstructionError.TheVariants as error;
 
@@ -25,9 +25,9 @@ pub fn collect_distinct<A: Drop>(
     ensures repeats { IfErr result (OnDuplicateKey (λ _. HasRepeat (keys_of pairs.items))) }
 
     // Pairs that come in order stay as they come.
-    ensures kept { IsRising (keys_of pairs.items)
+    ensures kept { IsAscending (keys_of pairs.items)
         → IfOk result (λ m. keyed m.entries ≡ keyed pairs.items) }
-    ensures accepts { IsRising (keys_of pairs.items) → IfErr result (λ e. e ≡ error.Memory) }
+    ensures accepts { IsAscending (keys_of pairs.items) → IfErr result (λ e. e ≡ error.Memory) }
 {
     let mut values = BTreeMap::new(alloc);
     for (key, value) in pairs {

@@ -62,7 +62,7 @@ pub fn clash_by_children()
     ensures { ClashByChildren }
 {}
 
-/// Pairs with distinct keys, in the order of their keys: the same pairs, whose keys strictly rise.
+/// Pairs with distinct keys, in the order of their keys: the same pairs, whose keys strictly ascend.
 pub fn pairs_in_key_order<A>(pairs: &[(RcStr, A)])
     ensures { IsTrue (are_distinct (keys_of pairs.now))
         → IsInKeyOrder (keyed pairs.now) (in_key_order (keyed pairs.now)) }

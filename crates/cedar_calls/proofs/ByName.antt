@@ -13,7 +13,7 @@ use Rattle.std.specs.declared.cmp.Ordering.TheVariants.{Less, Equal, Greater}
 use Rattle.cedar_names.specs.NameOrder.{name_cmp, name_eq, name_eq_decides, name_ties}
 use Rattle.cedar_names.specs.Names.{BareName}
 use Rattle.cedar_names.specs.PlainNames.{bare_name}
-use Rattle.cedar_names.specs.declared.plain_name.Name.{Name}
+use Rattle.cedar_names.specs.declared.name.Name.{Name}
 use Rattle.cedar_calls.specs.NameMaps.{stand_by_name}
 
 -- both of two tests
@@ -54,7 +54,7 @@ module _ {V : Type 0} (name_of : V → BareName) where
       placed key v e es (insert_entry (on bare_name name_cmp) es key v) (name_cmp (bare_name key) (bare_name e.0)) own refl all
       (one_more key v es own (both _ _ all).1)
 
-  -- so the names of the values rise as the keys do
+  -- so the names of the values ascend as the keys do
   above : (e : Name × V) (es : List (Name × V)) → bare_name e.0 ≡ name_of e.1
       → AllByRecursion (λ k. name_cmp (bare_name e.0) (bare_name k) ≡ Less) (keys_of es)
       → stand_by_name name_of es ≡ true
@@ -64,14 +64,14 @@ module _ {V : Type 0} (name_of : V → BareName) where
       let other : bare_name f.0 ≡ name_of f.1 = (name_eq_decides (bare_name f.0) (name_of f.1)).0 (both _ _ all).0 in
       ((λ i. name_cmp (sym own i) (sym other i)) ∙ less.0, above e es own less.1 (both _ _ all).1)
 
-  pub values_rise : (es : List (Name × V)) → stand_by_name name_of es ≡ true
+  pub values_ascend : (es : List (Name × V)) → stand_by_name name_of es ≡ true
       → IsStrictlySortedBy (on bare_name name_cmp) (keys_of es)
       → IsStrictlySortedBy (on name_of name_cmp) (values_of es)
   unfolding IsStrictlySortedBy
-  values_rise [] all rising = tt
-  values_rise (e ∷ es) all rising =
+  values_ascend [] all ascending = tt
+  values_ascend (e ∷ es) all ascending =
       let own : bare_name e.0 ≡ name_of e.1 = (name_eq_decides (bare_name e.0) (name_of e.1)).0 (both _ _ all).0 in
-      (above e es own rising.0 (both _ _ all).1, values_rise es (both _ _ all).1 rising.1)
+      (above e es own ascending.0 (both _ _ all).1, values_ascend es (both _ _ all).1 ascending.1)
 
   -- and what stands at a name has that name
   found_by_name : (name : BareName) (e : Name × V) (more : Option V) (v : V) (b : Bool)

@@ -7,7 +7,7 @@ use Rattle.std.specs.Ordering.{on}
 use Rattle.cedar_names.specs.NameOrder.{name_cmp, name_eq, name_ties}
 use Rattle.cedar_names.specs.Names.{BareName}
 use Rattle.cedar_names.specs.PlainNames.{bare_name}
-use Rattle.cedar_names.specs.declared.plain_name.Name.{Name}
+use Rattle.cedar_names.specs.declared.name.Name.{Name}
 use Rattle.cedar_calls.specs.NamedFunctions.{last_such}
 use Rattle.cedar_calls.specs.NameMaps.{value_at}
 

@@ -6,7 +6,7 @@ use Rattle.std.specs.declared.cmp.Ord as ord
 use Rattle.std.specs.declared.cmp.PartialEq as eq
 use Rattle.std.specs.declared.cmp.PartialOrd as order
 use Rattle.cedar_names.specs.Names.{BareName}
-use Rattle.cedar_names.specs.declared.plain_name.Name.{Name}
+use Rattle.cedar_names.specs.declared.name.Name.{Name}
 use Rattle.cedar_values.specs.declared.extension_value.ExtensionValue as extension_value
 use Rattle.cedar_calls.specs.NameMaps.{value_at}
 use Rattle.cedar_calls.specs.declared.extension.Extension.{Extension}

@@ -6,7 +6,7 @@ use Rattle.std.specs.declared.cmp.PartialEq as eq
 use Rattle.std.specs.declared.cmp.PartialOrd as order
 use Rattle.cedar_names.specs.Names.{BareName}
 use Rattle.cedar_names.specs.PlainNames.{bare_name}
-use Rattle.cedar_names.specs.declared.plain_name.Name.{Name}
+use Rattle.cedar_names.specs.declared.name.Name.{Name}
 use Rattle.cedar_terms.specs.SchemaTypes.{bare_schema_type, extension_names}
 use Rattle.cedar_terms.specs.declared.schema_type.SchemaType.{SchemaType}
 use Rattle.cedar_values.specs.declared.extension_value.ExtensionValue as values

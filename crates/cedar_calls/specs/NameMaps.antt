@@ -6,7 +6,7 @@ use Rattle.std.specs.Map.{lookup}
 use Rattle.cedar_names.specs.NameOrder.{name_eq}
 use Rattle.cedar_names.specs.Names.{BareName}
 use Rattle.cedar_names.specs.PlainNames.{bare_name}
-use Rattle.cedar_names.specs.declared.plain_name.Name.{Name}
+use Rattle.cedar_names.specs.declared.name.Name.{Name}
 
 -- the value of a map at a name, if there is one
 abbrev pub value_at : {V : Type 0} → BareName → BTreeMap Name V → Option V

@@ -7,7 +7,7 @@ use Rattle.std.specs.declared.cmp.PartialOrd as order
 use Rattle.cedar_names.specs.NameOrder.{name_eq}
 use Rattle.cedar_names.specs.Names.{BareName}
 use Rattle.cedar_names.specs.PlainNames.{bare_name}
-use Rattle.cedar_names.specs.declared.plain_name.Name.{Name}
+use Rattle.cedar_names.specs.declared.name.Name.{Name}
 use Rattle.cedar_values.specs.declared.extension_value.ExtensionValue as values
 use Rattle.cedar_calls.specs.Functions.{bare_name_of}
 use Rattle.cedar_calls.specs.NameMaps.{value_at}

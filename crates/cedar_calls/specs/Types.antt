@@ -6,7 +6,7 @@ use Rattle.cedar_terms.specs.declared.schema_type.SchemaType.{SchemaType}
 use Rattle.cedar_terms.specs.SchemaTypes as schema
 use Rattle.cedar_terms.specs.SchemaTypes.{BareSchemaType, SchemaString, SchemaExtension, bare_schema_type}
 use Rattle.cedar_terms.specs.Types.{BareType}
-use Rattle.cedar_value_trees.specs.ValueTypes.{value_type}
+use Rattle.semantics_values.specs.ValueTypes.{value_type}
 use Rattle.cedar_values.specs.BareValues.{bare_value}
 use Rattle.cedar_values.specs.declared.partial_value.PartialValue.{PartialValue}
 use Rattle.cedar_values.specs.declared.partial_value.PartialValue.TheVariants as partials

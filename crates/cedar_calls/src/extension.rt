@@ -31,7 +31,7 @@ impl<X: ExtensionFunctions> Extension<X> {
     ghost use Rattle.std.specs.List.{flat_map};
     ghost use Rattle.std.specs.List.Sorted.{IsStrictlySortedBy};
     ghost use Rattle.std.specs.Slice.Iter.{iter_rest};
-    ghost use Rattle.sorted_slices.specs.Classes.{IsClassesOf};
+    ghost use Rattle.cedar_sorted_slices.specs.Classes.{IsClassesOf};
     ghost use Rattle.cedar_terms.specs.SchemaTypes.{bare_names};
     ghost use Rattle.cedar_calls.specs.Functions.{ext_types_of};
     ghost use Rattle.cedar_calls.specs.Extensions.{
@@ -55,7 +55,7 @@ impl<X: ExtensionFunctions> Extension<X> {
             (operator_types e) types_with_operator_overloading.items) }
     {
         let functions = by_name(alloc, functions)?;
-        let overloading = sorted_slices::into_rising(types_with_operator_overloading);
+        let overloading = cedar_sorted_slices::into_ascending(types_with_operator_overloading);
         Ok(Extension {
             name,
             functions,
@@ -81,7 +81,7 @@ impl<X: ExtensionFunctions> Extension<X> {
     /// The functions, in the order of their names.
     pub fn funcs(&self) -> Values<'_, Name, ExtensionFunction<X>>
         ensures functions { result ≡ functions_of self.now }
-        ensures rising { IsStrictlySortedBy (on bare_name_of name_cmp) (functions_of self.now) }
+        ensures ascending { IsStrictlySortedBy (on bare_name_of name_cmp) (functions_of self.now) }
     {
         self.functions.values()
     }
@@ -131,13 +131,13 @@ fn by_name<X: ExtensionFunctions>(
 {
     let mut map = BTreeMap::new(alloc);
     for function in functions {
-        put(alloc, &mut map, function)?;
+        insert_new(alloc, &mut map, function)?;
     }
     Ok(map)
 }
 
 // Puts a function at its name, in the place of an earlier one.
-fn put<X: ExtensionFunctions>(
+fn insert_new<X: ExtensionFunctions>(
     alloc: Global,
     map: &mut BTreeMap<Name, ExtensionFunction<X>>,
     function: ExtensionFunction<X>,

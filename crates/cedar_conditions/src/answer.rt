@@ -4,8 +4,8 @@ use crate::place::fault_place;
 use cedar_builders::BuildFault;
 use cedar_evaluator::{EvalFault, evaluate};
 use cedar_exprs::Expr;
+use cedar_parser::{ParseError, SyntaxError, parse_with_values};
 use cedar_printer::policy_text;
-use cedar_reader::{ReadError, SyntaxError, read_with_values};
 use cedar_simplifier::simplify;
 use std::alloc::{AllocError, Global};
 use std::collections::HashMap;
@@ -56,10 +56,10 @@ pub fn evaluate_condition(
     text: &str,
     bindings: &Bindings,
 ) -> Result<Answer, AllocError> {
-    match read_with_values(alloc, text, &bindings.read_as) {
+    match parse_with_values(alloc, text, &bindings.read_as) {
         Ok(expr) => answer_expr(alloc, text, &expr, bindings),
-        Err(ReadError::Syntax(error)) => no_condition(alloc, text, &error),
-        Err(ReadError::Memory) => Err(AllocError),
+        Err(ParseError::Syntax(error)) => no_condition(alloc, text, &error),
+        Err(ParseError::Memory) => Err(AllocError),
     }
 }
 

@@ -94,11 +94,11 @@ impl Bindings {
         match value_of(alloc, &expr)? {
             Some(value) => {
                 let unknown = Expr::unknown(Unknown::new_untyped(name.clone()?));
-                put(&mut self.values, name.clone()?, value)?;
-                put(&mut self.read_as, name, unknown)
+                bind(&mut self.values, name.clone()?, value)?;
+                bind(&mut self.read_as, name, unknown)
             }
             None => {
-                put(&mut self.read_as, name.clone()?, expr)?;
+                bind(&mut self.read_as, name.clone()?, expr)?;
                 drop(self.values.remove(name.as_str()));
                 Ok(())
             }
@@ -142,7 +142,7 @@ fn value_of(alloc: Global, expr: &Expr) -> Result<Option<Value>, AllocError> {
 }
 
 // Puts what a name stands for, in place of an earlier one.
-fn put<V: Drop>(map: &mut HashMap<RcStr, V>, name: RcStr, value: V) -> Result<(), AllocError> {
+fn bind<V: Drop>(map: &mut HashMap<RcStr, V>, name: RcStr, value: V) -> Result<(), AllocError> {
     drop(map.insert(name, value)?);
     Ok(())
 }

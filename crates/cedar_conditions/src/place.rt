@@ -1,6 +1,6 @@
 //! Where a fault comes up.
 use cedar_exprs::{Expr, ExprKind};
-use cedar_reader::Excerpt;
+use cedar_parser::Excerpt;
 use cedar_terms::Literal;
 use std::alloc::{AllocError, Global};
 

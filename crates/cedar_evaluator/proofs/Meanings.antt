@@ -1,11 +1,11 @@
 -- Outcomes by what they mean.
 use Rattle.std.proofs.Common.{◌≡◌, ◌≢◌, Result, Ok, Err, IsOk, IsOkAnd, refl, sym, ap, subst, ◌∙◌}
 use Rattle.std.specs.Result.{ForOk}
-use Rattle.cedar_value_trees.specs.BareValue.{BareValue}
+use Rattle.semantics_values.specs.BareValue.{BareValue}
 use Rattle.cedar_values.specs.BareValues.{bare_value}
 use Rattle.cedar_values.specs.Holders.{NoExtension}
 use Rattle.cedar_values.specs.declared.value.Value.{Value}
-use Rattle.evaluations.specs.Outcomes as meant
+use Rattle.semantics_eval.specs.Outcomes as meant
 use Rattle.cedar_evaluator.specs.Laws.{IsDecided, IsValue}
 use Rattle.cedar_evaluator.specs.Outcomes.{bare_outcome, meaning_of, result_of}
 use Rattle.cedar_evaluator.specs.declared.fault.EvalFault.{EvalFault}

@@ -8,13 +8,13 @@ use Rattle.std.specs.Map.{lookup}
 use Rattle.std.specs.Option.{option_copied}
 use Rattle.std.specs.Rc.{rc_str_bytes}
 use Rattle.std.specs.declared.rc.RcStr.{RcStr}
-use Rattle.sorted_slices.specs.Rising.{and_left, and_right}
+use Rattle.cedar_sorted_slices.specs.Ascending.{and_left, and_right}
 use Rattle.cedar_builders.specs.BareExpr.{Text}
 use Rattle.cedar_builders.specs.Keys.{meant_pairs}
 use Rattle.cedar_values.specs.BareValues.{bare_value}
 use Rattle.cedar_values.specs.declared.value.Value.{Value}
-use Rattle.evaluations.specs.Attributes.{has_path}
-use Rattle.evaluations.specs.Outcomes.{Fault}
+use Rattle.semantics_eval.specs.Attributes.{has_path}
+use Rattle.semantics_eval.specs.Outcomes.{Fault}
 use Rattle.cedar_evaluator.specs.Kinds.{at_key}
 
 module _ {V B : Type 0} where

@@ -2,17 +2,17 @@
 use Rattle.std.proofs.Common.{◌≡◌, false, ◌||◌, List, [], ◌∷◌, map, refl, ap, ◌∙◌}
 use Rattle.std.specs.Cmp.{IsTotalOrder}
 use Rattle.std.specs.declared.cmp.Ordering.{Ordering}
-use Rattle.sorted_slices.specs.Classes.{IsClassesOf}
-use Rattle.sorted_slices.specs.Images.{classes_of_images}
-use Rattle.cedar_value_trees.specs.BareValue.{BareValue, SetValue, values_of}
-use Rattle.cedar_value_trees.specs.ValueExpr.{has_extension, any_has_extension}
-use Rattle.cedar_value_trees.specs.ValueOrder.{value_cmp}
+use Rattle.cedar_sorted_slices.specs.Classes.{IsClassesOf}
+use Rattle.cedar_sorted_slices.specs.Images.{classes_of_images}
+use Rattle.semantics_values.specs.BareValue.{BareValue, SetValue, values_of}
+use Rattle.semantics_values.specs.ValueExpr.{has_extension, any_has_extension}
+use Rattle.semantics_values.specs.ValueOrder.{value_cmp}
 use Rattle.cedar_values.specs.BareValues.{bare_value}
 use Rattle.cedar_values.specs.Sets.{by_tree, members}
 use Rattle.cedar_values.specs.declared.set.Set as set
 use Rattle.cedar_values.specs.declared.value.Value.{Value}
-use Rattle.evaluations.specs.Laws.{IsOneList}
-use Rattle.evaluations.specs.Rows.{set_value}
+use Rattle.semantics_eval.specs.Laws.{IsOneList}
+use Rattle.semantics_eval.specs.Rows.{set_value}
 
 all_plain : {X : Type 0} → ((t : BareValue X) → has_extension t ≡ false)
     → (ts : List (BareValue X)) → any_has_extension (values_of ts) ≡ false

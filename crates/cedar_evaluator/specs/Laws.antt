@@ -6,13 +6,13 @@ use Rattle.cedar_builders.specs.BareExpr.{BareExpr}
 use Rattle.cedar_builders.specs.Environment.{empty, fold}
 use Rattle.cedar_builders.specs.Laws.{both}
 use Rattle.cedar_builders.specs.Ops.{Ops}
-use Rattle.cedar_value_trees.specs.ValueExpr.{value_expr}
+use Rattle.semantics_values.specs.ValueExpr.{value_expr}
 use Rattle.cedar_values.specs.BareValues.{bare_value}
 use Rattle.cedar_values.specs.Holders.{NoExtension, held_call, plain_env}
 use Rattle.cedar_values.specs.ValueMaps.{ValueMap}
 use Rattle.cedar_values.specs.WellFormed.{well_formed}
 use Rattle.cedar_values.specs.declared.value.Value.{Value}
-use Rattle.evaluations.specs.Laws.{is_closed}
+use Rattle.semantics_eval.specs.Laws.{is_closed}
 use Rattle.cedar_evaluator.specs.Outcomes.{result_of}
 use Rattle.cedar_evaluator.specs.declared.fault.EvalFault.TheVariants.{Open}
 use Rattle.cedar_evaluator.specs.declared.outcome.Outcome.{Outcome}

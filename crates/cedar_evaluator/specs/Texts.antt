@@ -3,7 +3,7 @@ use Rattle.std.specs.Prelude.{None, [], Ok, Err, codes}
 use Rattle.cedar_builders.specs.BareExpr.{Text}
 use Rattle.cedar_values.specs.BoundedTexts.{bounded_text}
 use Rattle.cedar_values.specs.Holders.{NoExtension}
-use Rattle.evaluations.specs.Outcomes.{Fault, Outcome, Open, By, WrongType, Overflow, Missing, Store}
+use Rattle.semantics_eval.specs.Outcomes.{Fault, Outcome, Open, By, WrongType, Overflow, Missing, Store}
 
 -- the text of a fault
 abbrev pub fault_text : Fault → Text

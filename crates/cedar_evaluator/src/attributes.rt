@@ -6,8 +6,8 @@ ghost use Rattle.cedar_builders.specs.Fold.{on_one};
 ghost use Rattle.cedar_builders.specs.Keys.{meant_pairs};
 ghost use Rattle.cedar_values.specs.BareValues.{bare_value};
 ghost use Rattle.cedar_values.specs.WellFormed.{well_formed};
-ghost use Rattle.evaluations.specs.Attributes as meant;
-ghost use Rattle.evaluations.specs.Outcomes.{truth};
+ghost use Rattle.semantics_eval.specs.Attributes as meant;
+ghost use Rattle.semantics_eval.specs.Outcomes.{truth};
 ghost use Rattle.cedar_evaluator.specs.Kinds as kinds;
 ghost use Rattle.cedar_evaluator.specs.Outcomes.{bare_fault, faulted};
 

@@ -4,12 +4,12 @@ ghost use Rattle.cedar_names.specs.Names.{BareName};
 ghost use Rattle.cedar_names.specs.PlainNames.{bare_name};
 ghost use Rattle.cedar_builders.specs.Answers.{Gives, Means};
 ghost use Rattle.cedar_builders.specs.Errors.{OnDuplicateKey};
-ghost use Rattle.cedar_builders.specs.Keys.{keys_of, meant_pairs, IsRising, HasRepeat};
+ghost use Rattle.cedar_builders.specs.Keys.{keys_of, meant_pairs, IsAscending, HasRepeat};
 ghost use Rattle.cedar_builders.specs.declared.expression_construction_errors.ExpressionConstructionError.TheVariants as error;
 ghost use Rattle.cedar_values.specs.Holders as held;
-ghost use Rattle.evaluations.specs.Evaluator.{evaluator_lawful, evaluator_ops};
-ghost use Rattle.evaluations.specs.Outcomes as meant;
-ghost use Rattle.evaluations.specs.Rows.{record_outcome, set_outcome};
+ghost use Rattle.semantics_eval.specs.Evaluator.{evaluator_lawful, evaluator_ops};
+ghost use Rattle.semantics_eval.specs.Outcomes as meant;
+ghost use Rattle.semantics_eval.specs.Rows.{record_outcome, set_outcome};
 ghost use Rattle.cedar_evaluator.specs.Outcomes.{meaning_of};
 
 use crate::fault::{CallRefused, EvalFault};
@@ -190,9 +190,9 @@ impl ExprBuilder for Evaluator {
         alloc: Global,
         pairs: Vec<(RcStr, Outcome)>,
     ) -> Result<Outcome, ExpressionConstructionError>
-        ensures means { IsRising (keys_of pairs.items)
+        ensures means { IsAscending (keys_of pairs.items)
             → Means meaning_of (record_outcome (meant_pairs meaning_of pairs.items)) result }
-        ensures accepts { IsRising (keys_of pairs.items) → IfErr result (λ e. e ≡ error.Memory) }
+        ensures accepts { IsAscending (keys_of pairs.items) → IfErr result (λ e. e ≡ error.Memory) }
         ensures refuses { IfErr result (OnDuplicateKey (λ _. HasRepeat (keys_of pairs.items))) }
     {
         match split_pairs(alloc, pairs)? {

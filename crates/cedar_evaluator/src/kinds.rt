@@ -4,11 +4,11 @@ ghost use Rattle.cedar_terms.specs.Entities.{bare_entity_uid};
 ghost use Rattle.cedar_terms.specs.Literals.{bare_literal};
 ghost use Rattle.std.specs.List.{list_all};
 ghost use Rattle.cedar_builders.specs.Keys.{meant_pairs};
-ghost use Rattle.cedar_value_trees.specs.BareValue.{LitValue};
+ghost use Rattle.semantics_values.specs.BareValue.{LitValue};
 ghost use Rattle.cedar_values.specs.BareValues.{bare_value};
 ghost use Rattle.cedar_values.specs.Sets.{members};
 ghost use Rattle.cedar_values.specs.WellFormed.{set_well_formed, well_formed};
-ghost use Rattle.evaluations.specs.Outcomes.{truth_of};
+ghost use Rattle.semantics_eval.specs.Outcomes.{truth_of};
 ghost use Rattle.cedar_evaluator.specs.Kinds.{entity_of, long_of, members_of, pairs_in, text_of};
 
 use cedar_terms::{EntityUID, Integer, Literal};

@@ -7,7 +7,7 @@ use crate::evaluator::Evaluator;
 use cedar_builders::ExprBuilder;
 use cedar_values::NoExtension;
 use cedar_values::laws::{maps_bind_plain_values, no_extension_values, well_formed_parts};
-use evaluations::laws as outcomes;
+use semantics_eval::laws as outcomes;
 
 /// The expression of a well formed value evaluates to that value: `to_expr` and then
 /// `try_into_expr::<Evaluator>` give it back.

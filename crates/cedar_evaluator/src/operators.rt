@@ -6,20 +6,20 @@ ghost use Rattle.cedar_terms.specs.declared.ops.UnaryOp.TheVariants as unary;
 ghost use Rattle.cedar_terms.specs.declared.ops.BinaryOp.TheVariants as binary;
 ghost use Rattle.cedar_values.specs.BareValues.{bare_value};
 ghost use Rattle.cedar_values.specs.WellFormed.{well_formed};
-ghost use Rattle.evaluations.specs.Attributes.{is_in, like_in};
-ghost use Rattle.evaluations.specs.Longs.{long};
-ghost use Rattle.evaluations.specs.Operators.{apply_one, apply_two};
-ghost use Rattle.evaluations.specs.Outcomes.{settled};
+ghost use Rattle.semantics_eval.specs.Attributes.{is_in, like_in};
+ghost use Rattle.semantics_eval.specs.Longs.{long};
+ghost use Rattle.semantics_eval.specs.Operators.{apply_one, apply_two};
+ghost use Rattle.semantics_eval.specs.Outcomes.{settled};
 ghost use Rattle.cedar_evaluator.specs.Kinds.{longs_of, tested};
 ghost use Rattle.cedar_evaluator.specs.Outcomes.{faulted, literal_outcome};
 
 use crate::fault::EvalFault;
 use crate::kinds::{as_bool, as_entity, as_long, as_set, as_text};
+use cedar_sorted_slices::laws::{none_is_any, part_is_all};
 use cedar_terms::{BinaryOp, EntityType, Integer, Literal, Pattern, UnaryOp};
 use cedar_values::Value;
 use cedar_values::laws::order_of_values;
-use evaluations::laws::longs_fit;
-use sorted_slices::laws::{none_is_any, part_is_all};
+use semantics_eval::laws::longs_fit;
 
 // A test of a value: it fails where the value has the wrong type.
 pub(crate) fn test<X>(answer: Option<bool>) -> Result<Literal, EvalFault>

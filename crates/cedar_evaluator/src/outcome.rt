@@ -34,12 +34,12 @@ impl Outcome {
     ghost use Rattle.std.specs.Prelude.{Ok, Err, map};
     ghost use Rattle.std.specs.Rc.{rc_str_bytes};
     ghost use Rattle.cedar_values.specs.BareValues.{bare_value};
-    ghost use Rattle.cedar_value_trees.specs.BareValue.{LitValue};
+    ghost use Rattle.semantics_values.specs.BareValue.{LitValue};
     ghost use Rattle.cedar_terms.specs.Literals.{bare_literal};
     ghost use Rattle.cedar_terms.specs.Entities.{bare_entity_type};
-    ghost use Rattle.evaluations.specs.Attributes.{get_in, has_path as path_in, is_in, like_in};
-    ghost use Rattle.evaluations.specs.Operators.{apply_one as one, apply_two as two};
-    ghost use Rattle.evaluations.specs.Outcomes.{as_truth, strict, strict_two};
+    ghost use Rattle.semantics_eval.specs.Attributes.{get_in, has_path as path_in, is_in, like_in};
+    ghost use Rattle.semantics_eval.specs.Operators.{apply_one as one, apply_two as two};
+    ghost use Rattle.semantics_eval.specs.Outcomes.{as_truth, strict, strict_two};
     ghost use Rattle.cedar_evaluator.specs.Outcomes.{
       bare_fault,
       faulted,

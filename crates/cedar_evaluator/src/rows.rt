@@ -3,20 +3,20 @@ ghost use Rattle.std.specs.Prelude.{◌≡◌, IfOk, IsTrue, OnOk, map};
 ghost use Rattle.std.specs.BTreeMap.{insert_entry};
 ghost use Rattle.std.specs.List.{list_all};
 ghost use Rattle.cedar_builders.specs.Fold.{on_one};
-ghost use Rattle.cedar_builders.specs.Keys.{IsRising, keys_of, meant_pairs};
-ghost use Rattle.cedar_value_trees.specs.BareValue.{RecordValue, pairs_of};
+ghost use Rattle.cedar_builders.specs.Keys.{IsAscending, keys_of, meant_pairs};
+ghost use Rattle.semantics_values.specs.BareValue.{RecordValue, pairs_of};
 ghost use Rattle.cedar_values.specs.BareValues.{bare_value};
 ghost use Rattle.cedar_values.specs.Records.{key_cmp};
 ghost use Rattle.cedar_values.specs.WellFormed.{well_formed};
-ghost use Rattle.evaluations.specs.Rows.{all_pairs, all_values, set_value};
+ghost use Rattle.semantics_eval.specs.Rows.{all_pairs, all_values, set_value};
 ghost use Rattle.cedar_evaluator.specs.Outcomes.{faulted, meaning_of};
 
 use crate::fault::EvalFault;
 use crate::outcome::Outcome;
-use cedar_value_trees::laws::values_are_ordered;
 use cedar_values::laws::{no_extension_values, values_by_kind};
 use cedar_values::{NoExtension, Set, Value, ValueKind};
-use evaluations::laws::one_list;
+use semantics_eval::laws::one_list;
+use semantics_values::laws::values_are_ordered;
 use std::alloc::{AllocError, Global};
 use std::collections::BTreeMap;
 use std::rc::{Rc, RcStr};
@@ -82,12 +82,12 @@ pub(crate) fn split_pairs(
     Ok(Ok(pairs))
 }
 
-/// The record of some pairs whose keys rise, by bytes.
+/// The record of some pairs whose keys ascend, by bytes.
 pub fn record_of(
     alloc: Global,
     pairs: Vec<(RcStr, Value<NoExtension>)>,
 ) -> Result<Value<NoExtension>, AllocError>
-    ensures tree { IsRising (keys_of pairs.items) → IfOk result (λ v. bare_value v
+    ensures tree { IsAscending (keys_of pairs.items) → IfOk result (λ v. bare_value v
         ≡ RecordValue (pairs_of (meant_pairs bare_value pairs.items))) }
     ensures well_formed { IsTrue
         (list_all (λ p. well_formed ⟦<NoExtension as Ord>⟧.cmp p.1) pairs.items)
@@ -103,7 +103,7 @@ fn by_key(
     alloc: Global,
     pairs: Vec<(RcStr, Value<NoExtension>)>,
 ) -> Result<BTreeMap<RcStr, Value<NoExtension>>, AllocError>
-    ensures same { IsRising (keys_of pairs.items) → IfOk result (λ m. m.entries ≡ pairs.items) }
+    ensures same { IsAscending (keys_of pairs.items) → IfOk result (λ m. m.entries ≡ pairs.items) }
     ensures well_formed { IsTrue
         (list_all (λ p. well_formed ⟦<NoExtension as Ord>⟧.cmp p.1) pairs.items)
         → IfOk result (λ m.
@@ -111,13 +111,17 @@ fn by_key(
 {
     let mut values = BTreeMap::new(alloc);
     for (key, value) in pairs {
-        put(&mut values, key, value)?;
+        insert_value(&mut values, key, value)?;
     }
     Ok(values)
 }
 
 // Puts a value to a key.
-fn put<V: Drop>(map: &mut BTreeMap<RcStr, V>, key: RcStr, value: V) -> Result<(), AllocError>
+fn insert_value<V: Drop>(
+    map: &mut BTreeMap<RcStr, V>,
+    key: RcStr,
+    value: V,
+) -> Result<(), AllocError>
     ensures { OnOk result
         (map.new.entries ≡ insert_entry key_cmp map.old.entries key value) }
 {

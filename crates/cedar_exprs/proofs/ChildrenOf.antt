@@ -6,7 +6,7 @@ use Rattle.std.specs.List.{list_all}
 use Rattle.std.specs.declared.rc.Rc.{Rc}
 use Rattle.std.specs.declared.rc.RcStr.{RcStr}
 use Rattle.cedar_names.specs.PlainNames.{bare_name}
-use Rattle.cedar_names.specs.declared.plain_name.Name.{Name}
+use Rattle.cedar_names.specs.declared.name.Name.{Name}
 use Rattle.cedar_terms.specs.Entities.{bare_entity_type}
 use Rattle.cedar_terms.specs.Unknowns.{bare_unknown}
 use Rattle.cedar_terms.specs.declared.entity.EntityType.{EntityType}

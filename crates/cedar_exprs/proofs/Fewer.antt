@@ -2,7 +2,7 @@
 use Rattle.std.proofs.Common.{◌≡◌, ◌+◌, suc, sym, ap, ◌∙◌, arith, Global, List, [], ◌∷◌, BTreeMap, Vec}
 use Rattle.std.specs.declared.rc.Rc.{Rc}
 use Rattle.std.specs.declared.rc.RcStr.{RcStr}
-use Rattle.cedar_names.specs.declared.plain_name.Name.{Name}
+use Rattle.cedar_names.specs.declared.name.Name.{Name}
 use Rattle.cedar_builders.specs.Count.{count, sum, one_more}
 use Rattle.cedar_builders.specs.Walks.{walk_all, walk_fields}
 use Rattle.cedar_builders.specs.BareExpr.{BareExpr}

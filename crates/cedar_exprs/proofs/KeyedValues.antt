@@ -6,7 +6,7 @@ use Rattle.std.specs.List.Sorted.{IsStrictlySortedBy}
 use Rattle.std.specs.Map as map_of
 use Rattle.std.specs.Rc.{rc_str_bytes}
 use Rattle.std.specs.declared.rc.RcStr.{RcStr}
-use Rattle.cedar_builders.specs.Keys.{keys_of, meant_pairs, IsRising}
+use Rattle.cedar_builders.specs.Keys.{keys_of, meant_pairs, IsAscending}
 use Rattle.cedar_builders.specs.NodeByNode.{keyed}
 use Rattle.cedar_exprs.specs.BareExpr.{bare_fields}
 use Rattle.cedar_exprs.specs.declared.expr.Expr.{Expr}
@@ -16,16 +16,16 @@ below_texts : {A : Type 0} (k : RcStr Global) (es : List (RcStr Global × A)) �
 below_texts k [] h = tt
 below_texts k (e ∷ es) h = (h.0, below_texts k es h.1)
 
--- the keys of a map rise as texts
-pub rising_texts : {A : Type 0} (es : List (RcStr Global × A)) → IsStrictlySortedBy text_cmp (map_of.keys_of es) → IsRising (keys_of es)
+-- the keys of a map ascend as texts
+pub ascending_texts : {A : Type 0} (es : List (RcStr Global × A)) → IsStrictlySortedBy text_cmp (map_of.keys_of es) → IsAscending (keys_of es)
 unfolding IsStrictlySortedBy
-rising_texts [] h = tt
-rising_texts (e ∷ es) h = (below_texts e.0 es h.0, rising_texts es h.1)
+ascending_texts [] h = tt
+ascending_texts (e ∷ es) h = (below_texts e.0 es h.0, ascending_texts es h.1)
 
 -- and so do those of pairs with the same keys
-pub rising_pairs : {A B : Type 0} (ps : List (RcStr Global × A)) (es left : List (RcStr Global × B)) → keys_of ps ++ keys_of left ≡ keys_of es → left ≡ [] → IsStrictlySortedBy text_cmp (map_of.keys_of es) → IsRising (keys_of ps)
-rising_pairs ps es left same none sorted =
-    subst IsRising (sym same ∙ ap (λ xs. keys_of ps ++ keys_of xs) none ∙ append-nil (keys_of ps)) (rising_texts es sorted)
+pub ascending_pairs : {A B : Type 0} (ps : List (RcStr Global × A)) (es left : List (RcStr Global × B)) → keys_of ps ++ keys_of left ≡ keys_of es → left ≡ [] → IsStrictlySortedBy text_cmp (map_of.keys_of es) → IsAscending (keys_of ps)
+ascending_pairs ps es left same none sorted =
+    subst IsAscending (sym same ∙ ap (λ xs. keys_of ps ++ keys_of xs) none ∙ append-nil (keys_of ps)) (ascending_texts es sorted)
 
 -- pairs with the keys of a map mean its keys, each with what the pair's value means
 pub meant_keyed : {T X M : Type 0} (f : X → M) (ps : List (RcStr Global × X)) (es : List (RcStr Global × Expr T)) → keys_of ps ≡ keys_of es → meant_pairs f ps ≡ keyed (bare_fields es) (map f (map (λ p. p.1) ps))

@@ -7,12 +7,12 @@ use Rattle.cedar_builders.specs.Count.{count, total, count_is}
 use Rattle.cedar_builders.specs.Fold.{on_one, on_two, and_then}
 use Rattle.cedar_builders.specs.NodeByNode.{gathered, strict_at, IsMadeByNodes}
 use Rattle.cedar_builders.specs.Walks.{children}
-use Rattle.cedar_exprs.specs.Machine.{BareTask, to_visit, to_make, visits, bare_tasks, bare_task, children_of, last_first, Takes, IsPut, IsAnswer, IsBegun}
+use Rattle.cedar_exprs.specs.PostOrder.{BareTask, to_visit, to_make, visits, bare_tasks, bare_task, children_of, last_first, Takes, IsPut, IsAnswer, IsBegun}
 use Rattle.cedar_exprs.specs.BareExpr.{bare_expr}
 use Rattle.cedar_exprs.specs.declared.expr.Expr.{Expr}
-use Rattle.cedar_exprs.specs.declared.machine.Task.{Task}
-use Rattle.cedar_exprs.specs.declared.machine.WalkFault.{WalkFault}
-use Rattle.cedar_exprs.specs.declared.machine.WalkFault.TheVariants.{Refused, Memory}
+use Rattle.cedar_exprs.specs.declared.post_order.Task.{Task}
+use Rattle.cedar_exprs.specs.declared.post_order.PostOrderFault.{PostOrderFault}
+use Rattle.cedar_exprs.specs.declared.post_order.PostOrderFault.TheVariants.{Refused, Memory}
 use Rattle.cedar_exprs.proofs.BareWalks.{children_bare}
 
 -- the steps that tasks still take
@@ -263,7 +263,7 @@ module _ {M F : Type 0} (f : BareExpr → Result M F) where
 
 -- a row whose leaf is refused
 pub refusal_begins : {X R M F : Type 0} (f : BareExpr → Result M F) (g : X → M) (h : R → F) {IsMadeOf : BareExpr → List M → Result M F → Type 0} → IsMadeByNodes f IsMadeOf
-    → (es first later : List BareExpr) (e : BareExpr) (ms : List M) (tasks all : List BareTask) (start done new : List X) (fault : WalkFault R) (answer : Result Unit (WalkFault R))
+    → (es first later : List BareExpr) (e : BareExpr) (ms : List M) (tasks all : List BareTask) (start done new : List X) (fault : PostOrderFault R) (answer : Result Unit (PostOrderFault R))
     → children e ≡ [] → es ≡ first ++ e ∷ later → gathered f first ≡ Ok ms → answer ≡ Err fault → IsPut g h (IsMadeOf e) (length (children e)) done new (Err fault) → IsBegun g h f es tasks all start new answer
 refusal_begins f g h law es first later e ms tasks all start done new (Refused r) answer leaf same given is made =
     subst (IsBegun g h f es tasks all start new) (sym is)
@@ -272,7 +272,7 @@ refusal_begins f g h law es first later e ms tasks all start done new Memory ans
     subst (IsBegun g h f es tasks all start new) (sym is) tt
 
 -- a refusal in a row is the root's
-pub begun_answer : {X R M F : Type 0} (f : BareExpr → Result M F) (root : BareExpr) (g : X → M) (h : R → F) (es : List BareExpr) (tasks new : List BareTask) (done made : List X) (fault : WalkFault R) (answer : Result X (WalkFault R))
+pub begun_answer : {X R M F : Type 0} (f : BareExpr → Result M F) (root : BareExpr) (g : X → M) (h : R → F) (es : List BareExpr) (tasks new : List BareTask) (done made : List X) (fault : PostOrderFault R) (answer : Result X (PostOrderFault R))
     → ((x : F) → gathered f es ≡ Err x → f root ≡ Err x) → answer ≡ Err fault → IsBegun g h f es tasks new done made (Err fault) → IsAnswer g h (f root) answer
 begun_answer f root g h es tasks new done made (Refused r) answer ends is begun = subst (IsAnswer g h (f root)) (sym is) (ends (h r) begun)
 begun_answer f root g h es tasks new done made Memory answer ends is begun = subst (IsAnswer g h (f root)) (sym is) tt
@@ -293,7 +293,7 @@ pub below : {T : Type 0} (all ts : List BareTask) (e : Expr T) → all ≡ ts ++
 below all ts e is = is ∙ ap (λ es. ts ++ reverse (visits es)) (children_bare e)
 
 -- a refusal ends the walk
-pub refusal_ends : {X R M F : Type 0} (f : BareExpr → Result M F) (root : BareExpr) (g : X → M) (h : R → F) (IsMadeOf : List M → Result M F → Type 0) (n : ℕ) (all rest : List X) (fault : WalkFault R) (answer : Result X (WalkFault R))
+pub refusal_ends : {X R M F : Type 0} (f : BareExpr → Result M F) (root : BareExpr) (g : X → M) (h : R → F) (IsMadeOf : List M → Result M F → Type 0) (n : ℕ) (all rest : List X) (fault : PostOrderFault R) (answer : Result X (PostOrderFault R))
     → ((x : F) → Takes n (λ last. IsMadeOf (map g last) (Err x)) all rest → f root ≡ Err x) → answer ≡ Err fault → IsPut g h IsMadeOf n all rest (Err fault) → IsAnswer g h (f root) answer
 refusal_ends f root g h IsMadeOf n all rest (Refused r) answer ends is made = subst (IsAnswer g h (f root)) (sym is) (ends (h r) made)
 refusal_ends f root g h IsMadeOf n all rest Memory answer ends is made = subst (IsAnswer g h (f root)) (sym is) tt

@@ -13,7 +13,7 @@ use Rattle.std.specs.declared.rc.Rc.{Rc}
 use Rattle.std.specs.declared.rc.RcStr.{RcStr}
 use Rattle.cedar_names.specs.NameOrder.{name_cmp}
 use Rattle.cedar_names.specs.PlainNames.{bare_name}
-use Rattle.cedar_names.specs.declared.plain_name.Name.{Name}
+use Rattle.cedar_names.specs.declared.name.Name.{Name}
 use Rattle.cedar_builders.specs.BareExpr.{BareExpr, BareExprs, BareFields}
 use Rattle.cedar_builders.specs.ShapeFeed.{shape_fed, row_fed, fields_fed}
 use Rattle.cedar_builders.specs.Shapes.{◌or_else◌, kind_number, row_count, field_count, shape_cmp, row_cmp, fields_cmp}

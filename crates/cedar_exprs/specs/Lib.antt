@@ -1,7 +1,7 @@
 pub mod BareExpr
-pub mod Machine
+pub mod PostOrder
 pub mod Steps
-pub mod Renewal
+pub mod Substituting
 pub mod ExprData
 pub mod MadeNode
 pub mod RecordPairs

@@ -5,14 +5,14 @@ use Rattle.std.specs.Global.{Global}
 use Rattle.std.specs.declared.rc.Rc.{Rc}
 use Rattle.std.specs.declared.rc.RcStr.{RcStr}
 use Rattle.cedar_builders.specs.Count.{count, count_is}
-use Rattle.dropped_rows.specs.Rows as rows
+use Rattle.cedar_iterative_drop.specs.Rows as rows
 use Rattle.cedar_exprs.specs.BareExpr.{ExprKind, bare_expr, bare_expr_kind}
 use Rattle.cedar_exprs.specs.declared.expr.Expr.{Expr}
-use Rattle.cedar_exprs.specs.declared.below.Below.{Below}
-use Rattle.cedar_exprs.specs.declared.below.Row as below
-use Rattle.cedar_exprs.specs.declared.below.Row.TheVariants as row
+use Rattle.cedar_exprs.specs.declared.subtrees.Subtrees.{Subtrees}
+use Rattle.cedar_exprs.specs.declared.subtrees.Row as below
+use Rattle.cedar_exprs.specs.declared.subtrees.Row.TheVariants as row
 use Rattle.cedar_exprs.specs.declared.expr.KindOf.{KindOf}
-use Rattle.cedar_exprs.specs.declared.dropping.Left.{Left}
+use Rattle.cedar_exprs.specs.declared.dropping.Remaining.{Remaining}
 use Rattle.cedar_exprs.specs.declared.dropping.Step.{Step}
 use Rattle.cedar_exprs.specs.declared.dropping.Step.TheVariants.{Into, On, Watched, Row, End}
 
@@ -39,14 +39,14 @@ row_nodes (row.Items es) = item_nodes es.value.items
 row_nodes (row.Fields es) = field_nodes es.value.entries
 
 -- the nodes of a node with this below it, and of what may wait
-abbrev pub below_nodes : {T : Type 0} → Below T → ℕ
-below_nodes Below.Nothing = 1
-below_nodes (Below.One a) = suc (nodes a.value)
-below_nodes (Below.Two a b) = suc (nodes a.value + nodes b.value)
-below_nodes (Below.Three a b c) = suc (nodes a.value + (nodes b.value + nodes c.value))
-below_nodes (Below.Row r) = suc (row_nodes r)
+abbrev pub below_nodes : {T : Type 0} → Subtrees T → ℕ
+below_nodes Subtrees.Nothing = 1
+below_nodes (Subtrees.One a) = suc (nodes a.value)
+below_nodes (Subtrees.Two a b) = suc (nodes a.value + nodes b.value)
+below_nodes (Subtrees.Three a b c) = suc (nodes a.value + (nodes b.value + nodes c.value))
+below_nodes (Subtrees.Row r) = suc (row_nodes r)
 
-abbrev pub if_row : {T : Type 0} → Option (Below T) → ℕ
+abbrev pub if_row : {T : Type 0} → Option (Subtrees T) → ℕ
 if_row = rows.waiting_nodes below_nodes
 
 -- an expression has a node
@@ -62,7 +62,7 @@ is_leaf (KindOf.Unknown u) = true
 is_leaf _ = false
 
 -- the nodes of all that is left
-abbrev pub all_nodes : {T : Type 0} → Left T → ℕ
+abbrev pub all_nodes : {T : Type 0} → Remaining T → ℕ
 all_nodes l = below_nodes l.below + (if_node l.waiting + if_row l.rows)
 
 -- from k nodes, of n in all: no more nodes and a smaller part, or fewer nodes

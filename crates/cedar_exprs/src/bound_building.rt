@@ -4,14 +4,14 @@ ghost use Rattle.cedar_builders.specs.Answers.{Gives};
 ghost use Rattle.cedar_builders.specs.Environment.{bound, empty, fold};
 ghost use Rattle.cedar_builders.specs.NodeByNode.{IsBuiltOf, fold_by_nodes};
 ghost use Rattle.cedar_exprs.specs.BareExpr.{bare_expr};
-ghost use Rattle.cedar_exprs.specs.Machine.{IsPut};
+ghost use Rattle.cedar_exprs.specs.PostOrder.{IsPut};
 ghost use Rattle.cedar_exprs.specs.RestrictedExprs.{binding_of, env_of};
 
 use crate::building::{Building, build_by};
 use crate::expr::{Expr, ExprKind};
-use crate::machine::{Walk, WalkFault, run};
+use crate::post_order::{PostOrder, PostOrderFault, run};
 use crate::restricted_expr::SubstituteValue;
-use crate::results::put;
+use crate::results::push_item;
 use cedar_builders::{BuildFault, ExprBuilder};
 use std::alloc::Global;
 use std::collections::HashMap;
@@ -49,7 +49,7 @@ struct BoundBuilding<'a, B, V> {
     of: PhantomData<B>,
 }
 
-impl<T, B: ExprBuilder, V: SubstituteValue> Walk<T> for BoundBuilding<'_, B, V> {
+impl<T, B: ExprBuilder, V: SubstituteValue> PostOrder<T> for BoundBuilding<'_, B, V> {
     type Out = B::Expr;
 
     type Refusal = B::BuildError;
@@ -73,7 +73,7 @@ impl<T, B: ExprBuilder, V: SubstituteValue> Walk<T> for BoundBuilding<'_, B, V> 
         alloc: Global,
         node: &Expr<T>,
         done: &mut Vec<B::Expr>,
-    ) -> Result<(), WalkFault<B::BuildError>> {
+    ) -> Result<(), PostOrderFault<B::BuildError>> {
         match binding(self.values, node) {
             Some(value) => build_value::<B, V>(alloc, value, done),
             None => {
@@ -108,12 +108,12 @@ fn build_value<B: ExprBuilder, V: SubstituteValue>(
     alloc: Global,
     value: &V,
     done: &mut Vec<B::Expr>,
-) -> Result<(), WalkFault<B::BuildError>>
+) -> Result<(), PostOrderFault<B::BuildError>>
     ensures { IsPut B.meaning_of B.fault_of
         (λ ms r. r ≡ fold B.ops empty (V.bare_expr_of value.now)) 0
         done.old.items done.new.items result }
 {
     let expr = value.value_expr(alloc)?;
     let built = run(alloc, &Building::<B> { of: PhantomData }, expr.as_expr())?;
-    Ok(put(done, built)?)
+    Ok(push_item(done, built)?)
 }

@@ -7,7 +7,7 @@ ghost use Rattle.cedar_terms.specs.Entities.{bare_entity_type};
 ghost use Rattle.cedar_terms.specs.Literals.{bare_literal, BoolLit};
 ghost use Rattle.cedar_terms.specs.Unknowns.{bare_unknown};
 ghost use Rattle.cedar_builders.specs.BareExpr.{BareExpr, Lit, ExtensionFunctionApp, Set, Record};
-ghost use Rattle.cedar_builders.specs.Keys.{keys_of, are_distinct, meant_pairs, IsRising, HasRepeat, IsFirstRepeat};
+ghost use Rattle.cedar_builders.specs.Keys.{keys_of, are_distinct, meant_pairs, IsAscending, HasRepeat, IsFirstRepeat};
 ghost use Rattle.cedar_builders.specs.Errors.{key_of, context_of, OnDuplicateKey};
 ghost use Rattle.cedar_builders.specs.declared.expression_construction_errors.ExpressionConstructionError.TheVariants as error;
 ghost use Rattle.cedar_builders.specs.Trees.{tree_ops};
@@ -416,10 +416,10 @@ impl<T: Default + Copy> expr_builder::ExprBuilder for ExprBuilder<T> {
             (λ e. context_of e ≡ codes "in record literal")) }
 
         // What the trait asks of every builder.
-        ensures means { IsRising (keys_of pairs.items)
+        ensures means { IsAscending (keys_of pairs.items)
             → IfOk result (λ e.
             bare_expr e ≡ tree_ops.record_of (meant_pairs bare_expr pairs.items)) }
-        ensures accepts { IsRising (keys_of pairs.items) → IfErr result (λ e. e ≡ error.Memory) }
+        ensures accepts { IsAscending (keys_of pairs.items) → IfErr result (λ e. e ≡ error.Memory) }
         ensures refuses { IfErr result (OnDuplicateKey (λ _. HasRepeat (keys_of pairs.items))) }
     {
         let values = collect_distinct(alloc, pairs)?;

@@ -12,11 +12,11 @@ ghost use Rattle.cedar_builders.specs.Answers.{Gives};
 ghost use Rattle.cedar_builders.specs.Environment.{empty, fold, own};
 ghost use Rattle.cedar_builders.specs.NodeByNode.{OfOne, OfTwo, OfThree, IsBuiltOf, keyed, fold_by_nodes};
 ghost use Rattle.cedar_exprs.specs.BareExpr.{bare_expr, bare_fields, further};
-ghost use Rattle.cedar_exprs.specs.Machine.{IsPut};
+ghost use Rattle.cedar_exprs.specs.PostOrder.{IsPut};
 
 use crate::expr::{Expr, ExprKind};
-use crate::machine::{Walk, WalkFault, run};
-use crate::results::{keyed, put, take_many, take_three, take_two};
+use crate::post_order::{PostOrder, PostOrderFault, run};
+use crate::results::{keyed, push_item, take_many, take_three, take_two};
 use cedar_builders::{
     BuildFault, ExprBuilder, ExprBuilderInfallibleBuild, ExpressionConstructionError,
 };
@@ -82,7 +82,7 @@ impl<T> Expr<T> {
 }
 
 // What a walk builds.
-pub(crate) fn build_by<T, W: Walk<T>>(
+pub(crate) fn build_by<T, W: PostOrder<T>>(
     alloc: Global,
     walk: &W,
     expr: &Expr<T>,
@@ -91,8 +91,8 @@ pub(crate) fn build_by<T, W: Walk<T>>(
 {
     match run(alloc, walk, expr) {
         Ok(built) => Ok(built),
-        Err(WalkFault::Refused(error)) => Err(BuildFault::Build(error)),
-        Err(WalkFault::Memory) => Err(BuildFault::Memory),
+        Err(PostOrderFault::Refused(error)) => Err(BuildFault::Build(error)),
+        Err(PostOrderFault::Memory) => Err(BuildFault::Memory),
     }
 }
 
@@ -102,7 +102,7 @@ pub(crate) struct Building<B> {
     pub(crate) of: PhantomData<B>,
 }
 
-impl<T, B: ExprBuilder> Walk<T> for Building<B> {
+impl<T, B: ExprBuilder> PostOrder<T> for Building<B> {
     type Out = B::Expr;
 
     type Refusal = B::BuildError;
@@ -125,7 +125,7 @@ impl<T, B: ExprBuilder> Walk<T> for Building<B> {
         alloc: Global,
         node: &Expr<T>,
         done: &mut Vec<B::Expr>,
-    ) -> Result<(), WalkFault<B::BuildError>> {
+    ) -> Result<(), PostOrderFault<B::BuildError>> {
         let builder = builder_at::<B>(alloc, node.source_loc())?;
         match node.expr_kind() {
             ExprKind::Lit(literal) => build_literal(alloc, builder, literal, done),
@@ -165,14 +165,14 @@ fn build_literal<B: ExprBuilder>(
     builder: B,
     literal: &Literal,
     done: &mut Vec<B::Expr>,
-) -> Result<(), WalkFault<B::BuildError>>
+) -> Result<(), PostOrderFault<B::BuildError>>
     requires { B.is_new builder }
     ensures { IsPut B.meaning_of B.fault_of
         (λ ms r. r ≡ Ok (B.ops.lit_of (bare_literal literal.now))) 0
         done.old.items done.new.items result }
 {
     let built = builder.val(alloc, literal.clone(alloc)?)?;
-    Ok(put(done, built)?)
+    Ok(push_item(done, built)?)
 }
 
 #[inline(never)]
@@ -181,13 +181,13 @@ fn build_var<B: ExprBuilder>(
     builder: B,
     var: Var,
     done: &mut Vec<B::Expr>,
-) -> Result<(), WalkFault<B::BuildError>>
+) -> Result<(), PostOrderFault<B::BuildError>>
     requires { B.is_new builder }
     ensures { IsPut B.meaning_of B.fault_of (λ ms r. r ≡ Ok (B.ops.var_of var)) 0
         done.old.items done.new.items result }
 {
     let built = builder.var(alloc, var)?;
-    Ok(put(done, built)?)
+    Ok(push_item(done, built)?)
 }
 
 #[inline(never)]
@@ -196,13 +196,13 @@ fn build_slot<B: ExprBuilder>(
     builder: B,
     slot: SlotId,
     done: &mut Vec<B::Expr>,
-) -> Result<(), WalkFault<B::BuildError>>
+) -> Result<(), PostOrderFault<B::BuildError>>
     requires { B.is_new builder }
     ensures { IsPut B.meaning_of B.fault_of (λ ms r. r ≡ Ok (B.ops.slot_of slot)) 0
         done.old.items done.new.items result }
 {
     let built = builder.slot(alloc, slot)?;
-    Ok(put(done, built)?)
+    Ok(push_item(done, built)?)
 }
 
 #[inline(never)]
@@ -211,14 +211,14 @@ fn build_unknown<B: ExprBuilder>(
     builder: B,
     unknown: &Unknown,
     done: &mut Vec<B::Expr>,
-) -> Result<(), WalkFault<B::BuildError>>
+) -> Result<(), PostOrderFault<B::BuildError>>
     requires { B.is_new builder }
     ensures { IsPut B.meaning_of B.fault_of
         (λ ms r. r ≡ Ok (B.ops.unknown_of (bare_unknown unknown.now).name
         (bare_unknown unknown.now).annotation)) 0 done.old.items done.new.items result }
 {
     let built = builder.unknown(alloc, unknown.clone(alloc)?)?;
-    Ok(put(done, built)?)
+    Ok(push_item(done, built)?)
 }
 
 #[inline(never)]
@@ -226,7 +226,7 @@ fn build_if<B: ExprBuilder>(
     alloc: Global,
     builder: B,
     done: &mut Vec<B::Expr>,
-) -> Result<(), WalkFault<B::BuildError>>
+) -> Result<(), PostOrderFault<B::BuildError>>
     requires new { B.is_new builder }
     requires room { 3 ≤ vec_len done.old }
     ensures { IsPut B.meaning_of B.fault_of (OfThree B.ops.if_of) 3
@@ -234,7 +234,7 @@ fn build_if<B: ExprBuilder>(
 {
     let (test_expr, then_expr, else_expr) = take_three(done);
     let built = builder.ite(alloc, test_expr, then_expr, else_expr)?;
-    Ok(put(done, built)?)
+    Ok(push_item(done, built)?)
 }
 
 #[inline(never)]
@@ -242,7 +242,7 @@ fn build_and<B: ExprBuilder>(
     alloc: Global,
     builder: B,
     done: &mut Vec<B::Expr>,
-) -> Result<(), WalkFault<B::BuildError>>
+) -> Result<(), PostOrderFault<B::BuildError>>
     requires new { B.is_new builder }
     requires room { 2 ≤ vec_len done.old }
     ensures { IsPut B.meaning_of B.fault_of (OfTwo B.ops.and_of) 2
@@ -250,7 +250,7 @@ fn build_and<B: ExprBuilder>(
 {
     let (left, right) = take_two(done);
     let built = builder.and(alloc, left, right)?;
-    Ok(put(done, built)?)
+    Ok(push_item(done, built)?)
 }
 
 #[inline(never)]
@@ -258,7 +258,7 @@ fn build_or<B: ExprBuilder>(
     alloc: Global,
     builder: B,
     done: &mut Vec<B::Expr>,
-) -> Result<(), WalkFault<B::BuildError>>
+) -> Result<(), PostOrderFault<B::BuildError>>
     requires new { B.is_new builder }
     requires room { 2 ≤ vec_len done.old }
     ensures { IsPut B.meaning_of B.fault_of (OfTwo B.ops.or_of) 2
@@ -266,7 +266,7 @@ fn build_or<B: ExprBuilder>(
 {
     let (left, right) = take_two(done);
     let built = builder.or(alloc, left, right)?;
-    Ok(put(done, built)?)
+    Ok(push_item(done, built)?)
 }
 
 #[inline(never)]
@@ -275,7 +275,7 @@ fn build_unary<B: ExprBuilder>(
     builder: B,
     op: UnaryOp,
     done: &mut Vec<B::Expr>,
-) -> Result<(), WalkFault<B::BuildError>>
+) -> Result<(), PostOrderFault<B::BuildError>>
     requires new { B.is_new builder }
     requires room { 1 ≤ vec_len done.old }
     ensures { IsPut B.meaning_of B.fault_of (OfOne (B.ops.unary_of op)) 1
@@ -283,7 +283,7 @@ fn build_unary<B: ExprBuilder>(
 {
     let child = done.take_last();
     let built = builder.unary_app(alloc, op, child)?;
-    Ok(put(done, built)?)
+    Ok(push_item(done, built)?)
 }
 
 #[inline(never)]
@@ -292,7 +292,7 @@ fn build_binary<B: ExprBuilder>(
     builder: B,
     op: BinaryOp,
     done: &mut Vec<B::Expr>,
-) -> Result<(), WalkFault<B::BuildError>>
+) -> Result<(), PostOrderFault<B::BuildError>>
     requires new { B.is_new builder }
     requires room { 2 ≤ vec_len done.old }
     ensures { IsPut B.meaning_of B.fault_of (OfTwo (B.ops.binary_of op)) 2
@@ -300,7 +300,7 @@ fn build_binary<B: ExprBuilder>(
 {
     let (arg1, arg2) = take_two(done);
     let built = builder.binary_app(alloc, op, arg1, arg2)?;
-    Ok(put(done, built)?)
+    Ok(push_item(done, built)?)
 }
 
 #[inline(never)]
@@ -310,7 +310,7 @@ fn build_call<B: ExprBuilder>(
     fn_name: &Name,
     count: usize,
     done: &mut Vec<B::Expr>,
-) -> Result<(), WalkFault<B::BuildError>>
+) -> Result<(), PostOrderFault<B::BuildError>>
     requires new { B.is_new builder }
     requires room { count ≤ vec_len done.old }
     ensures { IsPut B.meaning_of B.fault_of
@@ -319,9 +319,9 @@ fn build_call<B: ExprBuilder>(
 {
     let args = take_many(done, count)?;
     match builder.call_extension_fn(alloc, fn_name.clone(alloc)?, args) {
-        Ok(call) => Ok(put(done, call)?),
-        Err(BuildFault::Build(error)) => Err(WalkFault::Refused(error)),
-        Err(BuildFault::Memory) => Err(WalkFault::Memory),
+        Ok(call) => Ok(push_item(done, call)?),
+        Err(BuildFault::Build(error)) => Err(PostOrderFault::Refused(error)),
+        Err(BuildFault::Memory) => Err(PostOrderFault::Memory),
     }
 }
 
@@ -331,7 +331,7 @@ fn build_get<B: ExprBuilder>(
     builder: B,
     attr: &RcStr,
     done: &mut Vec<B::Expr>,
-) -> Result<(), WalkFault<B::BuildError>>
+) -> Result<(), PostOrderFault<B::BuildError>>
     requires new { B.is_new builder }
     requires room { 1 ≤ vec_len done.old }
     ensures { IsPut B.meaning_of B.fault_of (OfOne (λ m. B.ops.get_of m (rc_str_bytes attr.now))) 1
@@ -339,7 +339,7 @@ fn build_get<B: ExprBuilder>(
 {
     let child = done.take_last();
     let built = builder.get_attr(alloc, child, attr.clone()?)?;
-    Ok(put(done, built)?)
+    Ok(push_item(done, built)?)
 }
 
 #[inline(never)]
@@ -348,7 +348,7 @@ fn build_has<B: ExprBuilder>(
     builder: B,
     attrs: &NonEmpty<RcStr>,
     done: &mut Vec<B::Expr>,
-) -> Result<(), WalkFault<B::BuildError>>
+) -> Result<(), PostOrderFault<B::BuildError>>
     requires new { B.is_new builder }
     requires room { 1 ≤ vec_len done.old }
     ensures { IsPut B.meaning_of B.fault_of
@@ -357,7 +357,7 @@ fn build_has<B: ExprBuilder>(
 {
     let child = done.take_last();
     let built = builder.extended_has_attr(alloc, child, attrs.clone(alloc)?)?;
-    Ok(put(done, built)?)
+    Ok(push_item(done, built)?)
 }
 
 #[inline(never)]
@@ -366,7 +366,7 @@ fn build_like<B: ExprBuilder>(
     builder: B,
     pattern: &Pattern,
     done: &mut Vec<B::Expr>,
-) -> Result<(), WalkFault<B::BuildError>>
+) -> Result<(), PostOrderFault<B::BuildError>>
     requires new { B.is_new builder }
     requires room { 1 ≤ vec_len done.old }
     ensures { IsPut B.meaning_of B.fault_of (OfOne (λ m. B.ops.like_of m pattern.now)) 1
@@ -374,7 +374,7 @@ fn build_like<B: ExprBuilder>(
 {
     let child = done.take_last();
     let built = builder.like(alloc, child, pattern.clone(alloc)?)?;
-    Ok(put(done, built)?)
+    Ok(push_item(done, built)?)
 }
 
 #[inline(never)]
@@ -383,7 +383,7 @@ fn build_set<B: ExprBuilder>(
     builder: B,
     count: usize,
     done: &mut Vec<B::Expr>,
-) -> Result<(), WalkFault<B::BuildError>>
+) -> Result<(), PostOrderFault<B::BuildError>>
     requires new { B.is_new builder }
     requires room { count ≤ vec_len done.old }
     ensures { IsPut B.meaning_of B.fault_of (λ ms r. r ≡ Ok (B.ops.set_of ms)) count
@@ -391,7 +391,7 @@ fn build_set<B: ExprBuilder>(
 {
     let members = take_many(done, count)?;
     let built = builder.set(alloc, members)?;
-    Ok(put(done, built)?)
+    Ok(push_item(done, built)?)
 }
 
 #[inline(never)]
@@ -400,7 +400,7 @@ fn build_record<B: ExprBuilder, T>(
     builder: B,
     pairs: &BTreeMap<RcStr, Expr<T>>,
     done: &mut Vec<B::Expr>,
-) -> Result<(), WalkFault<B::BuildError>>
+) -> Result<(), PostOrderFault<B::BuildError>>
     requires new { B.is_new builder }
     requires room { length pairs.now.entries ≤ vec_len done.old }
     ensures { IsPut B.meaning_of B.fault_of
@@ -409,9 +409,9 @@ fn build_record<B: ExprBuilder, T>(
 {
     let values = take_many(done, pairs.len())?;
     match builder.record(alloc, keyed(alloc, pairs, values)?) {
-        Ok(record) => Ok(put(done, record)?),
-        Err(ExpressionConstructionError::Memory) => Err(WalkFault::Memory),
-        // The keys of a map rise, and the builder accepts such pairs.
+        Ok(record) => Ok(push_item(done, record)?),
+        Err(ExpressionConstructionError::Memory) => Err(PostOrderFault::Memory),
+        // The keys of a map ascend, and the builder accepts such pairs.
         Err(ExpressionConstructionError::DuplicateKey(_)) => unreachable!(),
     }
 }
@@ -422,7 +422,7 @@ fn build_is<B: ExprBuilder>(
     builder: B,
     entity_type: &EntityType,
     done: &mut Vec<B::Expr>,
-) -> Result<(), WalkFault<B::BuildError>>
+) -> Result<(), PostOrderFault<B::BuildError>>
     requires new { B.is_new builder }
     requires room { 1 ≤ vec_len done.old }
     ensures { IsPut B.meaning_of B.fault_of
@@ -431,5 +431,5 @@ fn build_is<B: ExprBuilder>(
 {
     let child = done.take_last();
     let built = builder.is_entity_type(alloc, child, entity_type.clone(alloc)?)?;
-    Ok(put(done, built)?)
+    Ok(push_item(done, built)?)
 }

@@ -1,7 +1,7 @@
 //! The children of an expression.
 ghost use Rattle.std.specs.Prelude.{◌≡◌, ◌++◌};
 ghost use Rattle.std.specs.Iterator.{YieldsFirstRef, item_count};
-ghost use Rattle.cedar_builders.specs.RisingKeys.{NodeKeysRise};
+ghost use Rattle.cedar_builders.specs.AscendingKeys.{NodeKeysAscend};
 ghost use Rattle.cedar_exprs.specs.BareExpr.{bare_expr};
 ghost use Rattle.cedar_exprs.specs.Walks.{children};
 ghost use Rattle.cedar_exprs.specs.Children.{children_left, few_left, shown};
@@ -33,7 +33,7 @@ pub(crate) struct Few<'a, T> {
 impl<'a, T> Children<'a, T> {
     pub(crate) fn of(expr: &'a Expr<T>) -> Children<'a, T>
         ensures all { children_left result ≡ children expr.now }
-        ensures keys_rise { NodeKeysRise (bare_expr expr.now) }
+        ensures keys_ascend { NodeKeysAscend (bare_expr expr.now) }
     {
         match expr.expr_kind() {
             ExprKind::Lit(_) | ExprKind::Var(_) | ExprKind::Slot(_) | ExprKind::Unknown(_) => {

@@ -1,6 +1,6 @@
 //! How an expression is dropped.
 ghost use Rattle.std.specs.Prelude.{◌≡◌, ℕ, ◌+◌, ◌<◌, ◌≤◌, suc, IfSome};
-ghost use Rattle.dropped_rows.specs.Rows.{IsTaken};
+ghost use Rattle.cedar_iterative_drop.specs.Rows.{IsTaken};
 ghost use Rattle.cedar_exprs.specs.Steps.{
   nodes,
   kind_nodes,
@@ -14,40 +14,40 @@ ghost use Rattle.cedar_exprs.specs.Steps.{
   IsStep,
 };
 
-use crate::below::{Below, Row, drop_leaf, strip};
 use crate::expr::{Expr, ExprKind};
 use crate::row_items::{last_branch, last_branch_value, take_item, take_value};
+use crate::subtrees::{Row, Subtrees, drop_leaf, take_subtrees};
+use cedar_iterative_drop::{LEVELS, Taken};
 use cedar_terms::UnaryOp;
-use dropped_rows::{LEVELS, Taken};
 use std::collections::BTreeMap;
 use std::mem;
 use std::rc::{Rc, RcStr};
 
 // Drops a kind with all that it alone owns.
 pub(crate) fn drop_kind<T: Drop>(kind: ExprKind<T>) {
-    drop_near(strip(kind), LEVELS);
+    drop_near(take_subtrees(kind), LEVELS);
 }
 
 // Drops what stands below a node, as far as it alone owns it: so many levels by recursion, and what
 // is deeper by the loop.
 #[cycle(dropped)]
-fn drop_near<T: Drop>(below: Below<T>, levels: u32) {
+fn drop_near<T: Drop>(below: Subtrees<T>, levels: u32) {
     if levels == 0 {
         return drop_below(below);
     }
     match below {
-        Below::Nothing => {}
-        Below::One(child) => drop_child(child, levels - 1),
-        Below::Two(first, second) => {
+        Subtrees::Nothing => {}
+        Subtrees::One(child) => drop_child(child, levels - 1),
+        Subtrees::Two(first, second) => {
             drop_child(first, levels - 1);
             drop_child(second, levels - 1);
         }
-        Below::Three(first, second, third) => {
+        Subtrees::Three(first, second, third) => {
             drop_child(first, levels - 1);
             drop_child(second, levels - 1);
             drop_child(third, levels - 1);
         }
-        Below::Row(row) => drop_row(row, levels - 1),
+        Subtrees::Row(row) => drop_row(row, levels - 1),
     }
 }
 
@@ -63,7 +63,7 @@ fn drop_child<T: Drop>(child: Rc<Expr<T>>, levels: u32) {
 #[cycle(dropped)]
 #[inline(always)]
 fn drop_node<T: Drop>(node: Expr<T>, levels: u32) {
-    if let Some(below) = node.into_below() {
+    if let Some(below) = node.into_subtrees() {
         drop_near(below, levels);
     }
 }
@@ -76,14 +76,14 @@ fn drop_node<T: Drop>(node: Expr<T>, levels: u32) {
 // node that waits below it. A row (the members of a set, the arguments of a call, the values of a
 // record) waits with the items that it still has: the first of them is the row that waits below it.
 #[cycle(dropped)]
-fn drop_below<T: Drop>(below: Below<T>) {
-    let mut left = Left {
+fn drop_below<T: Drop>(below: Subtrees<T>) {
+    let mut left = Remaining {
         below,
         waiting: None,
         rows: None,
     };
     'down: loop {
-        match enter(left) {
+        match enter_subtrees(left) {
             Step::Into(next) => left = next,
             Step::On(next) => left = next,
             Step::Watched(rest, next) => {
@@ -103,45 +103,45 @@ fn drop_below<T: Drop>(below: Below<T>) {
 }
 
 // What a drop has still to do.
-struct Left<T> {
+struct Remaining<T> {
     // What comes next.
-    below: Below<T>,
+    below: Subtrees<T>,
     // The nodes that wait.
     waiting: Option<Rc<Expr<T>>>,
     // The rows that wait, as the one that is the first of them. Nodes go first.
-    rows: Option<Below<T>>,
+    rows: Option<Subtrees<T>>,
 }
 
 // A step of a drop.
 enum Step<T> {
     // Into a part, beside which the others wait.
-    Into(Left<T>),
+    Into(Remaining<T>),
     // A node is gone.
-    On(Left<T>),
+    On(Remaining<T>),
     // A weak pointer keeps the block of a node, so that the children beside it can't wait there:
     // these, and what is left beside them.
-    Watched(Below<T>, Left<T>),
+    Watched(Subtrees<T>, Remaining<T>),
     // A row that can't wait, and what is left beside it.
-    Row(Row<T>, Option<Left<T>>),
+    Row(Row<T>, Option<Remaining<T>>),
     // Nothing is left.
     End,
 }
 
-fn enter<T: Drop>(left: Left<T>) -> Step<T>
+fn enter_subtrees<T: Drop>(left: Remaining<T>) -> Step<T>
     ensures { IsStep (below_nodes left.below) (all_nodes left) result }
 {
-    let Left {
+    let Remaining {
         below,
         waiting,
         rows,
     } = left;
     match below {
-        Below::Nothing => go_up(waiting, rows),
-        Below::One(child) => go_through(child, waiting, rows),
-        Below::Two(first, second) => go_two(first, second, waiting, rows),
-        Below::Three(first, second, third) => go_three(first, second, third, waiting, rows),
-        Below::Row(Row::Items(items)) => open_items(items, waiting, rows),
-        Below::Row(Row::Fields(fields)) => open_fields(fields, waiting, rows),
+        Subtrees::Nothing => go_up(waiting, rows),
+        Subtrees::One(child) => go_through(child, waiting, rows),
+        Subtrees::Two(first, second) => go_two(first, second, waiting, rows),
+        Subtrees::Three(first, second, third) => go_three(first, second, third, waiting, rows),
+        Subtrees::Row(Row::Items(items)) => open_items(items, waiting, rows),
+        Subtrees::Row(Row::Fields(fields)) => open_fields(fields, waiting, rows),
     }
 }
 
@@ -152,7 +152,7 @@ fn go_three<T: Drop>(
     second: Rc<Expr<T>>,
     third: Rc<Expr<T>>,
     waiting: Option<Rc<Expr<T>>>,
-    rows: Option<Below<T>>,
+    rows: Option<Subtrees<T>>,
 ) -> Step<T>
     ensures { IsStep (suc (nodes first.value + (nodes second.value + nodes third.value)))
         (suc (nodes first.value + (nodes second.value + nodes third.value))
@@ -175,7 +175,7 @@ fn go_two<T: Drop>(
     first: Rc<Expr<T>>,
     second: Rc<Expr<T>>,
     waiting: Option<Rc<Expr<T>>>,
-    rows: Option<Below<T>>,
+    rows: Option<Subtrees<T>>,
 ) -> Step<T>
     ensures { (k n : ℕ) → nodes first.value < k
         → suc (nodes first.value + nodes second.value + (if_node waiting + if_row rows)) ≤ n
@@ -209,7 +209,7 @@ fn unless_leaf<T: Drop>(child: Rc<Expr<T>>) -> Option<Rc<Expr<T>>>
 fn go_through<T: Drop>(
     child: Rc<Expr<T>>,
     waiting: Option<Rc<Expr<T>>>,
-    rows: Option<Below<T>>,
+    rows: Option<Subtrees<T>>,
 ) -> Step<T>
     ensures { (k n : ℕ) → nodes child.value + (if_node waiting + if_row rows) < n
         → IsStep k n result }
@@ -217,11 +217,11 @@ fn go_through<T: Drop>(
     let mut child = child;
     'only: loop {
         match Rc::into_inner(child) {
-            Some(node) => match strip(node.into_parts().0) {
-                Below::Nothing => return go_up(waiting, rows),
-                Below::One(next) => child = next,
+            Some(node) => match take_subtrees(node.into_parts().0) {
+                Subtrees::Nothing => return go_up(waiting, rows),
+                Subtrees::One(next) => child = next,
                 below => {
-                    return Step::On(Left {
+                    return Step::On(Remaining {
                         below,
                         waiting,
                         rows,
@@ -236,7 +236,7 @@ fn go_through<T: Drop>(
 // Into a child, whose block then holds the rest.
 #[inline(never)]
 #[tactic(auto, using(crate::proofs::Fewer::nodes_of, crate::proofs::Fewer::written_node))]
-fn go_down<T: Drop>(child: Rc<Expr<T>>, rest: ExprKind<T>, rows: Option<Below<T>>) -> Step<T>
+fn go_down<T: Drop>(child: Rc<Expr<T>>, rest: ExprKind<T>, rows: Option<Subtrees<T>>) -> Step<T>
     ensures { (k n : ℕ) → nodes child.value < k
         → nodes child.value + kind_nodes rest + if_row rows ≤ n → IsStep k n result }
 {
@@ -244,8 +244,8 @@ fn go_down<T: Drop>(child: Rc<Expr<T>>, rest: ExprKind<T>, rows: Option<Below<T>
     match Rc::get_mut(&mut child) {
         Some(node) => {
             let kind = mem::replace(&mut node.expr_kind, rest);
-            Step::Into(Left {
-                below: strip(kind),
+            Step::Into(Remaining {
+                below: take_subtrees(kind),
                 waiting: Some(child),
                 rows,
             })
@@ -257,21 +257,24 @@ fn go_down<T: Drop>(child: Rc<Expr<T>>, rest: ExprKind<T>, rows: Option<Below<T>
 // As `go_down`, where the child's block can't hold the rest.
 #[inline(never)]
 #[tactic(auto, using(crate::proofs::Fewer::nodes_of))]
-fn go_beside<T: Drop>(child: Rc<Expr<T>>, rest: ExprKind<T>, rows: Option<Below<T>>) -> Step<T>
+fn go_beside<T: Drop>(child: Rc<Expr<T>>, rest: ExprKind<T>, rows: Option<Subtrees<T>>) -> Step<T>
     ensures { (k n : ℕ) → nodes child.value + kind_nodes rest + if_row rows ≤ n
         → IsStep k n result }
 {
     match Rc::into_inner(child) {
-        Some(node) => Step::Watched(strip(rest), only(strip(node.into_parts().0), rows)),
-        None => Step::On(only(strip(rest), rows)),
+        Some(node) => Step::Watched(
+            take_subtrees(rest),
+            remaining(take_subtrees(node.into_parts().0), rows),
+        ),
+        None => Step::On(remaining(take_subtrees(rest), rows)),
     }
 }
 
 // To what waits.
-fn go_up<T: Drop>(waiting: Option<Rc<Expr<T>>>, rows: Option<Below<T>>) -> Step<T>
+fn go_up<T: Drop>(waiting: Option<Rc<Expr<T>>>, rows: Option<Subtrees<T>>) -> Step<T>
     ensures { (k n : ℕ) → if_node waiting + if_row rows < n → IsStep k n result }
 {
-    match go_on(waiting, rows) {
+    match resume_waiting(waiting, rows) {
         Some(left) => Step::On(left),
         None => Step::End,
     }
@@ -279,27 +282,30 @@ fn go_up<T: Drop>(waiting: Option<Rc<Expr<T>>>, rows: Option<Below<T>>) -> Step<
 
 // What waits: a node, and after all of these a row.
 #[inline(never)]
-fn go_on<T: Drop>(waiting: Option<Rc<Expr<T>>>, rows: Option<Below<T>>) -> Option<Left<T>>
+fn resume_waiting<T: Drop>(
+    waiting: Option<Rc<Expr<T>>>,
+    rows: Option<Subtrees<T>>,
+) -> Option<Remaining<T>>
     ensures { IfSome result (λ left. all_nodes left ≤ if_node waiting + if_row rows) }
 {
     match next_of(waiting) {
-        Some(below) => Some(only(below, rows)),
+        Some(below) => Some(remaining(below, rows)),
         None => match rows {
-            Some(Below::Row(Row::Items(items))) => Some(resume_items(items)),
-            Some(Below::Row(Row::Fields(fields))) => Some(resume_fields(fields)),
-            Some(below) => Some(only(below, None)),
+            Some(Subtrees::Row(Row::Items(items))) => Some(resume_items(items)),
+            Some(Subtrees::Row(Row::Fields(fields))) => Some(resume_fields(fields)),
+            Some(below) => Some(remaining(below, None)),
             None => None,
         },
     }
 }
 
 // What stands below a node that waits.
-fn next_of<T: Drop>(waiting: Option<Rc<Expr<T>>>) -> Option<Below<T>>
+fn next_of<T: Drop>(waiting: Option<Rc<Expr<T>>>) -> Option<Subtrees<T>>
     ensures { IfSome result (λ below. below_nodes below ≡ if_node waiting) }
 {
     match waiting {
         Some(node) => match Rc::into_inner(node) {
-            Some(node) => Some(strip(node.into_parts().0)),
+            Some(node) => Some(take_subtrees(node.into_parts().0)),
             None => None,
         },
         None => None,
@@ -307,10 +313,10 @@ fn next_of<T: Drop>(waiting: Option<Rc<Expr<T>>>) -> Option<Below<T>>
 }
 
 // What comes next, and the rows that wait.
-fn only<T>(below: Below<T>, rows: Option<Below<T>>) -> Left<T>
+fn remaining<T>(below: Subtrees<T>, rows: Option<Subtrees<T>>) -> Remaining<T>
     ensures { all_nodes result ≡ below_nodes below + if_row rows }
 {
-    Left {
+    Remaining {
         below,
         waiting: None,
         rows,
@@ -322,15 +328,15 @@ fn only<T>(below: Below<T>, rows: Option<Below<T>>) -> Left<T>
 fn open_items<T: Drop>(
     items: Rc<Vec<Expr<T>>>,
     waiting: Option<Rc<Expr<T>>>,
-    rows: Option<Below<T>>,
+    rows: Option<Subtrees<T>>,
 ) -> Step<T>
     ensures { IsStep (suc (item_nodes items.value.items))
         (suc (item_nodes items.value.items) + (if_node waiting + if_row rows)) result }
 {
     let mut items = items;
     match Rc::get_mut(&mut items) {
-        Some(row) => opened(take_item(row, rows), waiting, Row::Items(items)),
-        None => opened(Taken::Nothing(rows), waiting, Row::Items(items)),
+        Some(row) => enter_item(take_item(row, rows), waiting, Row::Items(items)),
+        None => enter_item(Taken::Nothing(rows), waiting, Row::Items(items)),
     }
 }
 
@@ -339,80 +345,84 @@ fn open_items<T: Drop>(
 fn open_fields<T: Drop>(
     fields: Rc<BTreeMap<RcStr, Expr<T>>>,
     waiting: Option<Rc<Expr<T>>>,
-    rows: Option<Below<T>>,
+    rows: Option<Subtrees<T>>,
 ) -> Step<T>
     ensures { IsStep (suc (field_nodes fields.value.entries))
         (suc (field_nodes fields.value.entries) + (if_node waiting + if_row rows)) result }
 {
     let mut fields = fields;
     match Rc::get_mut(&mut fields) {
-        Some(row) => opened(take_value(row, rows), waiting, Row::Fields(fields)),
-        None => opened(Taken::Nothing(rows), waiting, Row::Fields(fields)),
+        Some(row) => enter_item(take_value(row, rows), waiting, Row::Fields(fields)),
+        None => enter_item(Taken::Nothing(rows), waiting, Row::Fields(fields)),
     }
 }
 
 // Into an item that was taken out of a row, which then waits.
-fn opened<T: Drop>(item: Taken<Below<T>>, waiting: Option<Rc<Expr<T>>>, row: Row<T>) -> Step<T>
+fn enter_item<T: Drop>(
+    item: Taken<Subtrees<T>>,
+    waiting: Option<Rc<Expr<T>>>,
+    row: Row<T>,
+) -> Step<T>
     ensures { (m w n : ℕ) → IsTaken below_nodes m w n item → row_nodes row ≡ n
         → IsStep (suc m) (suc m + (if_node waiting + w)) result }
 {
     match item {
-        Taken::Below(below) => Step::Into(Left {
+        Taken::Subtrees(below) => Step::Into(Remaining {
             below,
             waiting,
-            rows: Some(Below::Row(row)),
+            rows: Some(Subtrees::Row(row)),
         }),
-        Taken::AfterLeaf(below) => Step::On(Left {
+        Taken::AfterLeaf(below) => Step::On(Remaining {
             below,
             waiting,
-            rows: Some(Below::Row(row)),
+            rows: Some(Subtrees::Row(row)),
         }),
-        Taken::Nothing(rows) => Step::Row(row, go_on(waiting, rows)),
+        Taken::Nothing(rows) => Step::Row(row, resume_waiting(waiting, rows)),
     }
 }
 
 // The last item of a row that waits, but for leaves.
-fn resume_items<T: Drop>(items: Rc<Vec<Expr<T>>>) -> Left<T>
+fn resume_items<T: Drop>(items: Rc<Vec<Expr<T>>>) -> Remaining<T>
     ensures { all_nodes result ≤ suc (item_nodes items.value.items) }
 {
     let mut items = items;
     match Rc::get_mut(&mut items) {
         Some(row) => {
             let last = last_branch(row);
-            resumed(last, row.is_empty(), Row::Items(items))
+            resume_row(last, row.is_empty(), Row::Items(items))
         }
-        None => only(Below::Row(Row::Items(items)), None),
+        None => remaining(Subtrees::Row(Row::Items(items)), None),
     }
 }
 
 // The last value of a record that waits, but for leaves.
-fn resume_fields<T: Drop>(fields: Rc<BTreeMap<RcStr, Expr<T>>>) -> Left<T>
+fn resume_fields<T: Drop>(fields: Rc<BTreeMap<RcStr, Expr<T>>>) -> Remaining<T>
     ensures { all_nodes result ≤ suc (field_nodes fields.value.entries) }
 {
     let mut fields = fields;
     match Rc::get_mut(&mut fields) {
         Some(row) => {
             let last = last_branch_value(row);
-            resumed(last, row.is_empty(), Row::Fields(fields))
+            resume_row(last, row.is_empty(), Row::Fields(fields))
         }
-        None => only(Below::Row(Row::Fields(fields)), None),
+        None => remaining(Subtrees::Row(Row::Fields(fields)), None),
     }
 }
 
 // The last item of a row that waits, beside that row. If it was the only one, it is taken to be the
 // row that waits below, and the row is done with.
-fn resumed<T>(last: Option<Below<T>>, is_only: bool, row: Row<T>) -> Left<T>
+fn resume_row<T>(last: Option<Subtrees<T>>, is_only: bool, row: Row<T>) -> Remaining<T>
     ensures { all_nodes result ≡ if_row last + suc (row_nodes row) }
 {
     match last {
         Some(last) => {
             if is_only {
-                only(Below::Row(row), Some(last))
+                remaining(Subtrees::Row(row), Some(last))
             } else {
-                only(last, Some(Below::Row(row)))
+                remaining(last, Some(Subtrees::Row(row)))
             }
         }
-        None => only(Below::Row(row), None),
+        None => remaining(Subtrees::Row(row), None),
     }
 }
 

@@ -25,7 +25,7 @@ pub(crate) fn entries<T>(alloc: Global, expr: &Expr<T>) -> Result<usize, AllocEr
     };
     count.left.push((expr, 0))?;
     'walk: while let Some((node, below)) = count.left.pop() {
-        count.waits(below, 1)?;
+        count.record_height(below, 1)?;
         count.add_children(node, below)?;
     }
     Ok(count.most)
@@ -43,7 +43,7 @@ struct Count<'a, T> {
 impl<'a, T> Count<'a, T> {
     // So many entries are above these.
     #[inline(always)]
-    fn waits(&mut self, below: usize, above: usize) -> Result<(), AllocError>
+    fn record_height(&mut self, below: usize, above: usize) -> Result<(), AllocError>
         ensures most { IfOk result (λ _. self.new.most ≡ max self.old.most (below + above)) }
         ensures left { IfOk result (λ _. self.new.left.items ≡ self.old.left.items) }
         ensures fits { OnOk result (below + above ≤ usize.MAX) }
@@ -111,7 +111,7 @@ impl<'a, T> Count<'a, T> {
         ensures { IfOk result (λ _.
             IsAdded self.old below (first.now ∷ second.now ∷ []) self.new) }
     {
-        self.waits(below, 2)?;
+        self.record_height(below, 2)?;
         self.add(first, below)?;
         self.add(second, below + 1)?;
         Ok(())
@@ -128,7 +128,7 @@ impl<'a, T> Count<'a, T> {
         ensures { IfOk result (λ _.
             IsAdded self.old below (first.now ∷ second.now ∷ third.now ∷ []) self.new) }
     {
-        self.waits(below, 3)?;
+        self.record_height(below, 3)?;
         self.add(first, below)?;
         self.add_two(second, third, below + 1)?;
         Ok(())
@@ -139,7 +139,7 @@ impl<'a, T> Count<'a, T> {
         requires { below < self.old.most }
         ensures { IfOk result (λ _. IsAdded self.old below row.now self.new) }
     {
-        self.waits(below, row.len())?;
+        self.record_height(below, row.len())?;
         let mut under = below;
         for member in row {
             self.add(member, under)?;
@@ -158,7 +158,7 @@ impl<'a, T> Count<'a, T> {
         ensures { IfOk result (λ _.
             IsAdded self.old below (map (λ e. e.1) pairs.now.entries) self.new) }
     {
-        self.waits(below, pairs.len())?;
+        self.record_height(below, pairs.len())?;
         let mut under = below;
         for value in pairs.values() {
             self.add(value, under)?;

@@ -2,7 +2,7 @@
 //!
 //! A function here does nothing but carry its contract, which is the law.
 ghost use Rattle.std.specs.Prelude.{◌≡◌, ◌↔◌, ◌∷◌, IsTrue, map};
-ghost use Rattle.cedar_builders.specs.RisingKeys.{KeysRise};
+ghost use Rattle.cedar_builders.specs.AscendingKeys.{KeysAscend};
 ghost use Rattle.cedar_builders.specs.Walks as bare;
 ghost use Rattle.cedar_builders.specs.Walks.{backward};
 ghost use Rattle.cedar_exprs.specs.ExprData.{SameData, data_tree, data_trees, holds};
@@ -50,14 +50,14 @@ pub fn bare_positions<T>(expr: &Expr<T>)
     ensures { map bare_expr (positions expr.now) ≡ bare.positions (bare_expr expr.now) }
 {}
 
-/// The keys of each record in an expression strictly rise, by bytes.
+/// The keys of each record in an expression strictly ascend, by bytes.
 ///
 /// This one walks the expression, since it is the maps inside that know the order of their keys.
-pub fn record_keys_rise<T>(expr: &Expr<T>)
-    ensures { KeysRise (bare_expr expr.now) }
+pub fn record_keys_ascend<T>(expr: &Expr<T>)
+    ensures { KeysAscend (bare_expr expr.now) }
 {
     for child in Children::of(expr) {
-        record_keys_rise(child);
+        record_keys_ascend(child);
     }
 }
 

@@ -2,7 +2,6 @@
 //! a fold over bare trees.
 #![tactic(auto)]
 
-mod below;
 mod bound_building;
 mod builder;
 mod building;
@@ -14,9 +13,9 @@ mod expr;
 mod expr_iterator;
 mod expr_shape_only;
 pub mod laws;
-mod machine;
 mod not_restricted;
 mod positions;
+mod post_order;
 mod queries;
 mod restricted_expr;
 mod results;
@@ -25,6 +24,7 @@ mod shape;
 mod shape_order;
 mod substitution;
 mod substitution_function;
+mod subtrees;
 mod typed;
 mod typed_build;
 mod types;

@@ -1,6 +1,6 @@
 //! What a walk has made so far, from which a node takes what its children gave.
 ghost use Rattle.std.specs.Prelude.{◌≡◌, ◌≤◌, ◌++◌, [], ◌∷◌, IfOk, length, map, vec_len};
-ghost use Rattle.cedar_builders.specs.Keys.{IsRising, keys_of};
+ghost use Rattle.cedar_builders.specs.Keys.{IsAscending, keys_of};
 
 use crate::expr::Expr;
 use std::alloc::{AllocError, Global};
@@ -9,7 +9,7 @@ use std::rc::RcStr;
 
 // Puts an item on top. `push` would move it once more, since its error has the item.
 #[inline(always)]
-pub(crate) fn put<X: Drop>(done: &mut Vec<X>, out: X) -> Result<(), AllocError>
+pub(crate) fn push_item<X: Drop>(done: &mut Vec<X>, out: X) -> Result<(), AllocError>
     ensures { IfOk result (λ _. done.new.items ≡ done.old.items ++ out ∷ []) }
 {
     done.reserve(1)?;
@@ -57,7 +57,7 @@ pub(crate) fn keyed<T, X: Drop>(
     requires { length values.items ≡ length pairs.now.entries }
     ensures keys { IfOk result (λ ps. keys_of ps.items ≡ keys_of pairs.now.entries) }
     ensures values { IfOk result (λ ps. map (λ p. p.1) ps.items ≡ values.items) }
-    ensures rising { IfOk result (λ ps. IsRising (keys_of ps.items)) }
+    ensures ascending { IfOk result (λ ps. IsAscending (keys_of ps.items)) }
 {
     let mut keyed = Vec::with_capacity(alloc, pairs.len())?;
     let mut rest = values.into_iter();

@@ -16,7 +16,7 @@ impl<T> Expr<T> {
     /// Feeds the kind's number as one byte and then its fields, without places and data: alike
     /// expressions feed alike.
     ///
-    /// The keys of each record are fed in rising order.
+    /// The keys of each record are fed in ascending order.
     pub fn hash_shape<H: Hasher>(&self, state: &mut H)
         ensures { state.new ≡ fold H.write state.old (shape_fed (bare_expr self.now)) }
     {

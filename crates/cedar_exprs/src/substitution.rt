@@ -1,6 +1,6 @@
 //! Substitution of unknowns by values, as a walk.
 //!
-//! `renew` has a small function for each kind: one function would keep room for the locals of all
+//! `substitute_node` has a small function for each kind: one function would keep room for the locals of all
 //! kinds.
 ghost use Rattle.std.specs.Prelude.{◌≡◌, ◌≤◌, Option, Some, Ok, IfOk, [], ◌∷◌, length, map, vec_len};
 ghost use Rattle.std.specs.Rc.{rc_str_bytes};
@@ -10,23 +10,23 @@ ghost use Rattle.cedar_terms.specs.Unknowns.{bare_unknown};
 ghost use Rattle.cedar_builders.specs.Answers.{Gives};
 ghost use Rattle.cedar_builders.specs.BareExpr.{BareExpr};
 ghost use Rattle.cedar_builders.specs.Environment.{empty, fold};
-ghost use Rattle.cedar_builders.specs.Keys.{keys_of, IsRising};
+ghost use Rattle.cedar_builders.specs.Keys.{keys_of, IsAscending};
 ghost use Rattle.cedar_builders.specs.NodeByNode.{OfOne, OfTwo, OfThree, keyed};
 ghost use Rattle.cedar_builders.specs.Rebuilding.{checked_ops, new_or, all_new_or, renewed, IsRenewedOf, renewed_by_nodes};
 ghost use Rattle.cedar_builders.specs.Trees.{tree_ops, bound_tree, substituted, sure};
 ghost use Rattle.cedar_builders.specs.TypeClash.{TwoTypes, refused_binding, first_refusal};
 ghost use Rattle.cedar_builders.specs.Walks.{children, members_of, values_of};
 ghost use Rattle.cedar_exprs.specs.BareExpr.{bare_expr, bare_expr_kind, bare_exprs, bare_fields, further, unknown_tree};
-ghost use Rattle.cedar_exprs.specs.Machine.{IsMade};
+ghost use Rattle.cedar_exprs.specs.PostOrder.{IsMade};
 ghost use Rattle.cedar_exprs.specs.Refusals.{Refuses};
-ghost use Rattle.cedar_exprs.specs.Renewal.{new_tree, IsRenewedOfLast};
+ghost use Rattle.cedar_exprs.specs.Substituting.{new_tree, IsRenewedOfLast};
 ghost use Rattle.cedar_exprs.specs.RestrictedExprs.{env_of};
 
 use crate::builder::ExprBuilder;
 use crate::expr::{Expr, ExprKind};
-use crate::machine::{Walk, WalkFault, run};
+use crate::post_order::{PostOrder, PostOrderFault, run};
 use crate::restricted_expr::SubstituteValue;
-use crate::results::{put, take_many, take_three, take_two};
+use crate::results::{push_item, take_many, take_three, take_two};
 use crate::substitution_function::{SubstitutionFunction, UntypedSubstitution};
 use cedar_builders::laws::{built_after, restricted_rebuilt, substituted_by_fold};
 use cedar_builders::{
@@ -65,8 +65,8 @@ impl Expr {
         substituted_by_fold();
         match substitute_general::<UntypedSubstitution, V>(alloc, self, values) {
             Ok(expr) => Ok(expr),
-            Err(WalkFault::Refused(never)) => match never {},
-            Err(WalkFault::Memory) => Err(AllocError),
+            Err(PostOrderFault::Refused(never)) => match never {},
+            Err(PostOrderFault::Memory) => Err(AllocError),
         }
     }
 
@@ -96,7 +96,7 @@ pub(crate) fn substitute_general<S: SubstitutionFunction, V: SubstituteValue>(
     alloc: Global,
     expr: &Expr,
     values: &HashMap<RcStr, V>,
-) -> Result<Expr, WalkFault<S::Refusal>>
+) -> Result<Expr, PostOrderFault<S::Refusal>>
     ensures tree { IfOk result (λ e.
         bare_expr e
         ≡ substituted (env_of V.bare_type_of V.bare_expr_of values.now) (bare_expr expr.now)) }
@@ -122,7 +122,7 @@ struct Substitution<'a, S, V> {
 
 // What becomes of a node.
 #[derive(Drop)]
-enum Renewed<'a, V> {
+enum Substituted<'a, V> {
     // It stays as it is, and so may be shared.
     Same,
     // It is an unknown that is bound to this value, whose expression is made where it is put.
@@ -131,8 +131,8 @@ enum Renewed<'a, V> {
     New(Rc<Expr>),
 }
 
-impl<'a, S: SubstitutionFunction, V: SubstituteValue> Walk<()> for Substitution<'a, S, V> {
-    type Out = Renewed<'a, V>;
+impl<'a, S: SubstitutionFunction, V: SubstituteValue> PostOrder<()> for Substitution<'a, S, V> {
+    type Out = Substituted<'a, V>;
 
     type Refusal = S::Refusal;
 
@@ -155,10 +155,10 @@ impl<'a, S: SubstitutionFunction, V: SubstituteValue> Walk<()> for Substitution<
         &self,
         alloc: Global,
         node: &Expr,
-        done: &mut Vec<Renewed<'a, V>>,
-    ) -> Result<(), WalkFault<S::Refusal>> {
-        let new = self.renew(alloc, node, done)?;
-        Ok(put(done, new)?)
+        done: &mut Vec<Substituted<'a, V>>,
+    ) -> Result<(), PostOrderFault<S::Refusal>> {
+        let new = self.substitute_node(alloc, node, done)?;
+        Ok(push_item(done, new)?)
     }
 
     ghost by_nodes = { λ w. renewed_by_nodes S.refuses
@@ -168,12 +168,12 @@ impl<'a, S: SubstitutionFunction, V: SubstituteValue> Walk<()> for Substitution<
 impl<'a, S: SubstitutionFunction, V: SubstituteValue> Substitution<'a, S, V> {
     // What becomes of a node: what became of its children is taken off the results.
     #[inline(always)]
-    fn renew(
+    fn substitute_node(
         &self,
         alloc: Global,
         node: &Expr,
-        done: &mut Vec<Renewed<'a, V>>,
-    ) -> Result<Renewed<'a, V>, WalkFault<S::Refusal>>
+        done: &mut Vec<Substituted<'a, V>>,
+    ) -> Result<Substituted<'a, V>, PostOrderFault<S::Refusal>>
         requires { length (children (bare_expr node.now)) ≤ vec_len done.old }
         ensures { IsMade (new_tree V.bare_expr_of) S.types_of
             (IsRenewedOf S.refuses (env_of V.bare_type_of V.bare_expr_of self.now.values.now)
@@ -181,37 +181,43 @@ impl<'a, S: SubstitutionFunction, V: SubstituteValue> Substitution<'a, S, V> {
             (length (children (bare_expr node.now))) done.old.items done.new.items result }
     {
         match node.expr_kind() {
-            ExprKind::Lit(_) => Ok(Renewed::Same),
-            ExprKind::Var(_) => Ok(Renewed::Same),
-            ExprKind::Slot(_) => Ok(Renewed::Same),
+            ExprKind::Lit(_) => Ok(Substituted::Same),
+            ExprKind::Var(_) => Ok(Substituted::Same),
+            ExprKind::Slot(_) => Ok(Substituted::Same),
             ExprKind::Unknown(unknown) => Ok(replace::<S, V>(alloc, unknown, self.values)?),
             ExprKind::If {
                 test_expr,
                 then_expr,
                 else_expr,
-            } => Ok(Renewed::New(renew_if(alloc, test_expr, then_expr, else_expr, done)?)),
-            ExprKind::And { left, right } => Ok(Renewed::New(renew_and(alloc, left, right, done)?)),
-            ExprKind::Or { left, right } => Ok(Renewed::New(renew_or(alloc, left, right, done)?)),
-            ExprKind::UnaryApp { op, arg } => Ok(Renewed::New(renew_unary(alloc, *op, arg, done)?)),
+            } => Ok(Substituted::New(substitute_if(alloc, test_expr, then_expr, else_expr, done)?)),
+            ExprKind::And { left, right } => Ok(Substituted::New(substitute_and(
+                alloc, left, right, done,
+            )?)),
+            ExprKind::Or { left, right } => Ok(Substituted::New(substitute_or(
+                alloc, left, right, done,
+            )?)),
+            ExprKind::UnaryApp { op, arg } => Ok(Substituted::New(substitute_unary(
+                alloc, *op, arg, done,
+            )?)),
             ExprKind::BinaryApp { op, arg1, arg2 } => {
-                Ok(Renewed::New(renew_binary(alloc, *op, arg1, arg2, done)?))
+                Ok(Substituted::New(substitute_binary(alloc, *op, arg1, arg2, done)?))
             }
             ExprKind::ExtensionFunctionApp { fn_name, args } => {
-                Ok(Renewed::New(renew_call(alloc, fn_name, args, done)?))
+                Ok(Substituted::New(substitute_call(alloc, fn_name, args, done)?))
             }
-            ExprKind::GetAttr { expr, attr } => Ok(Renewed::New(renew_get(
+            ExprKind::GetAttr { expr, attr } => Ok(Substituted::New(substitute_get(
                 alloc, expr, attr, done,
             )?)),
-            ExprKind::HasAttr { expr, attrs } => Ok(Renewed::New(renew_has(
+            ExprKind::HasAttr { expr, attrs } => Ok(Substituted::New(substitute_has(
                 alloc, expr, attrs, done,
             )?)),
             ExprKind::Like { expr, pattern } => {
-                Ok(Renewed::New(renew_like(alloc, expr, pattern, done)?))
+                Ok(Substituted::New(substitute_like(alloc, expr, pattern, done)?))
             }
-            ExprKind::Set(members) => Ok(Renewed::New(renew_set(alloc, members, done)?)),
-            ExprKind::Record(pairs) => Ok(Renewed::New(renew_record(alloc, pairs, done)?)),
+            ExprKind::Set(members) => Ok(Substituted::New(substitute_set(alloc, members, done)?)),
+            ExprKind::Record(pairs) => Ok(Substituted::New(substitute_record(alloc, pairs, done)?)),
             ExprKind::Is { expr, entity_type } => {
-                Ok(Renewed::New(renew_is(alloc, expr, entity_type, done)?))
+                Ok(Substituted::New(substitute_is(alloc, expr, entity_type, done)?))
             }
         }
     }
@@ -223,7 +229,7 @@ fn replace<'a, S: SubstitutionFunction, V: SubstituteValue>(
     alloc: Global,
     unknown: &Unknown,
     values: &'a HashMap<RcStr, V>,
-) -> Result<Renewed<'a, V>, WalkFault<S::Refusal>>
+) -> Result<Substituted<'a, V>, PostOrderFault<S::Refusal>>
     ensures tree { IfOk result (λ new.
         new_tree V.bare_expr_of new
         ≡ Some (bound_tree
@@ -238,11 +244,11 @@ fn replace<'a, S: SubstitutionFunction, V: SubstituteValue>(
     match values.get(unknown.name.as_str()) {
         Some(value) => {
             S::check(alloc, unknown, value)?;
-            Ok(Renewed::Value(value))
+            Ok(Substituted::Value(value))
         }
         None => {
             let unknown = Expr::unknown(unknown.clone(alloc)?);
-            Ok(Renewed::New(Rc::new(alloc, unknown)?))
+            Ok(Substituted::New(Rc::new(alloc, unknown)?))
         }
     }
 }
@@ -268,7 +274,7 @@ fn expr_of<V: SubstituteValue>(alloc: Global, value: &V) -> Result<Expr, AllocEr
 // The new expression of a child, else the child, which is shared.
 fn new_or_shared<V: SubstituteValue>(
     alloc: Global,
-    new: Renewed<'_, V>,
+    new: Substituted<'_, V>,
     child: &Rc<Expr>,
 ) -> Result<Rc<Expr>, AllocError>
     ensures { IfOk result (λ e.
@@ -276,9 +282,9 @@ fn new_or_shared<V: SubstituteValue>(
         ≡ new_or (bare_expr child.now.value) (new_tree V.bare_expr_of new.entry)) }
 {
     match new {
-        Renewed::Same => child.clone(),
-        Renewed::Value(value) => shared_expr_of(alloc, value),
-        Renewed::New(new) => Ok(new),
+        Substituted::Same => child.clone(),
+        Substituted::Value(value) => shared_expr_of(alloc, value),
+        Substituted::New(new) => Ok(new),
     }
 }
 
@@ -286,16 +292,16 @@ fn new_or_shared<V: SubstituteValue>(
 #[inline(always)]
 fn new_or_copy<V: SubstituteValue>(
     alloc: Global,
-    new: Renewed<'_, V>,
+    new: Substituted<'_, V>,
     member: &Expr,
 ) -> Result<Expr, AllocError>
     ensures { IfOk result (λ e.
         bare_expr e ≡ new_or (bare_expr member.now) (new_tree V.bare_expr_of new.entry)) }
 {
     match new {
-        Renewed::Same => member.clone(alloc),
-        Renewed::Value(value) => expr_of(alloc, value),
-        Renewed::New(new) => owned(alloc, new),
+        Substituted::Same => member.clone(alloc),
+        Substituted::Value(value) => expr_of(alloc, value),
+        Substituted::New(new) => owned(alloc, new),
     }
 }
 
@@ -317,12 +323,12 @@ fn node(alloc: Global, expr_kind: ExprKind<()>) -> Result<Rc<Expr>, AllocError>
 }
 
 #[inline(never)]
-fn renew_if<V: SubstituteValue>(
+fn substitute_if<V: SubstituteValue>(
     alloc: Global,
     test_expr: &Rc<Expr>,
     then_expr: &Rc<Expr>,
     else_expr: &Rc<Expr>,
-    done: &mut Vec<Renewed<'_, V>>,
+    done: &mut Vec<Substituted<'_, V>>,
 ) -> Result<Rc<Expr>, AllocError>
     requires { 3 ≤ vec_len done.old }
     ensures { IfOk result
@@ -339,11 +345,11 @@ fn renew_if<V: SubstituteValue>(
 }
 
 #[inline(never)]
-fn renew_and<V: SubstituteValue>(
+fn substitute_and<V: SubstituteValue>(
     alloc: Global,
     left: &Rc<Expr>,
     right: &Rc<Expr>,
-    done: &mut Vec<Renewed<'_, V>>,
+    done: &mut Vec<Substituted<'_, V>>,
 ) -> Result<Rc<Expr>, AllocError>
     requires { 2 ≤ vec_len done.old }
     ensures { IfOk result
@@ -358,11 +364,11 @@ fn renew_and<V: SubstituteValue>(
 }
 
 #[inline(never)]
-fn renew_or<V: SubstituteValue>(
+fn substitute_or<V: SubstituteValue>(
     alloc: Global,
     left: &Rc<Expr>,
     right: &Rc<Expr>,
-    done: &mut Vec<Renewed<'_, V>>,
+    done: &mut Vec<Substituted<'_, V>>,
 ) -> Result<Rc<Expr>, AllocError>
     requires { 2 ≤ vec_len done.old }
     ensures { IfOk result
@@ -377,11 +383,11 @@ fn renew_or<V: SubstituteValue>(
 }
 
 #[inline(never)]
-fn renew_unary<V: SubstituteValue>(
+fn substitute_unary<V: SubstituteValue>(
     alloc: Global,
     op: UnaryOp,
     arg: &Rc<Expr>,
-    done: &mut Vec<Renewed<'_, V>>,
+    done: &mut Vec<Substituted<'_, V>>,
 ) -> Result<Rc<Expr>, AllocError>
     requires { 1 ≤ vec_len done.old }
     ensures { IfOk result
@@ -394,12 +400,12 @@ fn renew_unary<V: SubstituteValue>(
 }
 
 #[inline(never)]
-fn renew_binary<V: SubstituteValue>(
+fn substitute_binary<V: SubstituteValue>(
     alloc: Global,
     op: BinaryOp,
     arg1: &Rc<Expr>,
     arg2: &Rc<Expr>,
-    done: &mut Vec<Renewed<'_, V>>,
+    done: &mut Vec<Substituted<'_, V>>,
 ) -> Result<Rc<Expr>, AllocError>
     requires { 2 ≤ vec_len done.old }
     ensures { IfOk result
@@ -414,11 +420,11 @@ fn renew_binary<V: SubstituteValue>(
 }
 
 #[inline(never)]
-fn renew_call<V: SubstituteValue>(
+fn substitute_call<V: SubstituteValue>(
     alloc: Global,
     fn_name: &Name,
     args: &Vec<Expr>,
-    done: &mut Vec<Renewed<'_, V>>,
+    done: &mut Vec<Substituted<'_, V>>,
 ) -> Result<Rc<Expr>, AllocError>
     requires { length args.now.items ≤ vec_len done.old }
     ensures { IfOk result
@@ -426,7 +432,7 @@ fn renew_call<V: SubstituteValue>(
         (λ ts r. r ≡ checked_ops.call_of (bare_name fn_name.now) ts)
         done.old.items done.new.items) }
 {
-    let args = renew_members(alloc, args, take_many(done, args.len())?)?;
+    let args = substitute_members(alloc, args, take_many(done, args.len())?)?;
     Ok(Rc::new(
         alloc,
         Expr::call_extension_fn(alloc, fn_name.clone(alloc)?, args)?,
@@ -434,11 +440,11 @@ fn renew_call<V: SubstituteValue>(
 }
 
 #[inline(never)]
-fn renew_get<V: SubstituteValue>(
+fn substitute_get<V: SubstituteValue>(
     alloc: Global,
     expr: &Rc<Expr>,
     attr: &RcStr,
-    done: &mut Vec<Renewed<'_, V>>,
+    done: &mut Vec<Substituted<'_, V>>,
 ) -> Result<Rc<Expr>, AllocError>
     requires { 1 ≤ vec_len done.old }
     ensures { IfOk result
@@ -452,11 +458,11 @@ fn renew_get<V: SubstituteValue>(
 }
 
 #[inline(never)]
-fn renew_has<V: SubstituteValue>(
+fn substitute_has<V: SubstituteValue>(
     alloc: Global,
     expr: &Rc<Expr>,
     attrs: &NonEmpty<RcStr>,
-    done: &mut Vec<Renewed<'_, V>>,
+    done: &mut Vec<Substituted<'_, V>>,
 ) -> Result<Rc<Expr>, AllocError>
     requires { 1 ≤ vec_len done.old }
     ensures { IfOk result
@@ -470,11 +476,11 @@ fn renew_has<V: SubstituteValue>(
 }
 
 #[inline(never)]
-fn renew_like<V: SubstituteValue>(
+fn substitute_like<V: SubstituteValue>(
     alloc: Global,
     expr: &Rc<Expr>,
     pattern: &Pattern,
-    done: &mut Vec<Renewed<'_, V>>,
+    done: &mut Vec<Substituted<'_, V>>,
 ) -> Result<Rc<Expr>, AllocError>
     requires { 1 ≤ vec_len done.old }
     ensures { IfOk result
@@ -487,25 +493,25 @@ fn renew_like<V: SubstituteValue>(
 }
 
 #[inline(never)]
-fn renew_set<V: SubstituteValue>(
+fn substitute_set<V: SubstituteValue>(
     alloc: Global,
     members: &Vec<Expr>,
-    done: &mut Vec<Renewed<'_, V>>,
+    done: &mut Vec<Substituted<'_, V>>,
 ) -> Result<Rc<Expr>, AllocError>
     requires { length members.now.items ≤ vec_len done.old }
     ensures { IfOk result
         (IsRenewedOfLast V.bare_expr_of (members_of (bare_exprs members.now.items))
         (λ ts r. r ≡ Ok (checked_ops.set_of ts)) done.old.items done.new.items) }
 {
-    let members = renew_members(alloc, members, take_many(done, members.len())?)?;
+    let members = substitute_members(alloc, members, take_many(done, members.len())?)?;
     Ok(Rc::new(alloc, Expr::set(alloc, members)?)?)
 }
 
 #[inline(never)]
-fn renew_record<V: SubstituteValue>(
+fn substitute_record<V: SubstituteValue>(
     alloc: Global,
     pairs: &BTreeMap<RcStr, Expr>,
-    done: &mut Vec<Renewed<'_, V>>,
+    done: &mut Vec<Substituted<'_, V>>,
 ) -> Result<Rc<Expr>, AllocError>
     requires { length pairs.now.entries ≤ vec_len done.old }
     ensures { IfOk result
@@ -513,21 +519,21 @@ fn renew_record<V: SubstituteValue>(
         (λ ts r. r ≡ Ok (checked_ops.record_of (keyed (bare_fields pairs.now.entries) ts)))
         done.old.items done.new.items) }
 {
-    let pairs = renew_values(alloc, pairs, take_many(done, pairs.len())?)?;
+    let pairs = substitute_values(alloc, pairs, take_many(done, pairs.len())?)?;
     match ExprBuilder::new().record(alloc, pairs) {
         Ok(record) => Ok(Rc::new(alloc, record)?),
         Err(ExpressionConstructionError::Memory) => Err(AllocError),
-        // The keys of a map rise, and the builder accepts such pairs.
+        // The keys of a map ascend, and the builder accepts such pairs.
         Err(ExpressionConstructionError::DuplicateKey(_)) => unreachable!(),
     }
 }
 
 #[inline(never)]
-fn renew_is<V: SubstituteValue>(
+fn substitute_is<V: SubstituteValue>(
     alloc: Global,
     expr: &Rc<Expr>,
     entity_type: &EntityType,
-    done: &mut Vec<Renewed<'_, V>>,
+    done: &mut Vec<Substituted<'_, V>>,
 ) -> Result<Rc<Expr>, AllocError>
     requires { 1 ≤ vec_len done.old }
     ensures { IfOk result
@@ -541,10 +547,10 @@ fn renew_is<V: SubstituteValue>(
 }
 
 // The members, each renewed.
-fn renew_members<V: SubstituteValue>(
+fn substitute_members<V: SubstituteValue>(
     alloc: Global,
     members: &Vec<Expr>,
-    new: Vec<Renewed<'_, V>>,
+    new: Vec<Substituted<'_, V>>,
 ) -> Result<Vec<Expr>, AllocError>
     requires { length new.items ≡ length members.now.items }
     ensures { IfOk result (λ es.
@@ -564,10 +570,10 @@ fn renew_members<V: SubstituteValue>(
 }
 
 // The keys of a record, each with its value renewed.
-fn renew_values<V: SubstituteValue>(
+fn substitute_values<V: SubstituteValue>(
     alloc: Global,
     pairs: &BTreeMap<RcStr, Expr>,
-    new: Vec<Renewed<'_, V>>,
+    new: Vec<Substituted<'_, V>>,
 ) -> Result<Vec<(RcStr, Expr)>, AllocError>
     requires { length new.items ≡ length pairs.now.entries }
     ensures keys { IfOk result (λ ps. keys_of ps.items ≡ keys_of pairs.now.entries) }
@@ -575,7 +581,7 @@ fn renew_values<V: SubstituteValue>(
         map bare_expr (map (λ p. p.1) ps.items)
         ≡ all_new_or (map (λ p. bare_expr p.1) pairs.now.entries)
         (map (new_tree V.bare_expr_of) new.entry.items)) }
-    ensures rising { IfOk result (λ ps. IsRising (keys_of ps.items)) }
+    ensures ascending { IfOk result (λ ps. IsAscending (keys_of ps.items)) }
 {
     let mut done = Vec::with_capacity(alloc, pairs.len())?;
     let mut rest = new.into_iter();

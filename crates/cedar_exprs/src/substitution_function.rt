@@ -5,7 +5,7 @@ ghost use Rattle.cedar_terms.specs.Unknowns.{bare_unknown};
 ghost use Rattle.cedar_builders.specs.TypeClash.{TwoTypes, Refusals, difference, mismatch};
 ghost use Rattle.cedar_exprs.specs.Refusals.{clash_types, no_clash, Refuses};
 
-use crate::machine::WalkFault;
+use crate::post_order::PostOrderFault;
 use crate::restricted_expr::SubstituteValue;
 use cedar_terms::{Type, Unknown};
 use std::alloc::Global;
@@ -27,7 +27,7 @@ pub(crate) trait SubstitutionFunction {
         alloc: Global,
         unknown: &Unknown,
         value: &V,
-    ) -> Result<(), WalkFault<Self::Refusal>>
+    ) -> Result<(), PostOrderFault<Self::Refusal>>
         ensures { Refuses types_of
             (refuses (bare_unknown unknown.now).annotation (V.bare_type_of value.now)) result };
 }
@@ -46,7 +46,7 @@ impl SubstitutionFunction for UntypedSubstitution {
         _: Global,
         _: &Unknown,
         _: &V,
-    ) -> Result<(), WalkFault<Infallible>> {
+    ) -> Result<(), PostOrderFault<Infallible>> {
         Ok(())
     }
 }
@@ -73,7 +73,7 @@ impl SubstitutionFunction for TypedSubstitution {
         alloc: Global,
         unknown: &Unknown,
         value: &V,
-    ) -> Result<(), WalkFault<Box<Clash>>> {
+    ) -> Result<(), PostOrderFault<Box<Clash>>> {
         match &unknown.type_annotation {
             None => Ok(()),
             Some(expected) => check_type(alloc, expected, value.value_type(alloc)?),
@@ -82,7 +82,11 @@ impl SubstitutionFunction for TypedSubstitution {
 }
 
 // Refuses another type than is expected.
-fn check_type(alloc: Global, expected: &Type, actual: Type) -> Result<(), WalkFault<Box<Clash>>>
+fn check_type(
+    alloc: Global,
+    expected: &Type,
+    actual: Type,
+) -> Result<(), PostOrderFault<Box<Clash>>>
     ensures { Refuses clash_types (difference (bare_type expected.now) (bare_type actual)) result }
 {
     if *expected == actual {
@@ -90,5 +94,5 @@ fn check_type(alloc: Global, expected: &Type, actual: Type) -> Result<(), WalkFa
     }
     let expected = expected.clone(alloc)?;
     let clash = Box::new(alloc, Clash { expected, actual })?;
-    Err(WalkFault::Refused(clash))
+    Err(PostOrderFault::Refused(clash))
 }

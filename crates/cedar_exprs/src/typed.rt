@@ -9,7 +9,7 @@ ghost use Rattle.cedar_exprs.specs.BareExpr.{bare_expr};
 ghost use Rattle.cedar_exprs.specs.RestrictedExprs.{env_of};
 
 use crate::expr::Expr;
-use crate::machine::WalkFault;
+use crate::post_order::PostOrderFault;
 use crate::restricted_expr::SubstituteValue;
 use crate::substitution::substitute_general;
 use crate::substitution_function::{Clash, TypedSubstitution};
@@ -43,11 +43,11 @@ impl Expr {
         substituted_by_fold();
         match substitute_general::<TypedSubstitution, V>(alloc, self, values) {
             Ok(expr) => Ok(expr),
-            Err(WalkFault::Refused(clash)) => {
+            Err(PostOrderFault::Refused(clash)) => {
                 let Clash { expected, actual } = Box::into_inner(clash);
                 Err(SubstitutionError::TypeError { expected, actual })
             }
-            Err(WalkFault::Memory) => Err(SubstitutionError::Memory),
+            Err(PostOrderFault::Memory) => Err(SubstitutionError::Memory),
         }
     }
 }

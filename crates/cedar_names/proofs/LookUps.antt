@@ -3,7 +3,7 @@
 use Rattle.std.proofs.Common.{◌≡◌, ℕ, ◌≤◌, nat_lt, cond, List, [], ◌∷◌, length, get_or, Bool, ◌||◌, refl, sym, ◌∙◌, ap, arith, Some, None, position}
 use Rattle.std.specs.Ordering.{is_eq}
 use Rattle.std.specs.List.{list_any, find, position_or_len, slice_get}
-use Rattle.cedar_names.specs.declared.name.InternalName.{InternalName}
+use Rattle.cedar_names.specs.declared.internal_name.InternalName.{InternalName}
 use Rattle.cedar_names.specs.Names.{BareName}
 use Rattle.cedar_names.specs.NameOrder.{name_cmp, name_ties}
 use Rattle.cedar_names.specs.InternalNames.{bare_internal_name}

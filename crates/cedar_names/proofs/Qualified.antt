@@ -3,7 +3,7 @@ use Rattle.std.proofs.Common.{◌≡◌, ◌≢◌, ℕ, List, [], ◌∷◌, �
 use native.Mathlib.Omega.{arith}
 use Rattle.std.proofs.lemmas.List.Folds.{list_any-append}
 use Rattle.std.specs.Option.{option_map}
-use Rattle.cedar_names.specs.declared.plain_name.Name.{Name}
+use Rattle.cedar_names.specs.declared.name.Name.{Name}
 use Rattle.cedar_names.specs.Names.{BareName, qualified, qualified_by, has_reserved}
 use Rattle.cedar_names.specs.PlainNames.{bare_name}
 

@@ -7,7 +7,7 @@ use Rattle.std.specs.Ordering.{on}
 use Rattle.std.proofs.lemmas.Bool.Decides.{Decides-and, Decides-like}
 use denote.Enum.Bare.{sameb, same_true, true_same}
 use Rattle.cedar_names.specs.contracts.raw_name.ReferenceType.{the_type}
-use Rattle.cedar_names.specs.declared.name.InternalName.{InternalName}
+use Rattle.cedar_names.specs.declared.internal_name.InternalName.{InternalName}
 use Rattle.cedar_names.specs.declared.raw_name.ReferenceType.{ReferenceType}
 use Rattle.cedar_names.specs.declared.raw_name.ConditionalName.{ConditionalName}
 use Rattle.cedar_names.specs.NameOrder.{name_eq, name_eq_decides}

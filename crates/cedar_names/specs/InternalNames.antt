@@ -1,6 +1,6 @@
 -- What a name of the program says: its bare name and its place.
 use Rattle.std.specs.Prelude.{◌≡◌, ℕ, List, length, Option, Some}
-use Rattle.cedar_names.specs.declared.name.InternalName.{InternalName}
+use Rattle.cedar_names.specs.declared.internal_name.InternalName.{InternalName}
 use Rattle.cedar_names.specs.Place.{Place}
 use Rattle.cedar_names.specs.Names.{BareName}
 use Rattle.cedar_names.specs.PathsAndPlaces.{path_in, place_in}

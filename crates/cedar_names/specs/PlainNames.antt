@@ -1,7 +1,7 @@
 -- What a name without the component `__cedar` says.
 use Rattle.std.specs.Prelude.{Option}
-use Rattle.cedar_names.specs.declared.name.InternalName.{InternalName}
-use Rattle.cedar_names.specs.declared.plain_name.Name.{Name}
+use Rattle.cedar_names.specs.declared.internal_name.InternalName.{InternalName}
+use Rattle.cedar_names.specs.declared.name.Name.{Name}
 use Rattle.cedar_names.specs.Place.{Place}
 use Rattle.cedar_names.specs.Names.{BareName}
 use Rattle.cedar_names.specs.InternalNames.{bare_internal_name, internal_name_place}

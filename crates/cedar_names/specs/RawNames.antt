@@ -1,6 +1,6 @@
 -- What raw and conditional names say (Cedar's file `raw_name.rs`).
 use Rattle.std.specs.Prelude.{◌≡◌, ℕ, List, [], ◌∷◌, Option, Some, None, map}
-use Rattle.cedar_names.specs.declared.name.InternalName.{InternalName}
+use Rattle.cedar_names.specs.declared.internal_name.InternalName.{InternalName}
 use Rattle.cedar_names.specs.declared.raw_name.RawName.{RawName}
 use Rattle.cedar_names.specs.declared.raw_name.ConditionalName.{ConditionalName}
 use Rattle.cedar_names.specs.declared.raw_name.ReferenceType.{ReferenceType}

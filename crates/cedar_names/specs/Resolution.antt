@@ -2,7 +2,7 @@
 -- `raw_name.rs`, after RFC 24).
 use Rattle.std.specs.Prelude.{List, Bool, ◌||◌, Option, find}
 use Rattle.std.specs.List.{list_any}
-use Rattle.cedar_names.specs.declared.name.InternalName.{InternalName}
+use Rattle.cedar_names.specs.declared.internal_name.InternalName.{InternalName}
 use Rattle.cedar_names.specs.declared.all_defs.AllDefs.{AllDefs}
 use Rattle.cedar_names.specs.declared.raw_name.ReferenceType.{ReferenceType}
 use Rattle.cedar_names.specs.declared.raw_name.ReferenceType.TheVariants.{Common, Entity, CommonOrEntity}

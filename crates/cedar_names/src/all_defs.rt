@@ -4,7 +4,7 @@ ghost use Rattle.cedar_names.specs.Names.{BareName};
 ghost use Rattle.cedar_names.specs.InternalNames.{bare_internal_name};
 ghost use Rattle.cedar_names.specs.Resolution.{has_name, is_common, is_entity};
 
-use crate::name::InternalName;
+use crate::internal_name::InternalName;
 use std::collections::BTreeSet;
 
 /// The names that are declared as common types and as entity types (Cedar's file

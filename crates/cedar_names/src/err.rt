@@ -4,7 +4,7 @@ ghost use Rattle.cedar_names.specs.declared.err.ParseErrors.TheVariants.{Memory,
 ghost use Rattle.cedar_names.specs.InternalNames.{bare_internal_name, internal_name_place};
 ghost use Rattle.cedar_names.specs.Readers.{refused_name, refused_place};
 
-use crate::name::InternalName;
+use crate::internal_name::InternalName;
 use std::alloc::{AllocError, AllocFailed, Global};
 use thiserror::Error;
 

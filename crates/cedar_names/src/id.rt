@@ -13,7 +13,7 @@ ghost use Rattle.cedar_names.specs.Readers.{OnReadError, IsNeverReserved, IsRese
 
 use crate::err::{ParseErrors, ReservedNameError};
 use crate::from_normalized_str::FromNormalizedStr;
-use crate::name::InternalName;
+use crate::internal_name::InternalName;
 use std::alloc::{AllocError, Global};
 use std::cmp::Ordering;
 use std::convert::{AsRef, AsStr, TryFrom};

@@ -2,8 +2,8 @@
 ghost use Rattle.std.specs.Prelude.{◌≡◌, ◌≢◌, ◌↔◌, ◌++◌, [], IsTrue, Option, Some};
 ghost use Rattle.std.specs.Cmp.Lexicographic.{pointwise, slice_cmp, slice_partial_cmp};
 ghost use Rattle.std.specs.Hash as fed;
-ghost use Rattle.cedar_names.specs.declared.name.InternalName.{InternalName};
-ghost use Rattle.cedar_names.specs.declared.plain_name.Name.{Name};
+ghost use Rattle.cedar_names.specs.declared.internal_name.InternalName.{InternalName};
+ghost use Rattle.cedar_names.specs.declared.name.Name.{Name};
 ghost use Rattle.cedar_names.specs.declared.raw_name.RawName.{RawName};
 ghost use Rattle.cedar_names.specs.declared.raw_name.ConditionalName.{ConditionalName};
 ghost use Rattle.cedar_names.specs.declared.non_empty.NonEmpty.{NonEmpty};
@@ -14,9 +14,9 @@ ghost use Rattle.cedar_names.specs.PlainNames.{bare_name};
 ghost use Rattle.cedar_names.specs.RawNames.{bare_raw_name, IsSameReference};
 ghost use Rattle.cedar_names.specs.NonEmpty.{list_of};
 
-use crate::name::InternalName;
+use crate::internal_name::InternalName;
+use crate::name::Name;
 use crate::non_empty::NonEmpty;
-use crate::plain_name::Name;
 use crate::raw_name::{ConditionalName, RawName};
 use std::hash::Hash;
 

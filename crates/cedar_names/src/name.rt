@@ -1,176 +1,81 @@
-//! Names with namespaces.
-ghost use Rattle.std.specs.Prelude.{◌≡◌, ◌≢◌, ℕ, [], MatchResult, Some, None, refl, IfOk, IfErr, codes, false, IsTrue, ◌↔◌, ◌∷◌};
-ghost use Rattle.std.specs.List.{list_any};
+//! Names without the component `__cedar`.
+ghost use Rattle.std.specs.Prelude.{◌≡◌, ◌≢◌, ◌↔◌, [], IfOk, IfErr, IsTrue, MatchResult, Some, None, true, false, codes};
 ghost use Rattle.std.specs.Option.{option_copied, option_map};
-ghost use Rattle.std.specs.Slice.Iter.{iter_rest};
-ghost use Rattle.std.specs.String.{string_bytes};
-ghost use Rattle.std.specs.Ordering.{on, as_partial_cmp};
-ghost use Rattle.std.specs.Cmp.{partial_equiv_from_equiv, on_equiv, on_po, on_total};
-ghost use Rattle.cedar_names.specs.Grammar.{is_id, is_reserved};
-ghost use Rattle.cedar_names.specs.Names.{has_reserved, qualified, unqualified, within, joined_text, name_text, IsNameOf, IsNameText};
-ghost use Rattle.cedar_names.specs.NameOrder.{name_eq, name_eq_equiv, name_cmp, name_cmp_total, name_ties, name_po, name_fed, name_fed-alike};
+ghost use Rattle.cedar_names.specs.Grammar.{is_id};
+ghost use Rattle.cedar_names.specs.Names.{has_reserved, qualified, unqualified, name_text, IsNameOf, IsNameText};
 ghost use Rattle.cedar_names.specs.InternalNames.{bare_internal_name, internal_name_place, IsWholeOf};
-ghost use Rattle.cedar_names.specs.PlainNames.{bare_name};
-ghost use Rattle.cedar_names.specs.Readers.{OnReadError, IsNeverReserved};
 
-use crate::err::ParseErrors;
+use crate::err::{ParseErrors, ReservedNameError};
 use crate::from_normalized_str::FromNormalizedStr;
-use crate::id::{Id, read_id};
+use crate::id::{Id, UnreservedId};
+use crate::internal_name::InternalName;
 use crate::loc::Loc;
-use crate::path_and_place::PathAndPlace;
-use crate::plain_name::Name;
 use std::alloc::{AllocError, Global};
-use std::cmp::Ordering;
-use std::convert::{AsRef, AsStr, TryFrom};
-use std::hash::{Hash, Hasher};
-use std::rc::RcStr;
-use std::{fmt, slice};
+use std::convert::{AsRef, TryFrom};
+use std::fmt;
 
-fn any_reserved(ids: &[Id]) -> bool
-    ensures { result ≡ list_any is_reserved ids.now }
-{
-    ids.iter().any(|id| id.is_reserved())
-}
-
-// A copy of the path, with room for so many identifiers more.
-fn clone_path(alloc: Global, path: &[Id], further: usize) -> Result<Vec<Id>, AllocError>
-    ensures { IfOk result (λ v. v.items ≡ path.now) }
-{
-    let mut copy = Vec::with_capacity(alloc, path.len().saturating_add(further))?;
-    for id in path {
-        copy.push(id.clone(alloc)?)?;
-    }
-    Ok(copy)
-}
-
-// The identifiers joined by `::`.
-fn join(alloc: Global, first: &Id, further: &[Id]) -> Result<String, AllocError>
-    ensures { IfOk result (λ text. string_bytes text ≡ joined_text (first.now ∷ further.now)) }
-{
-    let mut text = String::from_str(alloc, first.as_str())?;
-    for id in further {
-        text.push_str("::")?;
-        text.push_str(id.as_str())?;
-    }
-    Ok(text)
-}
-
-/// A name of an entity type, a function and the like, which may have namespaces and may have
-/// the component `__cedar` (Cedar's file `name.rs`).
+/// A name that a user may define: an `InternalName` without the component `__cedar` (Cedar's
+/// file `name.rs`, after RFC 52).
 ///
-/// Names compare by their basenames, then by their paths as lists. Their places are not
-/// compared.
-#[derive(Debug, Drop)]
-pub struct InternalName {
-    basename: Id,
-    rest: PathAndPlace,
+/// It compares as an `InternalName` does.
+#[derive(Debug, PartialEq, Eq, PartialOrd, Ord, Hash, Drop)]
+pub struct Name {
+    name: InternalName,
+    ghost not_reserved: { has_reserved (bare_internal_name name) ≡ false },
 }
 
-impl InternalName {
-    /// The name with this basename, path and place.
-    pub fn new(basename: Id, path: Vec<Id>, loc: Option<Loc>) -> InternalName
-        ensures name { bare_internal_name result ≡
-            record { path = path.items; basename = basename } }
-        ensures place { internal_name_place result ≡ loc }
-    {
-        InternalName {
-            basename,
-            rest: PathAndPlace::new(path, loc),
-        }
-    }
-
-    /// The name with no namespace.
-    pub fn unqualified_name(id: Id, loc: Option<Loc>) -> InternalName
-        ensures name { bare_internal_name result ≡ unqualified id }
-        ensures place { internal_name_place result ≡ loc }
-    {
-        InternalName {
-            basename: id,
-            rest: PathAndPlace::without_path(loc),
-        }
-    }
-
-    /// The namespace `__cedar`, with no place.
-    pub fn cedar(alloc: Global) -> Result<InternalName, AllocError>
-        ensures name { IfOk result (λ n. bare_internal_name n ≡ unqualified (codes "__cedar")) }
-        ensures place { IfOk result (λ n. internal_name_place n ≡ None) }
-    {
-        Ok(InternalName::unqualified_name(Id::reserved(alloc)?, None))
-    }
+impl Name {
+    ghost use Rattle.cedar_names.specs.PlainNames.{bare_name, name_place};
+    ghost use Rattle.cedar_names.specs.Readers.{OnReadError, IsReservedId};
 
     /// The name of one identifier with this text, with no place.
     ///
-    /// Any other text is refused as no `Id`.
-    pub fn parse_unqualified_name(alloc: Global, s: &str) -> Result<InternalName, ParseErrors>
-        ensures name { IfOk result (λ n.
-            (bare_internal_name n ≡ unqualified s.now) × IsTrue (is_id s.now)) }
-        ensures place { IfOk result (λ n. internal_name_place n ≡ None) }
+    /// Any other text is refused as no `Id`, and `__cedar` as reserved.
+    pub fn parse_unqualified_name(alloc: Global, s: &str) -> Result<Name, ParseErrors>
+        ensures name { IfOk result (λ n. (bare_name n ≡ unqualified s.now) × IsTrue (is_id s.now)) }
+        ensures allowed { IfOk result (λ n. has_reserved (bare_name n) ≡ false) }
+        ensures place { IfOk result (λ n. name_place n ≡ None) }
         ensures refused { IfErr result (λ e.
-            OnReadError e (codes "Id") (is_id s.now ≡ false) (IsNeverReserved s.now)) }
+            OnReadError e (codes "Id") (is_id s.now ≡ false) (IsReservedId s.now)) }
     {
-        let id = read_id(alloc, s, "Id")?;
-        Ok(InternalName::unqualified_name(id, None))
+        let name = InternalName::parse_unqualified_name(alloc, s)?;
+        Ok(Name::try_from(name)?)
     }
 
-    /// The name within a namespace, which always goes before it.
-    pub fn type_in_namespace(
-        alloc: Global,
-        basename: Id,
-        namespace: InternalName,
-        loc: Option<Loc>,
-    ) -> Result<InternalName, AllocError>
-        ensures name { IfOk result (λ n.
-            bare_internal_name n ≡ within (bare_internal_name namespace) basename) }
-        ensures place { IfOk result (λ n. internal_name_place n ≡ loc) }
+    /// The name with no namespace and no place.
+    pub fn unqualified_name(id: UnreservedId) -> Name
+        ensures name { bare_name result ≡ unqualified id }
+        ensures place { name_place result ≡ None }
     {
-        let mut path = namespace.rest.into_path(alloc);
-        path.push(namespace.basename)?;
-        Ok(InternalName::new(basename, path, loc))
-    }
-
-    /// Its place, if it has one.
-    pub fn loc(&self) -> Option<&Loc>
-        ensures { option_copied result ≡ internal_name_place self.now }
-    {
-        self.rest.loc()
-    }
-
-    /// Its last identifier.
-    pub fn basename(&self) -> &Id
-        ensures { result.now ≡ (bare_internal_name self.now).basename }
-    {
-        &self.basename
-    }
-
-    /// The identifiers before the last, from the first on.
-    pub fn namespace_components(&self) -> slice::Iter<'_, Id>
-        ensures { iter_rest result ≡ (bare_internal_name self.now).path }
-    {
-        self.path().iter()
-    }
-
-    /// The text of its namespace: `foo::bar` for `foo::bar::baz`, and no text for `baz`.
-    pub fn namespace(&self, alloc: Global) -> Result<String, AllocError>
-        ensures { IfOk result (λ text.
-            string_bytes text ≡ joined_text (bare_internal_name self.now).path) }
-    {
-        match self.path().split_first() {
-            None => Ok(String::new(alloc)),
-            Some((first, further)) => join(alloc, first, further),
+        Name {
+            name: InternalName::unqualified_name(Id::from(id), None),
         }
     }
 
-    /// The name within the namespace, where the name has none and one is given; else a copy.
-    ///
-    /// ```rust
-    /// let namespace = InternalName::from_normalized_str(alloc, "foo::bar")?;
-    /// let baz = InternalName::from_normalized_str(alloc, "baz")?;
-    /// baz.qualify_with(alloc, Some(&namespace))?; // foo::bar::baz
-    /// let b = InternalName::from_normalized_str(alloc, "a::b")?;
-    /// b.qualify_with(alloc, Some(&namespace))?; // a::b
-    /// ```
-    ///
-    /// The place is that of the name.
+    /// Its last identifier, borrowed.
+    pub fn basename_as_ref(&self) -> &Id
+        ensures { result.now ≡ (bare_name self.now).basename }
+    {
+        self.name.basename()
+    }
+
+    /// A copy of its last identifier.
+    pub fn basename(&self, alloc: Global) -> Result<UnreservedId, AllocError>
+        ensures { IfOk result (λ id. id ≡ (bare_name self.now).basename) }
+    {
+        let id = self.basename_as_ref().clone(alloc)?;
+        Ok(UnreservedId::from_unreserved(id))
+    }
+
+    /// Whether it has no namespace.
+    pub fn is_unqualified(&self) -> bool
+        ensures { IsTrue result ↔ ((bare_name self.now).path ≡ []) }
+    {
+        self.name.is_unqualified()
+    }
+
+    /// The name within the namespace, where the name has none and one is given; else a copy, as
+    /// `InternalName::qualify_with`.
     pub fn qualify_with(
         &self,
         alloc: Global,
@@ -178,185 +83,149 @@ impl InternalName {
     ) -> Result<InternalName, AllocError>
         ensures name { IfOk result (λ n.
             bare_internal_name n ≡
-            qualified (bare_internal_name self.now)
+            qualified (bare_name self.now)
             (option_map bare_internal_name (option_copied namespace.entry))) }
-        ensures place { IfOk result (λ n. internal_name_place n ≡ internal_name_place self.now) }
+        ensures place { IfOk result (λ n. internal_name_place n ≡ name_place self.now) }
     {
-        match namespace {
-            Some(namespace) if self.is_unqualified() => {
-                let mut path = clone_path(alloc, namespace.path(), 1)?;
-                path.push(namespace.basename.clone(alloc)?)?;
-                let basename = self.basename.clone(alloc)?;
-                let loc = Loc::clone_option(alloc, self.loc())?;
-                Ok(InternalName::new(basename, path, loc))
-            }
-            _ => self.clone(alloc),
-        }
+        self.name.qualify_with(alloc, namespace)
     }
 
-    /// As `qualify_with`, with a namespace that is not reserved.
+    /// As `qualify_with`, with a namespace that is not reserved either, so the answer is a `Name`.
     pub fn qualify_with_name(
         &self,
         alloc: Global,
         namespace: Option<&Name>,
-    ) -> Result<InternalName, AllocError>
+    ) -> Result<Name, AllocError>
         ensures name { IfOk result (λ n.
-            bare_internal_name n ≡
-            qualified (bare_internal_name self.now)
+            bare_name n ≡
+            qualified (bare_name self.now)
             (option_map bare_name (option_copied namespace.entry))) }
-        ensures place { IfOk result (λ n. internal_name_place n ≡ internal_name_place self.now) }
+        ensures place { IfOk result (λ n. name_place n ≡ name_place self.now) }
     {
-        match namespace {
-            Some(namespace) => self.qualify_with(alloc, Some(namespace.as_ref())),
-            None => self.clone(alloc),
-        }
+        let name = self.name.qualify_with_name(alloc, namespace)?;
+        Ok(Name { name })
     }
 
-    /// Whether it has no namespace.
-    pub fn is_unqualified(&self) -> bool
-        ensures { IsTrue result ↔ ((bare_internal_name self.now).path ≡ []) }
+    /// Its place, if it has one.
+    pub fn loc(&self) -> Option<&Loc>
+        ensures { option_copied result ≡ name_place self.now }
     {
-        self.path().is_empty()
-    }
-
-    /// Whether some component is `__cedar` (RFC 52).
-    pub fn is_reserved(&self) -> bool
-        ensures { result ≡ has_reserved (bare_internal_name self.now) }
-    {
-        any_reserved(self.path()) || self.basename.is_reserved()
+        self.name.loc()
     }
 
     /// A copy.
-    pub fn clone(&self, alloc: Global) -> Result<InternalName, AllocError>
-        ensures name { IfOk result (λ n. bare_internal_name n ≡ bare_internal_name self.now) }
-        ensures place { IfOk result (λ n. internal_name_place n ≡ internal_name_place self.now) }
+    pub fn clone(&self, alloc: Global) -> Result<Name, AllocError>
+        ensures name { IfOk result (λ n. bare_name n ≡ bare_name self.now) }
+        ensures place { IfOk result (λ n. name_place n ≡ name_place self.now) }
     {
-        let basename = self.basename.clone(alloc)?;
-        let path = clone_path(alloc, self.path(), 0)?;
-        let loc = Loc::clone_option(alloc, self.loc())?;
-        Ok(InternalName::new(basename, path, loc))
-    }
-
-    fn path(&self) -> &[Id]
-        ensures { result.now ≡ (bare_internal_name self.now).path }
-    {
-        self.rest.path()
+        let name = self.name.clone(alloc)?;
+        Ok(Name { name })
     }
 }
 
-impl FromNormalizedStr for InternalName {
-    ghost kind = { codes "internal name" };
+impl FromNormalizedStr for Name {
+    ghost use Rattle.cedar_names.specs.PlainNames.{bare_name, name_place};
+    ghost use Rattle.cedar_names.specs.Readers.{IsReservedName};
+
+    ghost kind = { codes "Name" };
 
     ghost outside = { λ s. IsNameText s → ⊥ };
 
-    ghost forbids = { IsNeverReserved };
+    ghost forbids = { IsReservedName };
 
     ghost reads = { λ s n.
-        IsNameOf s (bare_internal_name n) × IsWholeOf s (internal_name_place n) };
+        IsNameOf s (bare_name n)
+        × (has_reserved (bare_name n) ≡ false)
+        × IsWholeOf s (name_place n) };
 
     fn describe_self() -> &'static str {
-        "internal name"
+        "Name"
     }
 
-    fn from_normalized_str(alloc: Global, s: &str) -> Result<InternalName, ParseErrors> {
-        let mut path = Vec::new(alloc);
-        let mut rest = s;
-        'parts: while let Some((first, later)) = rest.split_once("::") {
-            path.push(read_id(alloc, first, "internal name")?)?;
-            rest = later;
+    fn from_normalized_str(alloc: Global, s: &str) -> Result<Name, ParseErrors> {
+        match InternalName::from_normalized_str(alloc, s) {
+            Ok(name) => Ok(Name::try_from(name)?),
+            Err(ParseErrors::NotNormalized { .. }) => Err(ParseErrors::NotNormalized {
+                kind: "Name",
+            }),
+            Err(e) => Err(e),
         }
-        let basename = read_id(alloc, rest, "internal name")?;
-        let src = RcStr::from_str(alloc, s)?;
-        let loc = Loc::new(0, s.len(), src);
-        Ok(InternalName::new(basename, path, Some(loc)))
     }
 }
 
-impl From<Id> for InternalName {
-    ghost from_gives = { λ id n.
-        (bare_internal_name n ≡ unqualified id) × (internal_name_place n ≡ None) };
+impl AsRef<InternalName> for Name {
+    ghost use Rattle.cedar_names.specs.PlainNames.{internal};
 
-    fn from(value: Id) -> InternalName {
-        InternalName::unqualified_name(value, None)
+    fn as_ref(&self) -> &InternalName
+        ensures { result.now ≡ internal self.now }
+    {
+        &self.name
     }
 }
 
-impl TryFrom<InternalName> for Id {
-    type Error = ();
+impl From<UnreservedId> for Name {
+    ghost use Rattle.cedar_names.specs.PlainNames.{bare_name, name_place};
+
+    ghost from_gives = { λ id n. (bare_name n ≡ unqualified id) × (name_place n ≡ None) };
+
+    fn from(value: UnreservedId) -> Name {
+        Name::unqualified_name(value)
+    }
+}
+
+impl TryFrom<InternalName> for Name {
+    type Error = ReservedNameError;
+
+    ghost use Rattle.cedar_names.specs.PlainNames.{internal};
+    ghost use Rattle.cedar_names.specs.Readers.{refused_name, refused_place};
 
     ghost try_from_gives = { λ n r.
         MatchResult r
-        (λ id. bare_internal_name n ≡ unqualified id)
-        (λ _. (bare_internal_name n).path ≢ []) };
+        (λ m. (has_reserved (bare_internal_name n) ≡ false) × (internal m ≡ n))
+        (λ e. (has_reserved (bare_internal_name n) ≡ true)
+        × (refused_name e ≡ bare_internal_name n)
+        × (refused_place e ≡ internal_name_place n)) };
 
-    fn try_from(value: InternalName) -> Result<Id, ()> {
-        if value.is_unqualified() {
-            Ok(value.basename)
-        } else {
-            Err(())
+    fn try_from(name: InternalName) -> Result<Name, ReservedNameError> {
+        if name.is_reserved() {
+            return Err(ReservedNameError { name });
         }
+        Ok(Name { name })
     }
 }
 
-impl PartialEq for InternalName {
-    ghost eq = { on bare_internal_name name_eq };
+impl From<Name> for InternalName {
+    ghost use Rattle.cedar_names.specs.PlainNames.{internal};
 
-    ghost laws = { partial_equiv_from_equiv (on_equiv bare_internal_name name_eq_equiv) };
+    ghost from_gives = { λ n m. m ≡ internal n };
 
-    fn eq(&self, other: &InternalName) -> bool {
-        self.basename == other.basename && self.path() == other.path()
+    fn from(value: Name) -> InternalName {
+        value.name
     }
 }
 
-impl Eq for InternalName {
-    ghost laws = { on_equiv bare_internal_name name_eq_equiv };
-}
+impl TryFrom<Name> for UnreservedId {
+    type Error = ();
 
-impl PartialOrd for InternalName {
-    ghost partial_cmp = { as_partial_cmp (on bare_internal_name name_cmp) };
+    ghost use Rattle.cedar_names.specs.PlainNames.{bare_name};
 
-    ghost laws = { on_po bare_internal_name name_po };
+    ghost try_from_gives = { λ n r.
+        MatchResult r
+        (λ id. bare_name n ≡ unqualified id)
+        (λ _. (bare_name n).path ≢ []) };
 
-    fn partial_cmp(&self, other: &InternalName) -> Option<Ordering> {
-        Some(self.cmp(other))
+    fn try_from(value: Name) -> Result<UnreservedId, ()> {
+        let id = Id::try_from(value.name)?;
+        Ok(UnreservedId::from_unreserved(id))
     }
 }
 
-impl Ord for InternalName {
-    ghost cmp = { on bare_internal_name name_cmp };
+impl fmt::Display for Name {
+    ghost use Rattle.cedar_names.specs.PlainNames.{bare_name};
 
-    ghost total = { on_total bare_internal_name name_cmp_total };
-
-    ghost matches_partial_cmp = { λ _ _. refl };
-
-    ghost matches_eq = { λ m n. name_ties (bare_internal_name m) (bare_internal_name n) };
-
-    fn cmp(&self, other: &InternalName) -> Ordering {
-        match self.basename.cmp(&other.basename) {
-            Ordering::Equal => self.path().cmp(other.path()),
-            order => order,
-        }
-    }
-}
-
-impl Hash for InternalName {
-    ghost hash_input = { λ n. name_fed (bare_internal_name n) };
-
-    ghost respects_eq = { λ m n h. name_fed-alike (bare_internal_name m) (bare_internal_name n) h };
-
-    fn hash<H: Hasher>(&self, state: &mut H) {
-        self.basename.hash(state);
-        self.path().hash(state);
-    }
-}
-
-impl fmt::Display for InternalName {
-    ghost output = { λ n. Some (name_text (bare_internal_name n)) };
+    ghost output = { λ n. Some (name_text (bare_name n)) };
 
     fn fmt<W: fmt::Write>(&self, f: &mut fmt::Formatter<W>) -> fmt::Result {
-        for part in self.path() {
-            write!(f, "{part}::")?;
-        }
-        write!(f, "{}", self.basename)
+        self.name.fmt(f)
     }
 }

@@ -1,4 +1,4 @@
--- Texts of Cedar's syntax with their levels of precedence (the grammar is in Cedar's `grammar.lalrpop`).
+-- Texts of Cedar's syntax with their precedences of precedence (the grammar is in Cedar's `grammar.lalrpop`).
 use Rattle.std.specs.Prelude.{ℕ, Bool, ◌||◌, List, [], ◌∷◌, ◌++◌, codes, Option, Some, None, if◌then◌else◌, nat_lt, string_bytes}
 use Rattle.std.specs.List.{flat_map}
 use Rattle.std.specs.Str.{bytes_eq}
@@ -8,70 +8,70 @@ use Rattle.cedar_names.specs.Grammar.{is_unreserved_id}
 use Rattle.cedar_terms.specs.Escape.{quoted}
 use Rattle.cedar_terms.specs.declared.ops.BinaryOp.{BinaryOp}
 use Rattle.cedar_terms.specs.declared.ops.BinaryOp.TheVariants as Binary
-use Rattle.cedar_printer.specs.declared.phrase.Level.{Level}
-use Rattle.cedar_printer.specs.declared.phrase.Level.TheVariants as levels
+use Rattle.cedar_printer.specs.declared.phrase.Precedence.{Precedence}
+use Rattle.cedar_printer.specs.declared.phrase.Precedence.TheVariants as precedences
 use Rattle.cedar_printer.specs.declared.phrase.Phrase.{Phrase}
 use Rattle.cedar_printer.specs.declared.phrase.RopePhrase.{RopePhrase}
 use Rattle.cedar_printer.specs.Ropes.{text_of}
 
--- a text and its level
-abbrev pub phrase_of : Phrase → Text × Level
-phrase_of p = (string_bytes p.text, p.level)
+-- a text and its precedence
+abbrev pub phrase_of : Phrase → Text × Precedence
+phrase_of p = (string_bytes p.text, p.precedence)
 
--- a text in pieces, joined, and its level
-abbrev pub rope_phrase : RopePhrase → Text × Level
-rope_phrase p = (text_of p.text, p.level)
+-- a text in pieces, joined, and its precedence
+abbrev pub rope_phrase : RopePhrase → Text × Precedence
+rope_phrase p = (text_of p.text, p.precedence)
 
--- the levels from the loosest on
-abbrev pub level_number : Level → ℕ
-level_number levels.Conditional = 0
-level_number levels.Or = 1
-level_number levels.And = 2
-level_number levels.Relation = 3
-level_number levels.Sum = 4
-level_number levels.Product = 5
-level_number levels.Unary = 6
-level_number levels.Member = 7
+-- the precedences from the loosest on
+abbrev pub precedence_number : Precedence → ℕ
+precedence_number precedences.Conditional = 0
+precedence_number precedences.Or = 1
+precedence_number precedences.And = 2
+precedence_number precedences.Relation = 3
+precedence_number precedences.Sum = 4
+precedence_number precedences.Product = 5
+precedence_number precedences.Unary = 6
+precedence_number precedences.Member = 7
 
--- the text where one of at least this level may stand: in round brackets if it binds less tightly
-abbrev pub text_at : Level → Text × Level → Text
-text_at least p = if nat_lt (level_number p.1) (level_number least) then 40 ∷ (p.0 ++ (41 ∷ [])) else p.0
+-- the text where one of at least this precedence may stand: in round brackets if it binds less tightly
+abbrev pub text_at : Precedence → Text × Precedence → Text
+text_at least p = if nat_lt (precedence_number p.1) (precedence_number least) then 40 ∷ (p.0 ++ (41 ∷ [])) else p.0
 
 -- a text that never needs brackets
-abbrev pub member : Text → Text × Level
-member t = (t, levels.Member)
+abbrev pub member : Text → Text × Precedence
+member t = (t, precedences.Member)
 
 -- two texts with a word or a sign between them
-abbrev pub infix_of : Level → Text → Text → Text → Text × Level
+abbrev pub infix_of : Precedence → Text → Text → Text → Text × Precedence
 infix_of own left sign right = (left ++ (32 ∷ (sign ++ (32 ∷ right))), own)
 
--- a test and its two branches, each of any level
+-- a test and its two branches, each of any precedence
 abbrev pub conditional_text : Text → Text → Text → Text
 conditional_text t a b = codes "if " ++ (t ++ (codes " then " ++ (a ++ (codes " else " ++ b))))
 
 -- a sign and its operand
-abbrev pub prefix_of : Text → Text × Level → Text × Level
-prefix_of sign p = (sign ++ text_at levels.Member p, levels.Unary)
+abbrev pub prefix_of : Text → Text × Precedence → Text × Precedence
+prefix_of sign p = (sign ++ text_at precedences.Member p, precedences.Unary)
 
 -- a call of a method
-abbrev pub method_of : Text × Level → Text → Text → Text × Level
-method_of p name args = member (text_at levels.Member p ++ (46 ∷ (name ++ (40 ∷ (args ++ (41 ∷ []))))))
+abbrev pub method_of : Text × Precedence → Text → Text → Text × Precedence
+method_of p name args = member (text_at precedences.Member p ++ (46 ∷ (name ++ (40 ∷ (args ++ (41 ∷ []))))))
 
 -- a number counts as a sign and its operand, since it may be below 0
-abbrev pub literal_level : BareLiteral → Level
-literal_level (LongLit n) = levels.Unary
-literal_level l = levels.Member
+abbrev pub literal_precedence : BareLiteral → Precedence
+literal_precedence (LongLit n) = precedences.Unary
+literal_precedence l = precedences.Member
 
--- the level of an operator that stands between its operands, and those that its operands need; the others are methods
-abbrev pub infix_levels : BinaryOp → Option (Level × Level × Level)
-infix_levels Binary.Eq = Some (levels.Relation, levels.Sum, levels.Sum)
-infix_levels Binary.Less = Some (levels.Relation, levels.Sum, levels.Sum)
-infix_levels Binary.LessEq = Some (levels.Relation, levels.Sum, levels.Sum)
-infix_levels Binary.In = Some (levels.Relation, levels.Sum, levels.Sum)
-infix_levels Binary.Add = Some (levels.Sum, levels.Sum, levels.Product)
-infix_levels Binary.Sub = Some (levels.Sum, levels.Sum, levels.Product)
-infix_levels Binary.Mul = Some (levels.Product, levels.Product, levels.Unary)
-infix_levels op = None
+-- the precedence of an operator that stands between its operands, and those that its operands need; the others are methods
+abbrev pub infix_precedences : BinaryOp → Option (Precedence × Precedence × Precedence)
+infix_precedences Binary.Eq = Some (precedences.Relation, precedences.Sum, precedences.Sum)
+infix_precedences Binary.Less = Some (precedences.Relation, precedences.Sum, precedences.Sum)
+infix_precedences Binary.LessEq = Some (precedences.Relation, precedences.Sum, precedences.Sum)
+infix_precedences Binary.In = Some (precedences.Relation, precedences.Sum, precedences.Sum)
+infix_precedences Binary.Add = Some (precedences.Sum, precedences.Sum, precedences.Product)
+infix_precedences Binary.Sub = Some (precedences.Sum, precedences.Sum, precedences.Product)
+infix_precedences Binary.Mul = Some (precedences.Product, precedences.Product, precedences.Unary)
+infix_precedences op = None
 
 -- an attribute behind its record, in square brackets if it is no identifier
 abbrev pub attribute_text : Text → Text
@@ -86,17 +86,17 @@ abbrev pub path_text : Text → List Text → Text
 path_text k ks = key_text k ++ flat_map (λ a. 46 ∷ key_text a) ks
 
 -- the texts, each behind a comma
-abbrev pub others_text : List (Text × Level) → Text
+abbrev pub others_text : List (Text × Precedence) → Text
 others_text [] = []
 others_text (p ∷ ps) = codes ", " ++ (p.0 ++ others_text ps)
 
 -- the texts with commas between them
-abbrev pub row_text : List (Text × Level) → Text
+abbrev pub row_text : List (Text × Precedence) → Text
 row_text [] = []
 row_text (p ∷ ps) = p.0 ++ others_text ps
 
 -- a key of a record with its value
-abbrev pub field_of : Text × (Text × Level) → Text × Level
+abbrev pub field_of : Text × (Text × Precedence) → Text × Precedence
 field_of p = member (quoted p.0 ++ (codes ": " ++ p.1.0))
 
 -- the methods of datetimes and durations
@@ -119,14 +119,14 @@ abbrev pub is_method : Text → Bool
 is_method t = is_method_of_times t || is_method_of_numbers t
 
 -- the call of a function, with its arguments in round brackets
-abbrev pub function_of : Text → List (Text × Level) → Text × Level
+abbrev pub function_of : Text → List (Text × Precedence) → Text × Precedence
 function_of name ps = member (name ++ (40 ∷ (row_text ps ++ (41 ∷ []))))
 
 -- the call of a method, with its first argument in front
-abbrev pub method_call_of : Text → List (Text × Level) → Text × Level
+abbrev pub method_call_of : Text → List (Text × Precedence) → Text × Precedence
 method_call_of name [] = function_of name []
 method_call_of name (p ∷ ps) = method_of p name (row_text ps)
 
 -- a call of an extension function
-abbrev pub call_of : Text → List (Text × Level) → Text × Level
+abbrev pub call_of : Text → List (Text × Precedence) → Text × Precedence
 call_of name ps = if is_method name then method_call_of name ps else function_of name ps

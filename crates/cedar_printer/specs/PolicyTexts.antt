@@ -12,18 +12,18 @@ use Rattle.cedar_terms.specs.Patterns.{pattern_text}
 use Rattle.cedar_terms.specs.declared.ops.UnaryOp.{UnaryOp}
 use Rattle.cedar_terms.specs.declared.ops.UnaryOp.TheVariants as Unary
 use Rattle.cedar_terms.specs.declared.pattern.PatternElem.{PatternElem}
-use Rattle.cedar_printer.specs.Phrases.{attribute_text, call_of, conditional_text, field_of, infix_levels, infix_of, literal_level, member, method_of, path_text, prefix_of, row_text, text_at}
-use Rattle.cedar_printer.specs.declared.phrase.Level.{Level}
-use Rattle.cedar_printer.specs.declared.phrase.Level.TheVariants as levels
+use Rattle.cedar_printer.specs.Phrases.{attribute_text, call_of, conditional_text, field_of, infix_precedences, infix_of, literal_precedence, member, method_of, path_text, prefix_of, row_text, text_at}
+use Rattle.cedar_printer.specs.declared.phrase.Precedence.{Precedence}
+use Rattle.cedar_printer.specs.declared.phrase.Precedence.TheVariants as precedences
 
 -- signs before the operand, and a method
-abbrev pub unary_text : UnaryOp → Text × Level → Text × Level
+abbrev pub unary_text : UnaryOp → Text × Precedence → Text × Precedence
 unary_text Unary.Not p = prefix_of (codes "!") p
 unary_text Unary.Neg p = prefix_of (codes "-") p
 unary_text Unary.IsEmpty p = method_of p (codes "isEmpty") []
 
--- an operator between its operands where it has levels, else a method
-abbrev pub binary_text : Option (Level × Level × Level) → Text → Text × Level → Text × Level → Text × Level
+-- an operator between its operands where it has precedences, else a method
+abbrev pub binary_text : Option (Precedence × Precedence × Precedence) → Text → Text × Precedence → Text × Precedence → Text × Precedence
 binary_text (Some t) sign p q = infix_of t.0 (text_at t.1 p) sign (text_at t.2 q)
 binary_text None sign p q = method_of p sign q.0
 
@@ -32,22 +32,22 @@ abbrev pub quoted_pattern : List PatternElem → Text
 quoted_pattern p = 34 ∷ (encode_utf8_all (pattern_text p) ++ (34 ∷ []))
 
 -- what the builder makes of each kind of expression
-abbrev pub policy_text_ops : Ops (Text × Level) ⊥
+abbrev pub policy_text_ops : Ops (Text × Precedence) ⊥
 policy_text_ops = record {
-  lit_of = λ l. (literal_text l, literal_level l);
+  lit_of = λ l. (literal_text l, literal_precedence l);
   var_of = λ v. member (var_text v);
   slot_of = λ s. member (slot_text s);
   unknown_of = λ n t. member (codes "unknown(" ++ (quoted n ++ (41 ∷ [])));
-  if_of = λ t a b. (conditional_text t.0 a.0 b.0, levels.Conditional);
-  and_of = λ p q. infix_of levels.And (text_at levels.And p) (codes "&&") (text_at levels.Relation q);
-  or_of = λ p q. infix_of levels.Or (text_at levels.Or p) (codes "||") (text_at levels.And q);
+  if_of = λ t a b. (conditional_text t.0 a.0 b.0, precedences.Conditional);
+  and_of = λ p q. infix_of precedences.And (text_at precedences.And p) (codes "&&") (text_at precedences.Relation q);
+  or_of = λ p q. infix_of precedences.Or (text_at precedences.Or p) (codes "||") (text_at precedences.And q);
   unary_of = unary_text;
-  binary_of = λ op p q. binary_text (infix_levels op) (binary_op_text op) p q;
+  binary_of = λ op p q. binary_text (infix_precedences op) (binary_op_text op) p q;
   call_of = λ n ps. Ok (call_of (name_text n) ps);
-  get_of = λ p k. member (text_at levels.Member p ++ attribute_text k);
-  has_of = λ p k ks. infix_of levels.Relation (text_at levels.Sum p) (codes "has") (path_text k ks);
-  like_of = λ p e. infix_of levels.Relation (text_at levels.Sum p) (codes "like") (quoted_pattern e);
+  get_of = λ p k. member (text_at precedences.Member p ++ attribute_text k);
+  has_of = λ p k ks. infix_of precedences.Relation (text_at precedences.Sum p) (codes "has") (path_text k ks);
+  like_of = λ p e. infix_of precedences.Relation (text_at precedences.Sum p) (codes "like") (quoted_pattern e);
   set_of = λ ps. member (91 ∷ (row_text ps ++ (93 ∷ [])));
   record_of = λ ps. member (123 ∷ (row_text (map field_of ps) ++ (125 ∷ [])));
-  is_of = λ p n. infix_of levels.Relation (text_at levels.Sum p) (codes "is") (name_text n);
+  is_of = λ p n. infix_of precedences.Relation (text_at precedences.Sum p) (codes "is") (name_text n);
 }

@@ -5,6 +5,6 @@ mod phrase;
 mod printer;
 mod rope;
 
-pub use phrase::{Level, Phrase, RopePhrase};
+pub use phrase::{Phrase, Precedence, RopePhrase};
 pub use printer::{PolicyText, policy_text};
 pub use rope::Rope;

@@ -10,14 +10,14 @@ ghost use Rattle.cedar_printer.specs.Phrases.{
   conditional_text,
   field_of,
   function_of,
-  infix_levels,
+  infix_precedences,
   infix_of,
   is_method,
   is_method_of_numbers,
   is_method_of_times,
   key_text,
-  level_number,
-  literal_level,
+  precedence_number,
+  literal_precedence,
   method_call_of,
   method_of,
   others_text,
@@ -39,7 +39,7 @@ use std::vec;
 
 /// How tightly a text binds, from the loosest on.
 #[derive(Clone, Copy, Debug)]
-pub enum Level {
+pub enum Precedence {
     /// `if a then b else c`
     Conditional,
     /// `a || b`
@@ -58,44 +58,48 @@ pub enum Level {
     Member,
 }
 
-impl Level {
-    /// Its place among the levels, from 0 on.
+impl Precedence {
+    /// Its place among the precedences, from 0 on.
     pub fn number(self) -> u8
-        ensures { result ≡ level_number self }
+        ensures { result ≡ precedence_number self }
     {
         match self {
-            Level::Conditional => 0,
-            Level::Or => 1,
-            Level::And => 2,
-            Level::Relation => 3,
-            Level::Sum => 4,
-            Level::Product => 5,
-            Level::Unary => 6,
-            Level::Member => 7,
+            Precedence::Conditional => 0,
+            Precedence::Or => 1,
+            Precedence::And => 2,
+            Precedence::Relation => 3,
+            Precedence::Sum => 4,
+            Precedence::Product => 5,
+            Precedence::Unary => 6,
+            Precedence::Member => 7,
         }
     }
 
     /// That of a literal: `Unary` of a number, else `Member`.
-    pub fn of_literal(literal: &Literal) -> Level
-        ensures { result ≡ literal_level (bare_literal literal.now) }
+    pub fn of_literal(literal: &Literal) -> Precedence
+        ensures { result ≡ literal_precedence (bare_literal literal.now) }
     {
         match literal {
-            Literal::Long(_) => Level::Unary,
-            _ => Level::Member,
+            Literal::Long(_) => Precedence::Unary,
+            _ => Precedence::Member,
         }
     }
 
     /// Those of an operator that stands between its operands: its own, and the least ones of the left
     /// and of the right operand. None of an operator that is written as a method.
-    pub fn of_infix(op: BinaryOp) -> Option<(Level, Level, Level)>
-        ensures { result ≡ infix_levels op }
+    pub fn of_infix(op: BinaryOp) -> Option<(Precedence, Precedence, Precedence)>
+        ensures { result ≡ infix_precedences op }
     {
         match op {
             BinaryOp::Eq | BinaryOp::Less | BinaryOp::LessEq | BinaryOp::In => {
-                Some((Level::Relation, Level::Sum, Level::Sum))
+                Some((Precedence::Relation, Precedence::Sum, Precedence::Sum))
             }
-            BinaryOp::Add | BinaryOp::Sub => Some((Level::Sum, Level::Sum, Level::Product)),
-            BinaryOp::Mul => Some((Level::Product, Level::Product, Level::Unary)),
+            BinaryOp::Add | BinaryOp::Sub => Some((
+                Precedence::Sum,
+                Precedence::Sum,
+                Precedence::Product,
+            )),
+            BinaryOp::Mul => Some((Precedence::Product, Precedence::Product, Precedence::Unary)),
             _ => None,
         }
     }
@@ -107,7 +111,7 @@ pub struct Phrase {
     /// The text.
     pub text: String,
     /// How tightly it binds.
-    pub level: Level,
+    pub precedence: Precedence,
 }
 
 /// The text of an expression, in pieces.
@@ -116,33 +120,33 @@ pub struct RopePhrase {
     /// The text.
     pub text: Rope,
     /// How tightly it binds.
-    pub level: Level,
+    pub precedence: Precedence,
 }
 
 impl RopePhrase {
     /// A text that never needs brackets.
     pub fn member(text: Rope) -> RopePhrase
-        ensures { rope_phrase result ≡ (text_of text, Level.Member) }
+        ensures { rope_phrase result ≡ (text_of text, Precedence.Member) }
     {
         RopePhrase {
             text,
-            level: Level::Member,
+            precedence: Precedence::Member,
         }
     }
 
     /// A text of one piece that never needs brackets.
     pub fn of_word(alloc: Global, text: String) -> RopePhrase
-        ensures { rope_phrase result ≡ (string_bytes text, Level.Member) }
+        ensures { rope_phrase result ≡ (string_bytes text, Precedence.Member) }
     {
         RopePhrase::member(Rope::new(alloc, text))
     }
 
-    /// The text where one of at least this level may stand: in brackets if it binds less tightly.
-    pub fn at(self, alloc: Global, least: Level) -> Result<Rope, AllocError>
+    /// The text where one of at least this precedence may stand: in brackets if it binds less tightly.
+    pub fn at(self, alloc: Global, least: Precedence) -> Result<Rope, AllocError>
         ensures { IfOk result (λ r. text_of r ≡ text_at least (rope_phrase self)) }
     {
-        let RopePhrase { text, level } = self;
-        if level.number() < least.number() {
+        let RopePhrase { text, precedence } = self;
+        if precedence.number() < least.number() {
             text.between(alloc, "(", ")")
         } else {
             Ok(text)
@@ -156,7 +160,7 @@ impl RopePhrase {
         let text = self.text.to_text(alloc)?;
         Ok(Phrase {
             text,
-            level: self.level,
+            precedence: self.precedence,
         })
     }
 }
@@ -169,7 +173,7 @@ pub fn make_conditional(
     no: Rope,
 ) -> Result<RopePhrase, AllocError>
     ensures { IfOk result (λ p. rope_phrase p
-        ≡ (conditional_text (text_of test) (text_of yes) (text_of no), Level.Conditional)) }
+        ≡ (conditional_text (text_of test) (text_of yes) (text_of no), Precedence.Conditional)) }
 {
     let mut text = test.between(alloc, "if ", " then ")?;
     text.append(yes)?;
@@ -177,26 +181,26 @@ pub fn make_conditional(
     text.append(no)?;
     Ok(RopePhrase {
         text,
-        level: Level::Conditional,
+        precedence: Precedence::Conditional,
     })
 }
 
 /// Two texts with a word or a sign between them.
 pub fn make_infix(
-    level: Level,
+    precedence: Precedence,
     left: Rope,
     sign: &str,
     right: Rope,
 ) -> Result<RopePhrase, AllocError>
     ensures { IfOk result (λ p.
-        rope_phrase p ≡ infix_of level (text_of left) sign.now (text_of right)) }
+        rope_phrase p ≡ infix_of precedence (text_of left) sign.now (text_of right)) }
 {
     let mut text = left;
     text.push_str(" ")?;
     text.push_str(sign)?;
     text.push_str(" ")?;
     text.append(right)?;
-    Ok(RopePhrase { text, level })
+    Ok(RopePhrase { text, precedence })
 }
 
 /// A sign and its operand. As the grammar does not mix signs, an operand with one gets brackets.
@@ -204,10 +208,10 @@ pub fn make_prefix(alloc: Global, sign: &str, arg: RopePhrase) -> Result<RopePhr
     ensures { IfOk result (λ p. rope_phrase p ≡ prefix_of sign.now (rope_phrase arg)) }
 {
     let mut text = Rope::from_str(alloc, sign)?;
-    text.append(arg.at(alloc, Level::Member)?)?;
+    text.append(arg.at(alloc, Precedence::Member)?)?;
     Ok(RopePhrase {
         text,
-        level: Level::Unary,
+        precedence: Precedence::Unary,
     })
 }
 
@@ -221,7 +225,7 @@ pub fn make_method(
     ensures { IfOk result (λ p.
         rope_phrase p ≡ method_of (rope_phrase target) name.now (text_of args)) }
 {
-    let mut text = target.at(alloc, Level::Member)?;
+    let mut text = target.at(alloc, Precedence::Member)?;
     text.push_str(".")?;
     text.push_str(name)?;
     text.append(args.between(alloc, "(", ")")?)?;

@@ -6,14 +6,14 @@ ghost use Rattle.cedar_builders.specs.Environment.{empty, fold};
 ghost use Rattle.cedar_builders.specs.declared.expression_construction_errors.ExpressionConstructionError.TheVariants as error;
 ghost use Rattle.cedar_exprs.specs.BareExpr.{bare_expr};
 ghost use Rattle.cedar_builders.specs.Errors.{OnDuplicateKey};
-ghost use Rattle.cedar_builders.specs.Keys.{keys_of, meant_pairs, IsRising, HasRepeat};
+ghost use Rattle.cedar_builders.specs.Keys.{keys_of, meant_pairs, IsAscending, HasRepeat};
 ghost use Rattle.cedar_names.specs.PlainNames.{bare_name};
 ghost use Rattle.cedar_printer.specs.Phrases.{phrase_of, rope_phrase};
 ghost use Rattle.cedar_printer.specs.PolicyTexts.{policy_text_ops};
-ghost use Rattle.cedar_printer.specs.declared.phrase.Level.{Level};
+ghost use Rattle.cedar_printer.specs.declared.phrase.Precedence.{Precedence};
 
 use crate::phrase::{
-    Level, Phrase, RopePhrase, make_attribute, make_call, make_conditional, make_fields,
+    Phrase, Precedence, RopePhrase, make_attribute, make_call, make_conditional, make_fields,
     make_infix, make_method, make_path, make_prefix, make_row,
 };
 use crate::rope::Rope;
@@ -57,7 +57,7 @@ impl ExprBuilder for PolicyText {
     type BuildError = Infallible;
 
     // An expression means its text, and how tightly that binds.
-    ghost Meaning = { Text × Level };
+    ghost Meaning = { Text × Precedence };
 
     ghost Fault = { ⊥ };
 
@@ -88,9 +88,9 @@ impl ExprBuilder for PolicyText {
     }
 
     fn val(self, alloc: Global, literal: Literal) -> Result<RopePhrase, AllocError> {
-        let level = Level::of_literal(&literal);
+        let precedence = Precedence::of_literal(&literal);
         let text = Rope::new(alloc, format!(in alloc; "{literal}")?);
-        Ok(RopePhrase { text, level })
+        Ok(RopePhrase { text, precedence })
     }
 
     fn var(self, alloc: Global, var: Var) -> Result<RopePhrase, AllocError> {
@@ -123,9 +123,9 @@ impl ExprBuilder for PolicyText {
         left: RopePhrase,
         right: RopePhrase,
     ) -> Result<RopePhrase, AllocError> {
-        let left = left.at(alloc, Level::And)?;
-        let right = right.at(alloc, Level::Relation)?;
-        make_infix(Level::And, left, "&&", right)
+        let left = left.at(alloc, Precedence::And)?;
+        let right = right.at(alloc, Precedence::Relation)?;
+        make_infix(Precedence::And, left, "&&", right)
     }
 
     fn or(
@@ -134,9 +134,9 @@ impl ExprBuilder for PolicyText {
         left: RopePhrase,
         right: RopePhrase,
     ) -> Result<RopePhrase, AllocError> {
-        let left = left.at(alloc, Level::Or)?;
-        let right = right.at(alloc, Level::And)?;
-        make_infix(Level::Or, left, "||", right)
+        let left = left.at(alloc, Precedence::Or)?;
+        let right = right.at(alloc, Precedence::And)?;
+        make_infix(Precedence::Or, left, "||", right)
     }
 
     fn unary_app(
@@ -165,10 +165,10 @@ impl ExprBuilder for PolicyText {
         arg2: RopePhrase,
     ) -> Result<RopePhrase, AllocError> {
         let sign = format!(in alloc; "{op}")?;
-        match Level::of_infix(op) {
-            Some((level, left, right)) => {
+        match Precedence::of_infix(op) {
+            Some((precedence, left, right)) => {
                 let left = arg1.at(alloc, left)?;
-                make_infix(level, left, &sign, arg2.at(alloc, right)?)
+                make_infix(precedence, left, &sign, arg2.at(alloc, right)?)
             }
             None => make_method(alloc, arg1, &sign, arg2.text),
         }
@@ -193,7 +193,7 @@ impl ExprBuilder for PolicyText {
         expr: RopePhrase,
         attr: RcStr,
     ) -> Result<RopePhrase, AllocError> {
-        let mut text = expr.at(alloc, Level::Member)?;
+        let mut text = expr.at(alloc, Precedence::Member)?;
         text.push_str(&make_attribute(alloc, &attr)?)?;
         Ok(RopePhrase::member(text))
     }
@@ -204,9 +204,9 @@ impl ExprBuilder for PolicyText {
         expr: RopePhrase,
         attrs: NonEmpty<RcStr>,
     ) -> Result<RopePhrase, AllocError> {
-        let left = expr.at(alloc, Level::Sum)?;
+        let left = expr.at(alloc, Precedence::Sum)?;
         let path = Rope::new(alloc, make_path(alloc, &attrs)?);
-        make_infix(Level::Relation, left, "has", path)
+        make_infix(Precedence::Relation, left, "has", path)
     }
 
     fn like(
@@ -215,9 +215,9 @@ impl ExprBuilder for PolicyText {
         expr: RopePhrase,
         pattern: Pattern,
     ) -> Result<RopePhrase, AllocError> {
-        let left = expr.at(alloc, Level::Sum)?;
+        let left = expr.at(alloc, Precedence::Sum)?;
         let pattern = Rope::new(alloc, format!(in alloc; "\"{pattern}\"")?);
-        make_infix(Level::Relation, left, "like", pattern)
+        make_infix(Precedence::Relation, left, "like", pattern)
     }
 
     fn is_entity_type(
@@ -226,9 +226,9 @@ impl ExprBuilder for PolicyText {
         expr: RopePhrase,
         entity_type: EntityType,
     ) -> Result<RopePhrase, AllocError> {
-        let left = expr.at(alloc, Level::Sum)?;
+        let left = expr.at(alloc, Precedence::Sum)?;
         let entity_type = Rope::new(alloc, format!(in alloc; "{entity_type}")?);
-        make_infix(Level::Relation, left, "is", entity_type)
+        make_infix(Precedence::Relation, left, "is", entity_type)
     }
 
     fn set(self, alloc: Global, members: Vec<RopePhrase>) -> Result<RopePhrase, AllocError>
@@ -244,9 +244,9 @@ impl ExprBuilder for PolicyText {
         alloc: Global,
         pairs: Vec<(RcStr, RopePhrase)>,
     ) -> Result<RopePhrase, ExpressionConstructionError>
-        ensures means { IsRising (keys_of pairs.items) → IfOk result (λ p.
+        ensures means { IsAscending (keys_of pairs.items) → IfOk result (λ p.
             rope_phrase p ≡ policy_text_ops.record_of (meant_pairs rope_phrase pairs.items)) }
-        ensures accepts { IsRising (keys_of pairs.items) → IfErr result (λ e. e ≡ error.Memory) }
+        ensures accepts { IsAscending (keys_of pairs.items) → IfErr result (λ e. e ≡ error.Memory) }
         ensures refuses { IfErr result (OnDuplicateKey (λ _. HasRepeat (keys_of pairs.items))) }
     {
         let fields = make_row(alloc, make_fields(alloc, pairs)?.into_iter())?;

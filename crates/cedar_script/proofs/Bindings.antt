@@ -11,8 +11,8 @@ use Rattle.std.specs.Str.{bytes_eq}
 use Rattle.std.specs.declared.rc.RcStr.{RcStr}
 use Rattle.cedar_terms.specs.Types.{BareType}
 use Rattle.cedar_builders.specs.BareExpr.{Text, BareExpr}
-use Rattle.cedar_value_trees.specs.ValueExpr.{value_expr}
-use Rattle.cedar_value_trees.specs.ValueTypes.{value_type}
+use Rattle.semantics_values.specs.ValueExpr.{value_expr}
+use Rattle.semantics_values.specs.ValueTypes.{value_type}
 use Rattle.cedar_values.specs.BareValues.{bare_value}
 use Rattle.cedar_values.specs.Holders.{NoExtension, held_name, held_call}
 use Rattle.cedar_values.specs.declared.value.Value.{Value}

@@ -23,8 +23,8 @@ use Rattle.cedar_builders.specs.Ops.{Ops}
 use Rattle.cedar_exprs.specs.BareExpr.{bare_expr, bare_exprs}
 use Rattle.cedar_exprs.specs.declared.expr.Expr.{Expr}
 use Rattle.cedar_values.specs.Holders.{NoExtension, held_call}
-use Rattle.evaluations.specs.Outcomes.{Outcome}
-use Rattle.simplifications.specs.Parts.{Part, tree_of}
+use Rattle.semantics_eval.specs.Outcomes.{Outcome}
+use Rattle.semantics_simplify.specs.Simplified.{Simplified, tree_of}
 use Rattle.cedar_evaluator.specs.Texts.{outcome_text}
 use Rattle.cedar_script.specs.CommandWords.{texts_now}
 use Rattle.cedar_sketch.specs.SketchTexts.{sketch_ops}
@@ -77,11 +77,11 @@ abbrev pub record_of : List (Bor Text) → List (Expr Unit) → BareExpr
 record_of keys exprs = record_tree (fields_of (map (λ p. (p.0, bare_expr p.1)) (in_key_order (key_pairs keys exprs))))
 
 -- what is left of a tree, where names are bound as `env` says; S is the simplifier
-abbrev pub what_is_left : Ops (Part NoExtension) ⊥ → Env → BareExpr → BareExpr
+abbrev pub what_is_left : Ops (Simplified NoExtension) ⊥ → Env → BareExpr → BareExpr
 what_is_left S env e = tree_of held_call (sure (fold S env e))
 
 -- what a command makes of the old stack, where names are bound as `env` says; S is the simplifier
-abbrev pub Works : Ops (Part NoExtension) ⊥ → Env → Command → Stack → Stack → Type 0
+abbrev pub Works : Ops (Simplified NoExtension) ⊥ → Env → Command → Stack → Stack → Type 0
 Works S env (Bool' b) old new = Pushes (λ e. bare_expr e ≡ Lit (BoolLit b)) old new
 Works S env (Long n) old new = Pushes (λ e. bare_expr e ≡ Lit (LongLit n)) old new
 Works S env (String text) old new = Pushes (λ e. bare_expr e ≡ Lit (StringLit text.now)) old new

@@ -1,7 +1,7 @@
 -- The statuses that the program ends with.
 use Rattle.std.specs.Prelude.{◌≡◌, ◌≢◌, ℕ, ⊤}
-use Rattle.cedar_script.specs.declared.refusal.Refusal.{Refusal}
-use Rattle.cedar_script.specs.declared.refusal.Refusal.TheVariants.{Memory as no_memory}
+use Rattle.cedar_script.specs.declared.command_error.CommandError.{CommandError}
+use Rattle.cedar_script.specs.declared.command_error.CommandError.TheVariants.{Memory as no_memory}
 use Rattle.cedar_script.specs.declared.script.RunFault.{RunFault}
 use Rattle.cedar_script.specs.declared.script.RunFault.TheVariants.{Line, Input, Output, Memory}
 
@@ -14,7 +14,7 @@ status_of Memory = 2
 
 -- the fault of a line that is refused: want of memory as itself, else the line's number, unless
 -- its cause has no memory
-abbrev pub IsFaultAt : ℕ → Refusal → RunFault → Type 0
+abbrev pub IsFaultAt : ℕ → CommandError → RunFault → Type 0
 IsFaultAt number refusal (Line line cause) = (line ≡ number) × (refusal ≢ no_memory)
 IsFaultAt number refusal Input = ⊥
 IsFaultAt number refusal Output = ⊥

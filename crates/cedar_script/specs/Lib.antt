@@ -1,5 +1,5 @@
 pub mod Faults
-pub mod Refusals
+pub mod CommandErrors
 pub mod Words
 pub mod Patterns
 pub mod CommandWords

@@ -6,10 +6,10 @@ use Rattle.std.specs.declared.cmp.Ordering.{Ordering}
 use Rattle.cedar_terms.specs.Types.{BareType}
 use Rattle.cedar_builders.specs.BareExpr.{Text, BareExpr}
 use Rattle.cedar_builders.specs.Environment.{Env}
-use Rattle.cedar_value_trees.specs.BareValue.{BareValue}
-use Rattle.cedar_value_trees.specs.Reading.{IsValueOf}
-use Rattle.cedar_value_trees.specs.ValueExpr.{value_expr}
-use Rattle.cedar_value_trees.specs.ValueTypes.{value_type}
+use Rattle.semantics_values.specs.BareValue.{BareValue}
+use Rattle.semantics_values.specs.Reading.{IsValueOf}
+use Rattle.semantics_values.specs.ValueExpr.{value_expr}
+use Rattle.semantics_values.specs.ValueTypes.{value_type}
 use Rattle.cedar_exprs.specs.declared.expr.Expr.{Expr}
 use Rattle.cedar_values.specs.Holders.{NoExtension, held_name, held_call, plain_env}
 use Rattle.cedar_values.specs.ValueMaps.{ValueMap}

@@ -2,9 +2,9 @@
 //! expressions.
 #![tactic(auto)]
 
+mod command_error;
 mod line;
 mod pattern;
-mod refusal;
 mod script;
 mod work;
 

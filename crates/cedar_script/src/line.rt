@@ -14,8 +14,8 @@ ghost use Rattle.cedar_terms.specs.declared.var.Var.{Var};
 ghost use Rattle.cedar_script.specs.CommandWords.{texts_now, words_of, Spells, Reads};
 ghost use Rattle.cedar_script.specs.Words.{IsNoName, WritesCount, WritesLong};
 
+use crate::command_error::CommandError;
 use crate::pattern::parse_pattern;
-use crate::refusal::Refusal;
 use cedar_names::{FromNormalizedStr as _, Name, NonEmpty, ParseErrors, SlotId};
 use cedar_terms::{BinaryOp, EntityType, Pattern, Type, UnaryOp, Var};
 use std::alloc::Global;
@@ -88,9 +88,9 @@ impl<'a> Command<'a> {
     ///
     /// Words are separated by one space each, and none is empty; after `string` and `like` the rest
     /// of the line is taken as it is. What is no command is a bad line.
-    pub fn parse(alloc: Global, text: &'a str) -> Result<Command<'a>, Refusal>
+    pub fn parse(alloc: Global, text: &'a str) -> Result<Command<'a>, CommandError>
         ensures reads { IfOk result (λ command. Reads text.now command) }
-        ensures refused { IfErr result (λ e. (e ≡ Refusal.BadLine) ⊎ (e ≡ Refusal.Memory)) }
+        ensures refused { IfErr result (λ e. (e ≡ CommandError.BadLine) ⊎ (e ≡ CommandError.Memory)) }
     {
         let Some((first, rest)) = text.split_once(' ') else {
             return parse_alone(alloc, text);
@@ -113,21 +113,21 @@ fn is_word(text: &str) -> bool
 }
 
 // The command that the words of a line spell, three or more.
-fn parse_each<'a>(alloc: Global, text: &'a str) -> Result<Command<'a>, Refusal>
+fn parse_each<'a>(alloc: Global, text: &'a str) -> Result<Command<'a>, CommandError>
     ensures spelled { IfOk result (λ command. Spells command (words_of text.now)) }
-    ensures refused { IfErr result (λ e. (e ≡ Refusal.BadLine) ⊎ (e ≡ Refusal.Memory)) }
+    ensures refused { IfErr result (λ e. (e ≡ CommandError.BadLine) ⊎ (e ≡ CommandError.Memory)) }
 {
     let words: Vec<&str> = text.split(' ').collect(alloc)?;
     if words.iter().any(|word| word.is_empty()) {
-        return Err(Refusal::BadLine);
+        return Err(CommandError::BadLine);
     }
     parse_words(alloc, &words)
 }
 
 // The command that three words or more spell, none of which is empty.
-fn parse_words<'a>(alloc: Global, words: &[&'a str]) -> Result<Command<'a>, Refusal>
+fn parse_words<'a>(alloc: Global, words: &[&'a str]) -> Result<Command<'a>, CommandError>
     ensures spelled { IfOk result (λ command. Spells command (texts_now words.now)) }
-    ensures refused { IfErr result (λ e. (e ≡ Refusal.BadLine) ⊎ (e ≡ Refusal.Memory)) }
+    ensures refused { IfErr result (λ e. (e ≡ CommandError.BadLine) ⊎ (e ≡ CommandError.Memory)) }
 {
     match words {
         ["record", keys @ ..] => Ok(Command::Record(keys.to_vec(alloc)?)),
@@ -137,14 +137,14 @@ fn parse_words<'a>(alloc: Global, words: &[&'a str]) -> Result<Command<'a>, Refu
         }
         ["unknown", name, ty] => Ok(Command::Unknown(name, Some(parse_type(ty)?))),
         ["call", name, number] => Ok(Command::Call(parse_name(alloc, name)?, parse_count(number)?)),
-        _ => Err(Refusal::BadLine),
+        _ => Err(CommandError::BadLine),
     }
 }
 
 // The command that a word alone spells.
-fn parse_alone<'a>(alloc: Global, word: &str) -> Result<Command<'a>, Refusal>
+fn parse_alone<'a>(alloc: Global, word: &str) -> Result<Command<'a>, CommandError>
     ensures spelled { IfOk result (λ command. Spells command (word.now ∷ [])) }
-    ensures refused { IfErr result (λ e. (e ≡ Refusal.BadLine) ⊎ (e ≡ Refusal.Memory)) }
+    ensures refused { IfErr result (λ e. (e ≡ CommandError.BadLine) ⊎ (e ≡ CommandError.Memory)) }
 {
     match word.as_bytes() {
         b"string" => Ok(Command::String("")),
@@ -168,9 +168,13 @@ fn parse_alone<'a>(alloc: Global, word: &str) -> Result<Command<'a>, Refusal>
 }
 
 // The command that a first word and one more spell.
-fn parse_with_one<'a>(alloc: Global, first: &str, word: &'a str) -> Result<Command<'a>, Refusal>
+fn parse_with_one<'a>(
+    alloc: Global,
+    first: &str,
+    word: &'a str,
+) -> Result<Command<'a>, CommandError>
     ensures spelled { IfOk result (λ command. Spells command (first.now ∷ word.now ∷ [])) }
-    ensures refused { IfErr result (λ e. (e ≡ Refusal.BadLine) ⊎ (e ≡ Refusal.Memory)) }
+    ensures refused { IfErr result (λ e. (e ≡ CommandError.BadLine) ⊎ (e ≡ CommandError.Memory)) }
 {
     match first.as_bytes() {
         b"bool" => Ok(Command::Bool(parse_bool(word)?)),
@@ -185,42 +189,42 @@ fn parse_with_one<'a>(alloc: Global, first: &str, word: &'a str) -> Result<Comma
         b"record" => Ok(Command::Record(vec![in alloc; word]?)),
         b"exthas" => Ok(Command::ExtHas(NonEmpty::new(word, Vec::new(alloc)))),
         b"bind" => Ok(Command::Bind(word)),
-        _ => Err(Refusal::BadLine),
+        _ => Err(CommandError::BadLine),
     }
 }
 
 // The Boolean that a word names.
-fn parse_bool(word: &str) -> Result<bool, Refusal>
+fn parse_bool(word: &str) -> Result<bool, CommandError>
     ensures named { IfOk result (λ b. word.now ≡ literal_text (BoolLit b)) }
-    ensures refused { IfErr result (λ e. e ≡ Refusal.BadLine) }
+    ensures refused { IfErr result (λ e. e ≡ CommandError.BadLine) }
 {
     match word {
         "true" => Ok(true),
         "false" => Ok(false),
-        _ => Err(Refusal::BadLine),
+        _ => Err(CommandError::BadLine),
     }
 }
 
 // The integer that a word writes: an optional minus and one or more digits, within 64 bits signed.
-fn parse_long(word: &str) -> Result<i64, Refusal>
+fn parse_long(word: &str) -> Result<i64, CommandError>
     ensures number { OkIff result (WritesLong word.now) (signed_digits_value 10 word.now) }
-    ensures refused { IfErr result (λ e. e ≡ Refusal.BadLine) }
+    ensures refused { IfErr result (λ e. e ≡ CommandError.BadLine) }
 {
     if starts_with_plus(word) {
-        return Err(Refusal::BadLine);
+        return Err(CommandError::BadLine);
     }
-    word.parse().map_err(|_| Refusal::BadLine)
+    word.parse().map_err(|_| CommandError::BadLine)
 }
 
 // The count that a word writes: one or more digits, within 64 bits unsigned.
-fn parse_count(word: &str) -> Result<usize, Refusal>
+fn parse_count(word: &str) -> Result<usize, CommandError>
     ensures number { OkIff result (WritesCount word.now) (digits_value 10 word.now) }
-    ensures refused { IfErr result (λ e. e ≡ Refusal.BadLine) }
+    ensures refused { IfErr result (λ e. e ≡ CommandError.BadLine) }
 {
     if starts_with_plus(word) {
-        return Err(Refusal::BadLine);
+        return Err(CommandError::BadLine);
     }
-    word.parse().map_err(|_| Refusal::BadLine)
+    word.parse().map_err(|_| CommandError::BadLine)
 }
 
 // Whether a word begins with the sign that `parse` would take too.
@@ -231,52 +235,52 @@ fn starts_with_plus(word: &str) -> bool
 }
 
 // The variable that has this text.
-fn parse_var(word: &str) -> Result<Var, Refusal>
+fn parse_var(word: &str) -> Result<Var, CommandError>
     ensures named { IfOk result (λ var. word.now ≡ var_text var) }
     ensures every { OnErr result ((var : Var) → word.now ≢ var_text var) }
-    ensures refused { IfErr result (λ e. e ≡ Refusal.BadLine) }
+    ensures refused { IfErr result (λ e. e ≡ CommandError.BadLine) }
 {
     match word {
         "principal" => Ok(Var::Principal),
         "action" => Ok(Var::Action),
         "resource" => Ok(Var::Resource),
         "context" => Ok(Var::Context),
-        _ => Err(Refusal::BadLine),
+        _ => Err(CommandError::BadLine),
     }
 }
 
 // The slot that has this text behind a question mark.
-fn parse_slot(word: &str) -> Result<SlotId, Refusal>
+fn parse_slot(word: &str) -> Result<SlotId, CommandError>
     ensures named { IfOk result (λ slot. 63 ∷ word.now ≡ slot_text slot) }
     ensures every { OnErr result ((slot : SlotId) → 63 ∷ word.now ≢ slot_text slot) }
-    ensures refused { IfErr result (λ e. e ≡ Refusal.BadLine) }
+    ensures refused { IfErr result (λ e. e ≡ CommandError.BadLine) }
 {
     match word {
         "principal" => Ok(SlotId::Principal),
         "resource" => Ok(SlotId::Resource),
-        _ => Err(Refusal::BadLine),
+        _ => Err(CommandError::BadLine),
     }
 }
 
 // The name that a word writes in its normalized form.
-fn parse_name(alloc: Global, word: &str) -> Result<Name, Refusal>
+fn parse_name(alloc: Global, word: &str) -> Result<Name, CommandError>
     ensures read { IfOk result (λ name. IsNameOf word.now (bare_name name)) }
     ensures allowed { IfOk result (λ name. has_reserved (bare_name name) ≡ false) }
-    ensures refused { IfErr result (λ e. (e ≡ Refusal.BadLine) ⊎ (e ≡ Refusal.Memory)) }
-    ensures bad { IfErr result (λ e. e ≡ Refusal.BadLine → IsNoName word.now) }
+    ensures refused { IfErr result (λ e. (e ≡ CommandError.BadLine) ⊎ (e ≡ CommandError.Memory)) }
+    ensures bad { IfErr result (λ e. e ≡ CommandError.BadLine → IsNoName word.now) }
 {
     match Name::from_normalized_str(alloc, word) {
         Ok(name) => Ok(name),
-        Err(ParseErrors::NotNormalized { .. }) => Err(Refusal::BadLine),
-        Err(ParseErrors::Reserved(_)) => Err(Refusal::BadLine),
-        Err(ParseErrors::Memory) => Err(Refusal::Memory),
+        Err(ParseErrors::NotNormalized { .. }) => Err(CommandError::BadLine),
+        Err(ParseErrors::Reserved(_)) => Err(CommandError::BadLine),
+        Err(ParseErrors::Memory) => Err(CommandError::Memory),
     }
 }
 
 // The type without a name of its own that has this text.
-fn parse_type(word: &str) -> Result<Type, Refusal>
+fn parse_type(word: &str) -> Result<Type, CommandError>
     ensures named { IfOk result (λ ty. word.now ≡ type_text (bare_type ty)) }
-    ensures refused { IfErr result (λ e. e ≡ Refusal.BadLine) }
+    ensures refused { IfErr result (λ e. e ≡ CommandError.BadLine) }
 {
     match word {
         "bool" => Ok(Type::Bool),
@@ -284,15 +288,15 @@ fn parse_type(word: &str) -> Result<Type, Refusal>
         "string" => Ok(Type::String),
         "set" => Ok(Type::Set),
         "record" => Ok(Type::Record),
-        _ => Err(Refusal::BadLine),
+        _ => Err(CommandError::BadLine),
     }
 }
 
 // The operator of two arguments that has this text.
-fn parse_binary_op(word: &str) -> Result<BinaryOp, Refusal>
+fn parse_binary_op(word: &str) -> Result<BinaryOp, CommandError>
     ensures named { IfOk result (λ op. word.now ≡ binary_op_text op) }
     ensures every { OnErr result ((op : BinaryOp) → word.now ≢ binary_op_text op) }
-    ensures refused { IfErr result (λ e. e ≡ Refusal.BadLine) }
+    ensures refused { IfErr result (λ e. e ≡ CommandError.BadLine) }
 {
     match word {
         "==" => Ok(BinaryOp::Eq),
@@ -307,6 +311,6 @@ fn parse_binary_op(word: &str) -> Result<BinaryOp, Refusal>
         "containsAny" => Ok(BinaryOp::ContainsAny),
         "getTag" => Ok(BinaryOp::GetTag),
         "hasTag" => Ok(BinaryOp::HasTag),
-        _ => Err(Refusal::BadLine),
+        _ => Err(CommandError::BadLine),
     }
 }

@@ -3,7 +3,7 @@ ghost use Rattle.std.specs.Prelude.{◌≡◌, ◌++◌, ◌⊎◌, IfOk, IfErr,
 ghost use Rattle.std.specs.Str.{chars};
 ghost use Rattle.cedar_script.specs.Patterns.{elem_spelling, spelling, BeginsWithNone, SpellsNone};
 
-use crate::refusal::Refusal;
+use crate::command_error::CommandError;
 use cedar_terms::{Pattern, PatternElem, first_char};
 use std::alloc::Global;
 
@@ -11,10 +11,10 @@ use std::alloc::Global;
 /// any other character is itself.
 ///
 /// A text with another backslash is a bad line.
-pub fn parse_pattern(alloc: Global, text: &str) -> Result<Pattern, Refusal>
+pub fn parse_pattern(alloc: Global, text: &str) -> Result<Pattern, CommandError>
     ensures spelled { IfOk result (λ p. chars text.now ≡ spelling p) }
-    ensures refused { IfErr result (λ e. (e ≡ Refusal.BadLine) ⊎ (e ≡ Refusal.Memory)) }
-    ensures bad { IfErr result (λ e. e ≡ Refusal.BadLine → SpellsNone (chars text.now)) }
+    ensures refused { IfErr result (λ e. (e ≡ CommandError.BadLine) ⊎ (e ≡ CommandError.Memory)) }
+    ensures bad { IfErr result (λ e. e ≡ CommandError.BadLine → SpellsNone (chars text.now)) }
 {
     let mut elems = Vec::new(alloc);
     let mut rest = text;
@@ -24,7 +24,7 @@ pub fn parse_pattern(alloc: Global, text: &str) -> Result<Pattern, Refusal>
     }
     match first_char(rest) {
         None => Ok(Pattern::from_vec(alloc, elems)?),
-        Some(_) => Err(Refusal::BadLine),
+        Some(_) => Err(CommandError::BadLine),
     }
 }
 

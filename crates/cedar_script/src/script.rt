@@ -3,8 +3,8 @@ ghost use Rattle.std.specs.Prelude.{◌≡◌, ◌∷◌, [], ◌++◌, IfOk, If
 ghost use Rattle.std.specs.Io.KnownBytes.{Appends, IsAtEnd};
 ghost use Rattle.cedar_script.specs.Faults.{status_of, IsFaultAt, IsInputFault};
 
+use crate::command_error::CommandError;
 use crate::line::Command;
-use crate::refusal::Refusal;
 use crate::work::State;
 use std::alloc::Global;
 use std::io::{self, Read, Write};
@@ -40,10 +40,10 @@ impl RunFault {
     }
 
     // The fault of a line that is refused.
-    fn at_line(alloc: Global, line: usize, refusal: Refusal) -> RunFault
+    fn at_line(alloc: Global, line: usize, refusal: CommandError) -> RunFault
         ensures { IsFaultAt line refusal result }
     {
-        if refusal == Refusal::Memory {
+        if refusal == CommandError::Memory {
             return RunFault::Memory;
         }
         match refusal.to_string(alloc).and_then(RcStr::from_string) {
@@ -91,8 +91,12 @@ fn read_input<R: Read>(alloc: Global, reader: &mut R) -> Result<Vec<u8>, RunFaul
 }
 
 // Works a line, and gives the text that it shows, if it shows one. An empty line does nothing.
-fn work_line(alloc: Global, state: &mut State, line: &[u8]) -> Result<Option<String>, Refusal> {
-    let text = str::from_utf8(line).map_err(|_| Refusal::NotUtf8)?;
+fn work_line(
+    alloc: Global,
+    state: &mut State,
+    line: &[u8],
+) -> Result<Option<String>, CommandError> {
+    let text = str::from_utf8(line).map_err(|_| CommandError::NotUtf8)?;
     if text.is_empty() {
         return Ok(None);
     }

@@ -15,18 +15,18 @@ ghost use Rattle.cedar_builders.specs.Fold.{on_one};
 ghost use Rattle.cedar_builders.specs.Trees.{tree_ops};
 ghost use Rattle.cedar_exprs.specs.BareExpr.{bare_expr, bare_exprs};
 ghost use Rattle.cedar_builders.specs.Keys.{keyed};
-ghost use Rattle.cedar_value_trees.specs.Reading.{IsValueOf};
+ghost use Rattle.semantics_values.specs.Reading.{IsValueOf};
 ghost use Rattle.cedar_values.specs.BareValues.{bare_value};
 ghost use Rattle.cedar_evaluator.specs.Texts.{outcome_text};
 ghost use Rattle.cedar_script.specs.CommandEffects.{needed_count, left_count, key_pairs, record_of, what_is_left, Works, Binds, Shows};
 ghost use Rattle.cedar_script.specs.CommandWords.{texts_now};
-ghost use Rattle.cedar_script.specs.Refusals.{IsCallRefusal, IsValueRefusal};
+ghost use Rattle.cedar_script.specs.CommandErrors.{IsCallError, IsValueError};
 ghost use Rattle.cedar_sketch.specs.SketchTexts.{sketch_ops};
 ghost use Rattle.cedar_script.specs.Stack.{stack_of, depth, bindings_of, environment, binding_of, IsBoundTo, IsBoundToValueOf, TopHas, ReplacesOne, ReplacesTwo, ReplacesThree, ReplacesMany};
 ghost use Rattle.cedar_script.specs.declared.line.Command.{Command};
 
+use crate::command_error::CommandError;
 use crate::line::Command;
-use crate::refusal::Refusal;
 use cedar_builders::ExprBuilder as Builder;
 use cedar_evaluator::{Evaluator, evaluate};
 use cedar_exprs::{Expr, ExprBuilder, ExprKind};
@@ -41,7 +41,7 @@ use std::mem;
 use std::rc::{Rc, RcStr};
 
 /// What a command shows, if it shows something, or why its line is refused.
-pub type Shown = Result<Option<String>, Refusal>;
+pub type CommandOutput = Result<Option<String>, CommandError>;
 
 /// A stack of expressions, and what names are bound to.
 #[derive(Debug, Drop)]
@@ -65,7 +65,7 @@ impl State {
     ///
     /// Before anything else it is checked that the stack has the expressions that the command
     /// needs. After a refusal some of them may be gone.
-    pub fn work(&mut self, alloc: Global, command: Command<'_>) -> Shown
+    pub fn work(&mut self, alloc: Global, command: Command<'_>) -> CommandOutput
         ensures works { OnOk result
             (Works ⟦<Simplifier as Builder>⟧.ops (environment (bindings_of self.old))
             command.entry (stack_of self.old) (stack_of self.new)) }
@@ -74,7 +74,7 @@ impl State {
         ensures depth { OnOk result
             (depth self.new + needed_count command.entry
             ≡ depth self.old + left_count command.entry) }
-        ensures too_few { IsErrOf result Refusal.TooFewExpressions
+        ensures too_few { IsErrOf result CommandError.TooFewExpressions
             ↔ (depth self.old < needed_count command.entry) }
         ensures shows { IfOk result
             (Shows ⟦<Evaluator as Builder>⟧.ops (environment (bindings_of self.old)) command.entry
@@ -118,12 +118,12 @@ impl State {
     }
 
     #[tactic(auto, using(crate::proofs::Stacks::reverse_push))]
-    fn push(&mut self, expr: Expr) -> Shown
+    fn push(&mut self, expr: Expr) -> CommandOutput
         ensures shows { IfOk result (λ shown. shown ≡ None) }
         ensures pushed { OnOk result (stack_of self.new ≡ expr ∷ stack_of self.old) }
         ensures depth { OnOk result (depth self.new ≡ depth self.old + 1) }
         ensures bindings { bindings_of self.new ≡ bindings_of self.old }
-        ensures refused { IfErr result (λ e. e ≡ Refusal.Memory) }
+        ensures refused { IfErr result (λ e. e ≡ CommandError.Memory) }
     {
         // `push` would move it once more, since its error has the expression.
         self.stack.reserve(1)?;
@@ -133,38 +133,38 @@ impl State {
 
     // Takes the top of the stack.
     #[tactic(auto, using(crate::proofs::Stacks::reverse_push))]
-    fn pop(&mut self) -> Result<Expr, Refusal>
+    fn pop(&mut self) -> Result<Expr, CommandError>
         ensures popped { IfOk result (λ top. stack_of self.old ≡ top ∷ stack_of self.new) }
         ensures bindings { bindings_of self.new ≡ bindings_of self.old }
         ensures depth { OnOk result (depth self.new + 1 ≡ depth self.old) }
         ensures too_few { IfErr result (λ e.
-            (e ≡ Refusal.TooFewExpressions) × (depth self.old < 1)) }
+            (e ≡ CommandError.TooFewExpressions) × (depth self.old < 1)) }
     {
-        self.stack.pop().ok_or(Refusal::TooFewExpressions)
+        self.stack.pop().ok_or(CommandError::TooFewExpressions)
     }
 
     // Takes this many expressions, and gives the lowest first.
     #[tactic(auto, using(crate::proofs::Stacks::past_index, crate::proofs::Stacks::before_index))]
-    fn pop_many(&mut self, alloc: Global, count: usize) -> Result<Vec<Expr>, Refusal>
+    fn pop_many(&mut self, alloc: Global, count: usize) -> Result<Vec<Expr>, CommandError>
         ensures popped { IfOk result (λ exprs.
             exprs.items ≡ reverse (take count (stack_of self.old))) }
         ensures below { OnOk result (stack_of self.new ≡ drop count (stack_of self.old)) }
         ensures bindings { bindings_of self.new ≡ bindings_of self.old }
         ensures depth { IfOk result (λ exprs.
             (vec_len exprs ≡ count) × (depth self.new + count ≡ depth self.old)) }
-        ensures too_few { IsErrOf result Refusal.TooFewExpressions ↔ (depth self.old < count) }
+        ensures too_few { IsErrOf result CommandError.TooFewExpressions ↔ (depth self.old < count) }
     {
         match self.stack.len().checked_sub(count) {
             // The whole stack, as it lies.
             Some(0) => Ok(mem::replace(&mut self.stack, Vec::new(alloc))),
             Some(kept) => Ok(self.stack.split_off(kept)?),
-            None => Err(Refusal::TooFewExpressions),
+            None => Err(CommandError::TooFewExpressions),
         }
     }
 
     // Takes the top, and pushes what is made of it.
     #[inline(never)]
-    fn apply_one<F>(&mut self, alloc: Global, make: F) -> Shown
+    fn apply_one<F>(&mut self, alloc: Global, make: F) -> CommandOutput
     where
         F: FnOnce(Global, Expr) -> Result<Expr, AllocError>,
         requires { F.IsAlwaysCallable make }
@@ -174,7 +174,7 @@ impl State {
             (λ a e. F.post make alloc a (Ok e))
             (stack_of self.old) (stack_of self.new)) }
         ensures depth { OnOk result (depth self.new ≡ depth self.old) }
-        ensures too_few { IsErrOf result Refusal.TooFewExpressions ↔ (depth self.old < 1) }
+        ensures too_few { IsErrOf result CommandError.TooFewExpressions ↔ (depth self.old < 1) }
     {
         let top = self.pop()?;
         self.push(make(alloc, top)?)
@@ -182,7 +182,7 @@ impl State {
 
     // Takes the two top expressions, and pushes what is made of the lower and the upper one.
     #[inline(never)]
-    fn apply_two<F>(&mut self, alloc: Global, make: F) -> Shown
+    fn apply_two<F>(&mut self, alloc: Global, make: F) -> CommandOutput
     where
         F: FnOnce(Global, Expr, Expr) -> Result<Expr, AllocError>,
         requires { F.IsAlwaysCallable make }
@@ -192,7 +192,7 @@ impl State {
             (λ a b e. F.post make alloc a b (Ok e))
             (stack_of self.old) (stack_of self.new)) }
         ensures depth { OnOk result (depth self.new + 1 ≡ depth self.old) }
-        ensures too_few { IsErrOf result Refusal.TooFewExpressions ↔ (depth self.old < 2) }
+        ensures too_few { IsErrOf result CommandError.TooFewExpressions ↔ (depth self.old < 2) }
     {
         let upper = self.pop()?;
         let lower = self.pop()?;
@@ -201,14 +201,14 @@ impl State {
 
     // Takes the test and the branches, the test lowest, and pushes their conditional.
     #[inline(never)]
-    fn make_conditional(&mut self, alloc: Global) -> Shown
+    fn make_conditional(&mut self, alloc: Global) -> CommandOutput
         ensures shows { IfOk result (λ shown. shown ≡ None) }
         ensures bindings { bindings_of self.new ≡ bindings_of self.old }
         ensures made { OnOk result (ReplacesThree
             (λ a b c e. bare_expr e ≡ tree_ops.if_of (bare_expr a) (bare_expr b) (bare_expr c))
             (stack_of self.old) (stack_of self.new)) }
         ensures depth { OnOk result (depth self.new + 2 ≡ depth self.old) }
-        ensures too_few { IsErrOf result Refusal.TooFewExpressions ↔ (depth self.old < 3) }
+        ensures too_few { IsErrOf result CommandError.TooFewExpressions ↔ (depth self.old < 3) }
     {
         let else_expr = self.pop()?;
         let then_expr = self.pop()?;
@@ -218,14 +218,14 @@ impl State {
 
     // Takes this many expressions, and pushes the call of the function on them.
     #[inline(never)]
-    fn make_call(&mut self, alloc: Global, name: Name, count: usize) -> Shown
+    fn make_call(&mut self, alloc: Global, name: Name, count: usize) -> CommandOutput
         ensures shows { IfOk result (λ shown. shown ≡ None) }
         ensures bindings { bindings_of self.new ≡ bindings_of self.old }
         ensures made { OnOk result (ReplacesMany count
             (λ args e. bare_expr e ≡ call_tree (bare_name name) (bare_exprs args))
             (stack_of self.old) (stack_of self.new)) }
         ensures depth { OnOk result (depth self.new + count ≡ depth self.old + 1) }
-        ensures too_few { IsErrOf result Refusal.TooFewExpressions ↔ (depth self.old < count) }
+        ensures too_few { IsErrOf result CommandError.TooFewExpressions ↔ (depth self.old < count) }
     {
         let args = self.pop_many(alloc, count)?;
         self.push(Expr::call_extension_fn(alloc, name, args)?)
@@ -233,14 +233,14 @@ impl State {
 
     // Takes this many expressions, and pushes the set of them.
     #[inline(never)]
-    fn make_set(&mut self, alloc: Global, count: usize) -> Shown
+    fn make_set(&mut self, alloc: Global, count: usize) -> CommandOutput
         ensures shows { IfOk result (λ shown. shown ≡ None) }
         ensures bindings { bindings_of self.new ≡ bindings_of self.old }
         ensures made { OnOk result (ReplacesMany count
             (λ es e. bare_expr e ≡ members (bare_exprs es))
             (stack_of self.old) (stack_of self.new)) }
         ensures depth { OnOk result (depth self.new + count ≡ depth self.old + 1) }
-        ensures too_few { IsErrOf result Refusal.TooFewExpressions ↔ (depth self.old < count) }
+        ensures too_few { IsErrOf result CommandError.TooFewExpressions ↔ (depth self.old < count) }
     {
         let members = self.pop_many(alloc, count)?;
         self.push(Expr::set(alloc, members)?)
@@ -248,14 +248,14 @@ impl State {
 
     // Takes an expression for each key, and pushes the record of them.
     #[inline(never)]
-    fn make_record(&mut self, alloc: Global, keys: Vec<&str>) -> Shown
+    fn make_record(&mut self, alloc: Global, keys: Vec<&str>) -> CommandOutput
         ensures shows { IfOk result (λ shown. shown ≡ None) }
         ensures bindings { bindings_of self.new ≡ bindings_of self.old }
         ensures made { OnOk result (ReplacesMany (vec_len keys.entry)
             (λ values e. bare_expr e ≡ record_of keys.entry.items values)
             (stack_of self.old) (stack_of self.new)) }
         ensures depth { OnOk result (depth self.new + vec_len keys.entry ≡ depth self.old + 1) }
-        ensures too_few { IsErrOf result Refusal.TooFewExpressions
+        ensures too_few { IsErrOf result CommandError.TooFewExpressions
             ↔ (depth self.old < vec_len keys.entry) }
     {
         let values = self.pop_many(alloc, keys.len())?;
@@ -264,7 +264,7 @@ impl State {
 
     // Takes the top as a value, and binds the name to it.
     #[inline(never)]
-    fn bind(&mut self, alloc: Global, name: &str) -> Shown
+    fn bind(&mut self, alloc: Global, name: &str) -> CommandOutput
         ensures shows { IfOk result (λ shown. shown ≡ None) }
         ensures bound { OnOk result (TopHas
             (λ top. IsBoundToValueOf ⟦<NoExtension as Ord>⟧.cmp name.now (bare_expr top)
@@ -272,21 +272,21 @@ impl State {
             (stack_of self.old)) }
         ensures below { OnOk result (stack_of self.new ≡ drop 1 (stack_of self.old)) }
         ensures depth { OnOk result (depth self.new + 1 ≡ depth self.old) }
-        ensures too_few { IsErrOf result Refusal.TooFewExpressions ↔ (depth self.old < 1) }
+        ensures too_few { IsErrOf result CommandError.TooFewExpressions ↔ (depth self.old < 1) }
     {
         let value = into_value(alloc, self.pop()?)?;
         self.bind_to(alloc, name, value)
     }
 
     // Binds the name to a value, in place of an earlier binding.
-    fn bind_to(&mut self, alloc: Global, name: &str, value: Value) -> Shown
+    fn bind_to(&mut self, alloc: Global, name: &str, value: Value) -> CommandOutput
         ensures shows { IfOk result (λ shown. shown ≡ None) }
         ensures bound { OnOk result
             (IsBoundTo name.now (binding_of (bare_value value))
             (environment (bindings_of self.old)) (environment (bindings_of self.new))) }
         ensures stack { stack_of self.new ≡ stack_of self.old }
         ensures depth { depth self.new ≡ depth self.old }
-        ensures refused { IfErr result (λ e. e ≡ Refusal.Memory) }
+        ensures refused { IfErr result (λ e. e ≡ CommandError.Memory) }
     {
         let name = RcStr::from_str(alloc, name)?;
         self.bindings.insert(name, value)?;
@@ -295,7 +295,7 @@ impl State {
 
     // Replaces the top by its substitution.
     #[inline(never)]
-    fn substitute(&mut self, alloc: Global) -> Shown
+    fn substitute(&mut self, alloc: Global) -> CommandOutput
         ensures shows { IfOk result (λ shown. shown ≡ None) }
         ensures bindings { bindings_of self.new ≡ bindings_of self.old }
         ensures made { OnOk result (ReplacesOne
@@ -303,7 +303,7 @@ impl State {
             ≡ Ok (bare_expr e))
             (stack_of self.old) (stack_of self.new)) }
         ensures depth { OnOk result (depth self.new ≡ depth self.old) }
-        ensures too_few { IsErrOf result Refusal.TooFewExpressions ↔ (depth self.old < 1) }
+        ensures too_few { IsErrOf result CommandError.TooFewExpressions ↔ (depth self.old < 1) }
     {
         let top = self.pop()?.substitute(alloc, &self.bindings)?;
         self.push(top)
@@ -311,7 +311,7 @@ impl State {
 
     // Replaces the top by its substitution, if no value has another type than is expected of it.
     #[inline(never)]
-    fn substitute_typed(&mut self, alloc: Global) -> Shown
+    fn substitute_typed(&mut self, alloc: Global) -> CommandOutput
         ensures shows { IfOk result (λ shown. shown ≡ None) }
         ensures bindings { bindings_of self.new ≡ bindings_of self.old }
         ensures made { OnOk result (ReplacesOne
@@ -320,7 +320,7 @@ impl State {
             × (clash (environment (bindings_of self.old)) (bare_expr a) ≡ None))
             (stack_of self.old) (stack_of self.new)) }
         ensures depth { OnOk result (depth self.new ≡ depth self.old) }
-        ensures too_few { IsErrOf result Refusal.TooFewExpressions ↔ (depth self.old < 1) }
+        ensures too_few { IsErrOf result CommandError.TooFewExpressions ↔ (depth self.old < 1) }
     {
         let top = substitute_typed(alloc, &self.pop()?, &self.bindings)?;
         self.push(top)
@@ -328,7 +328,7 @@ impl State {
 
     // Replaces the top by what is left of it.
     #[inline(never)]
-    fn simplify(&mut self, alloc: Global) -> Shown
+    fn simplify(&mut self, alloc: Global) -> CommandOutput
         ensures shows { IfOk result (λ shown. shown ≡ None) }
         ensures bindings { bindings_of self.new ≡ bindings_of self.old }
         ensures made { OnOk result (ReplacesOne
@@ -337,7 +337,7 @@ impl State {
             (bare_expr a))
             (stack_of self.old) (stack_of self.new)) }
         ensures depth { OnOk result (depth self.new ≡ depth self.old) }
-        ensures too_few { IsErrOf result Refusal.TooFewExpressions ↔ (depth self.old < 1) }
+        ensures too_few { IsErrOf result CommandError.TooFewExpressions ↔ (depth self.old < 1) }
     {
         let left = simplify(alloc, &self.pop()?, &self.bindings)?;
         self.push(left.into_expr(alloc)?)
@@ -345,40 +345,40 @@ impl State {
 
     // Shows the top, which stays.
     #[inline(never)]
-    fn show(&self, alloc: Global) -> Shown
+    fn show(&self, alloc: Global) -> CommandOutput
         ensures shows { IfOk result
             (Shows ⟦<Evaluator as Builder>⟧.ops (environment (bindings_of self.now)) Command.Show
             (stack_of self.now)) }
-        ensures too_few { IsErrOf result Refusal.TooFewExpressions ↔ (depth self.now < 1) }
+        ensures too_few { IsErrOf result CommandError.TooFewExpressions ↔ (depth self.now < 1) }
     {
-        let top = self.stack.last().ok_or(Refusal::TooFewExpressions)?;
+        let top = self.stack.last().ok_or(CommandError::TooFewExpressions)?;
         Ok(Some(write_expr(alloc, top)?))
     }
 
     // Shows the outcome of the top, which stays.
     #[inline(never)]
-    fn evaluate(&self, alloc: Global) -> Shown
+    fn evaluate(&self, alloc: Global) -> CommandOutput
         ensures shows { IfOk result
             (Shows ⟦<Evaluator as Builder>⟧.ops (environment (bindings_of self.now)) Command.Eval
             (stack_of self.now)) }
-        ensures too_few { IsErrOf result Refusal.TooFewExpressions ↔ (depth self.now < 1) }
+        ensures too_few { IsErrOf result CommandError.TooFewExpressions ↔ (depth self.now < 1) }
     {
-        let top = self.stack.last().ok_or(Refusal::TooFewExpressions)?;
+        let top = self.stack.last().ok_or(CommandError::TooFewExpressions)?;
         Ok(Some(self.write_outcome(alloc, top)?))
     }
 
     // Writes the text of the outcome of an expression.
-    fn write_outcome(&self, alloc: Global, expr: &Expr) -> Result<String, Refusal>
+    fn write_outcome(&self, alloc: Global, expr: &Expr) -> Result<String, CommandError>
         ensures text { IfOk result (λ text.
             on_one outcome_text
             (fold ⟦<Evaluator as Builder>⟧.ops (environment (bindings_of self.now)) (bare_expr expr.now))
             ≡ Ok (string_bytes text)) }
-        ensures refused { IfErr result (IsCallRefusal
+        ensures refused { IfErr result (IsCallError
             (fold ⟦<Evaluator as Builder>⟧.ops (environment (bindings_of self.now)) (bare_expr expr.now))) }
     {
         match evaluate(alloc, expr, &self.bindings) {
             Ok(outcome) => Ok(outcome.to_string(alloc)?),
-            Err(fault) => Err(Refusal::of_call(alloc, fault)),
+            Err(fault) => Err(CommandError::of_call(alloc, fault)),
         }
     }
 }
@@ -449,10 +449,10 @@ fn share_texts(alloc: Global, texts: &[&str]) -> Result<Vec<RcStr>, AllocError>
 }
 
 // Takes the value of an expression of literals, sets and records.
-fn into_value(alloc: Global, expr: Expr) -> Result<Value, Refusal>
+fn into_value(alloc: Global, expr: Expr) -> Result<Value, CommandError>
     ensures value { IfOk result (λ v.
         IsValueOf ⟦<NoExtension as Ord>⟧.cmp (bare_expr expr) (bare_value v)) }
-    ensures refused { IfErr result (IsValueRefusal (bare_expr expr)) }
+    ensures refused { IfErr result (IsValueError (bare_expr expr)) }
 {
     Ok(Value::try_from_expr(alloc, expr)?)
 }
@@ -462,22 +462,26 @@ fn substitute_typed(
     alloc: Global,
     expr: &Expr,
     bindings: &HashMap<RcStr, Value>,
-) -> Result<Expr, Refusal>
+) -> Result<Expr, CommandError>
     ensures substituted { IfOk result (λ e.
         fold tree_ops (environment bindings.now) (bare_expr expr.now) ≡ Ok (bare_expr e)) }
     ensures passed { OnOk result (clash (environment bindings.now) (bare_expr expr.now) ≡ None) }
-    ensures refused { IfErr result (λ e. e ≢ Refusal.TooFewExpressions) }
+    ensures refused { IfErr result (λ e. e ≢ CommandError.TooFewExpressions) }
 {
     match expr.substitute_typed(alloc, bindings) {
         Ok(expr) => Ok(expr),
-        Err(error) => Err(Refusal::of_types(alloc, error)),
+        Err(error) => Err(CommandError::of_types(alloc, error)),
     }
 }
 
 // Makes the record of keys, each with the value at its index.
-fn make_keyed_record(alloc: Global, keys: Vec<&str>, values: Vec<Expr>) -> Result<Expr, Refusal>
+fn make_keyed_record(
+    alloc: Global,
+    keys: Vec<&str>,
+    values: Vec<Expr>,
+) -> Result<Expr, CommandError>
     ensures made { IfOk result (λ e. bare_expr e ≡ record_of keys.entry.items values.items) }
-    ensures refused { IfErr result (λ e. e ≢ Refusal.TooFewExpressions) }
+    ensures refused { IfErr result (λ e. e ≢ CommandError.TooFewExpressions) }
 {
     let pairs = pair_up(alloc, keys, values)?;
     Ok(Expr::record(alloc, pairs)?)

@@ -5,29 +5,29 @@ use Rattle.std.specs.List.{cons_option, filter_map, list_all}
 use Rattle.std.specs.Rc.{rc_str_bytes}
 use Rattle.std.specs.declared.cmp.Ordering.{Ordering}
 use Rattle.std.specs.declared.rc.RcStr.{RcStr}
-use Rattle.sorted_slices.specs.Rising.{and_left, and_right}
+use Rattle.cedar_sorted_slices.specs.Ascending.{and_left, and_right}
 use Rattle.cedar_builders.specs.BareExpr.{Text, BareExpr}
 use Rattle.cedar_builders.specs.Fold.{on_one}
-use Rattle.cedar_builders.specs.Keys.{IsRising, keys_of, meant_pairs}
-use Rattle.cedar_value_trees.specs.BareValue.{BareValue, RecordValue, pairs_of}
+use Rattle.cedar_builders.specs.Keys.{IsAscending, keys_of, meant_pairs}
+use Rattle.semantics_values.specs.BareValue.{BareValue, RecordValue, pairs_of}
 use Rattle.cedar_values.specs.BareValues.{bare_value}
 use Rattle.cedar_values.specs.Holders.{NoExtension}
 use Rattle.cedar_values.specs.WellFormed.{well_formed}
 use Rattle.cedar_values.specs.declared.value.Value.{Value}
-use Rattle.evaluations.specs.Outcomes.{Outcome, Open}
-use Rattle.evaluations.specs.Rows.{all_values, all_pairs, set_value, set_outcome, record_outcome}
-use Rattle.simplifications.specs.Parts as meant
+use Rattle.semantics_eval.specs.Outcomes.{Outcome, Open}
+use Rattle.semantics_eval.specs.Rows.{all_values, all_pairs, set_value, set_outcome, record_outcome}
+use Rattle.semantics_simplify.specs.Simplified as meant
 use Rattle.cedar_simplifier.specs.Kept.{is_kept}
-use Rattle.cedar_simplifier.specs.Parts.{bare_kind, held_pair, held_value, is_known, meaning_of, value_in_kind}
+use Rattle.cedar_simplifier.specs.Simplified.{bare_kind, held_pair, held_value, is_known, meaning_of, value_in_kind}
 use Rattle.cedar_simplifier.specs.declared.kind.Kind.{Kind}
-use Rattle.cedar_simplifier.specs.declared.kind.Kind.TheVariants.{Known, Left}
-use Rattle.cedar_simplifier.specs.declared.part.Part.{Part}
+use Rattle.cedar_simplifier.specs.declared.kind.Kind.TheVariants.{Known, Residual}
+use Rattle.cedar_simplifier.specs.declared.simplified.Simplified.{Simplified}
 
 -- whether each part is known, in a row and in a record
-abbrev pub are_known : List Part → Bool
+abbrev pub are_known : List Simplified → Bool
 are_known ps = list_all (λ p. is_known (meaning_of p)) ps
 
-abbrev pub have_known : List (RcStr Global × Part) → Bool
+abbrev pub have_known : List (RcStr Global × Simplified) → Bool
 have_known ps = list_all (λ p. is_known (meaning_of p.1)) ps
 
 behind : (a b : Bool) → (a && b) ≡ false → a ≡ true → b ≡ false
@@ -41,18 +41,18 @@ one_known : (k : Kind) (vs : List (Value NoExtension)) (ms : List (Outcome NoExt
     → all_values (meant.outcome_of (bare_kind k) ∷ ms)
     ≡ Ok (map bare_value (cons_option (value_in_kind k) vs))
 one_known (Known v) vs ms h g = ap (on_one (λ ts. bare_value v ∷ ts)) g
-one_known (Left t) vs ms h g = cc
+one_known (Residual t) vs ms h g = cc
 
 one_left : (k : Kind) (ms : List (Outcome NoExtension))
     → (is_known (bare_kind k) ≡ true → all_values ms ≡ Err Open)
     → all_values (meant.outcome_of (bare_kind k) ∷ ms) ≡ Err Open
 one_left (Known v) ms h = ap (on_one (λ ts. bare_value v ∷ ts)) (h refl)
-one_left (Left t) ms h = refl
+one_left (Residual t) ms h = refl
 
-abbrev outcomes_of : List Part → List (Outcome NoExtension)
+abbrev outcomes_of : List Simplified → List (Outcome NoExtension)
 outcomes_of ps = map meant.outcome_of (map meaning_of ps)
 
-all_known : (ps : List Part) → are_known ps ≡ true
+all_known : (ps : List Simplified) → are_known ps ≡ true
     → all_values (outcomes_of ps) ≡ Ok (map bare_value (filter_map held_value ps))
 all_known [] h = refl
 all_known (p ∷ ps) h =
@@ -60,24 +60,24 @@ all_known (p ∷ ps) h =
     (and_left (is_known (meaning_of p)) (are_known ps) h)
     (all_known ps (and_right (is_known (meaning_of p)) (are_known ps) h))
 
-not_known : (ps : List Part) → are_known ps ≡ false → all_values (outcomes_of ps) ≡ Err Open
+not_known : (ps : List Simplified) → are_known ps ≡ false → all_values (outcomes_of ps) ≡ Err Open
 not_known [] h = cc
 not_known (p ∷ ps) h =
     one_left p.kind (outcomes_of ps)
     (λ is. not_known ps (behind (is_known (meaning_of p)) (are_known ps) h is))
 
-module _ (R : NoExtension → NoExtension → Ordering) (node : BareExpr) (ps : List Part) where
+module _ (R : NoExtension → NoExtension → Ordering) (node : BareExpr) (ps : List Simplified) where
   set_known : are_known ps ≡ true
       → meant.Known (set_value R (map bare_value (filter_map held_value ps)))
       ≡ meant.known_or node (set_outcome R (outcomes_of ps))
   set_known h = sym (ap (λ r. meant.known_or node (on_one (set_value R) r)) (all_known ps h))
 
   pub set_left : are_known ps ≡ false
-      → meant.Left node ≡ meant.known_or node (set_outcome R (outcomes_of ps))
+      → meant.Residual node ≡ meant.known_or node (set_outcome R (outcomes_of ps))
   set_left h = sym (ap (λ r. meant.known_or node (on_one (set_value R) r)) (not_known ps h))
 
 -- the set that is made of the values of a row, each of which is known
-pub known_set : (R : NoExtension → NoExtension → Ordering) (node : BareExpr) (ps : List Part)
+pub known_set : (R : NoExtension → NoExtension → Ordering) (node : BareExpr) (ps : List Simplified)
     (t : BareValue NoExtension) (vs : List (Value NoExtension)) → are_known ps ≡ true
     → t ≡ set_value R (map bare_value vs) → vs ≡ filter_map held_value ps
     → meant.Known t ≡ meant.known_or node (set_outcome R (outcomes_of ps))
@@ -87,7 +87,7 @@ known_set R node ps t vs h is all =
 
 -- records
 
-abbrev outcomes_by_key : List (RcStr Global × Part) → List (Text × Outcome NoExtension)
+abbrev outcomes_by_key : List (RcStr Global × Simplified) → List (Text × Outcome NoExtension)
 outcomes_by_key ps = meant.pair_outcomes (meant_pairs meaning_of ps)
 
 pair_known : (key : RcStr Global) (k : Kind) (vs : List (RcStr Global × Value NoExtension))
@@ -97,15 +97,15 @@ pair_known : (key : RcStr Global) (k : Kind) (vs : List (RcStr Global × Value N
     ≡ Ok (meant_pairs bare_value
     (cons_option (option_map (λ v. (key, v)) (value_in_kind k)) vs))
 pair_known key (Known v) vs ms h g = ap (on_one (λ ts. (rc_str_bytes key, bare_value v) ∷ ts)) g
-pair_known key (Left t) vs ms h g = cc
+pair_known key (Residual t) vs ms h g = cc
 
 pair_left : (key : Text) (k : Kind) (ms : List (Text × Outcome NoExtension))
     → (is_known (bare_kind k) ≡ true → all_pairs ms ≡ Err Open)
     → all_pairs ((key, meant.outcome_of (bare_kind k)) ∷ ms) ≡ Err Open
 pair_left key (Known v) ms h = ap (on_one (λ ts. (key, bare_value v) ∷ ts)) (h refl)
-pair_left key (Left t) ms h = refl
+pair_left key (Residual t) ms h = refl
 
-pairs_known : (ps : List (RcStr Global × Part)) → have_known ps ≡ true
+pairs_known : (ps : List (RcStr Global × Simplified)) → have_known ps ≡ true
     → all_pairs (outcomes_by_key ps) ≡ Ok (meant_pairs bare_value (filter_map held_pair ps))
 pairs_known [] h = refl
 pairs_known (p ∷ ps) h =
@@ -113,14 +113,14 @@ pairs_known (p ∷ ps) h =
     (and_left (is_known (meaning_of p.1)) (have_known ps) h)
     (pairs_known ps (and_right (is_known (meaning_of p.1)) (have_known ps) h))
 
-pairs_left : (ps : List (RcStr Global × Part)) → have_known ps ≡ false
+pairs_left : (ps : List (RcStr Global × Simplified)) → have_known ps ≡ false
     → all_pairs (outcomes_by_key ps) ≡ Err Open
 pairs_left [] h = cc
 pairs_left (p ∷ ps) h =
     pair_left (rc_str_bytes p.0) p.1.kind (outcomes_by_key ps)
     (λ is. pairs_left ps (behind (is_known (meaning_of p.1)) (have_known ps) h is))
 
-module _ (node : BareExpr) (ps : List (RcStr Global × Part)) where
+module _ (node : BareExpr) (ps : List (RcStr Global × Simplified)) where
   record_known : have_known ps ≡ true
       → meant.Known (RecordValue (pairs_of (meant_pairs bare_value (filter_map held_pair ps))))
       ≡ meant.known_or node (record_outcome (outcomes_by_key ps))
@@ -129,7 +129,7 @@ module _ (node : BareExpr) (ps : List (RcStr Global × Part)) where
       (pairs_known ps h))
 
   pub record_left : have_known ps ≡ false
-      → meant.Left node ≡ meant.known_or node (record_outcome (outcomes_by_key ps))
+      → meant.Residual node ≡ meant.known_or node (record_outcome (outcomes_by_key ps))
   record_left h =
       sym (ap (λ r. meant.known_or node (on_one (λ qs. RecordValue (pairs_of qs)) r))
       (pairs_left ps h))
@@ -139,10 +139,10 @@ key_known : (key : RcStr Global) (k : Kind) (vs : List (RcStr Global × Value No
     → keys_of (cons_option (option_map (λ v. (key, v)) (value_in_kind k)) vs)
     ≡ rc_str_bytes key ∷ keys_of vs
 key_known key (Known v) vs h = refl
-key_known key (Left t) vs h = cc
+key_known key (Residual t) vs h = cc
 
 -- no key is left out
-known_keys : (ps : List (RcStr Global × Part)) → have_known ps ≡ true
+known_keys : (ps : List (RcStr Global × Simplified)) → have_known ps ≡ true
     → keys_of (filter_map held_pair ps) ≡ keys_of ps
 known_keys [] h = refl
 known_keys (p ∷ ps) h =
@@ -152,13 +152,13 @@ known_keys (p ∷ ps) h =
     (known_keys ps (and_right (is_known (meaning_of p.1)) (have_known ps) h))
 
 -- the record that is made of the values of a row, each of which is known
-pub known_record : (node : BareExpr) (ps : List (RcStr Global × Part)) (t : BareValue NoExtension)
+pub known_record : (node : BareExpr) (ps : List (RcStr Global × Simplified)) (t : BareValue NoExtension)
     (vs : List (RcStr Global × Value NoExtension)) → have_known ps ≡ true
-    → (IsRising (keys_of vs) → t ≡ RecordValue (pairs_of (meant_pairs bare_value vs)))
-    → vs ≡ filter_map held_pair ps → IsRising (keys_of ps)
+    → (IsAscending (keys_of vs) → t ≡ RecordValue (pairs_of (meant_pairs bare_value vs)))
+    → vs ≡ filter_map held_pair ps → IsAscending (keys_of ps)
     → meant.Known t ≡ meant.known_or node (record_outcome (outcomes_by_key ps))
-known_record node ps t vs h is all rises =
-    ap meant.Known (is (subst IsRising (sym (ap keys_of all ∙ known_keys ps h)) rises))
+known_record node ps t vs h is all ascends =
+    ap meant.Known (is (subst IsAscending (sym (ap keys_of all ∙ known_keys ps h)) ascends))
     ∙ ap (λ us. meant.Known (RecordValue (pairs_of (meant_pairs bare_value us)))) all
     ∙ record_known node ps h
 
@@ -168,23 +168,23 @@ module _ (R : NoExtension → NoExtension → Ordering) where
       → list_all (well_formed R) vs ≡ true
       → list_all (well_formed R) (cons_option (value_in_kind k) vs) ≡ true
   value_kept (Known v) vs h g = λ i. h i && g i
-  value_kept (Left t) vs h g = g
+  value_kept (Residual t) vs h g = g
 
   pair_kept : (key : RcStr Global) (k : Kind) (vs : List (RcStr Global × Value NoExtension))
       → IsTrue (is_kept R k) → list_all (λ p. well_formed R p.1) vs ≡ true
       → list_all (λ p. well_formed R p.1)
       (cons_option (option_map (λ v. (key, v)) (value_in_kind k)) vs) ≡ true
   pair_kept key (Known v) vs h g = λ i. h i && g i
-  pair_kept key (Left t) vs h g = g
+  pair_kept key (Residual t) vs h g = g
 
-  module _ (kept : (p : Part) → IsTrue (is_kept R p.kind)) where
-    pub values_kept : (ps : List Part)
+  module _ (kept : (p : Simplified) → IsTrue (is_kept R p.kind)) where
+    pub values_kept : (ps : List Simplified)
         → list_all (well_formed R) (filter_map held_value ps) ≡ true
     values_kept [] = refl
     values_kept (p ∷ ps) =
         value_kept p.kind (filter_map held_value ps) (kept p) (values_kept ps)
 
-    pub pairs_kept : (ps : List (RcStr Global × Part))
+    pub pairs_kept : (ps : List (RcStr Global × Simplified))
         → list_all (λ p. well_formed R p.1) (filter_map held_pair ps) ≡ true
     pairs_kept [] = refl
     pairs_kept (p ∷ ps) =

@@ -4,8 +4,8 @@ use Rattle.std.proofs.Math.Bool.{and-true, and_assoc}
 use Rattle.std.specs.List.{list_all}
 use Rattle.cedar_builders.specs.BareExpr.{BareExpr, trees_of}
 use Rattle.cedar_builders.specs.Walks.{children, members_of}
-use Rattle.simplifications.specs.Asks.{passes, is_no_call, holds_no_call}
-use Rattle.simplifications.specs.Laws.{AsksByChildren}
+use Rattle.semantics_simplify.specs.Asks.{passes, is_no_call, holds_no_call}
+use Rattle.semantics_simplify.specs.Laws.{AsksByChildren}
 
 -- e is the tree of a node d
 module _ (law : AsksByChildren) (d e : BareExpr) (is : d ≡ e) where

@@ -3,14 +3,14 @@ use Rattle.std.proofs.Common.{◌≡◌, Bool, IsTrue, ap, sym, subst, ◌∙◌
 use Rattle.std.specs.declared.cmp.Ordering.{Ordering}
 use Rattle.cedar_builders.specs.BareExpr.{BareExpr}
 use Rattle.cedar_builders.specs.Environment.{fold}
-use Rattle.cedar_value_trees.specs.Laws.{BindsPlainValues}
+use Rattle.semantics_values.specs.Laws.{BindsPlainValues}
 use Rattle.cedar_values.specs.Holders.{NoExtension, held_call, plain_env}
 use Rattle.cedar_values.specs.ValueMaps.{ValueMap}
-use Rattle.evaluations.specs.Evaluator.{evaluator_ops}
-use Rattle.simplifications.specs.Asks.{asks_only}
-use Rattle.simplifications.specs.Laws as laws
-use Rattle.simplifications.specs.Parts.{Part, tree_of}
-use Rattle.simplifications.specs.Simplifier.{simplified_in}
+use Rattle.semantics_eval.specs.Evaluator.{evaluator_ops}
+use Rattle.semantics_simplify.specs.Asks.{asks_only}
+use Rattle.semantics_simplify.specs.Laws as laws
+use Rattle.semantics_simplify.specs.Simplified.{Simplified, tree_of}
+use Rattle.semantics_simplify.specs.Simplifier.{simplified_in}
 use Rattle.cedar_simplifier.specs.Promises.{MeansTheSame, KnownStays, AsksNoMore}
 
 -- each map binds values without extension values
@@ -19,7 +19,7 @@ AllPlain =
     (m : ValueMap NoExtension) → BindsPlainValues {X = NoExtension} held_call (plain_env m)
 
 module _ (R : NoExtension → NoExtension → Ordering) (E : NoExtension → NoExtension → Bool)
-    (values : ValueMap NoExtension) (e : BareExpr) (p : Part NoExtension)
+    (values : ValueMap NoExtension) (e : BareExpr) (p : Simplified NoExtension)
     (is : p ≡ simplified_in R E held_call (plain_env values) e) (plain : AllPlain) where
   pub same_meaning : laws.IsOnePass R E → laws.PartialIsSound R E
       → MeansTheSame R E (plain_env values) e p

@@ -14,7 +14,7 @@ use Rattle.cedar_builders.specs.Walks.{values_of}
 use Rattle.cedar_exprs.specs.BareExpr.{bare_expr}
 use Rattle.cedar_exprs.specs.RecordPairs.{record_fields}
 use Rattle.cedar_exprs.specs.declared.expr.Expr.{Expr}
-use Rattle.simplifications.specs.Asks.{holds_no_call}
+use Rattle.semantics_simplify.specs.Asks.{holds_no_call}
 
 same_truth : (a b : Bool) → (a ≡ true → b ≡ true) → (b ≡ true → a ≡ true) → a ≡ b
 same_truth true b f g = sym (f refl)

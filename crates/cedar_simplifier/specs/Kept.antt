@@ -4,9 +4,9 @@ use Rattle.std.specs.declared.cmp.Ordering.{Ordering}
 use Rattle.cedar_values.specs.Holders.{NoExtension}
 use Rattle.cedar_values.specs.WellFormed.{well_formed}
 use Rattle.cedar_simplifier.specs.declared.kind.Kind.{Kind}
-use Rattle.cedar_simplifier.specs.declared.kind.Kind.TheVariants.{Known, Left}
+use Rattle.cedar_simplifier.specs.declared.kind.Kind.TheVariants.{Known, Residual}
 
 -- whether the value is well formed, if there is one
 abbrev pub is_kept : (NoExtension → NoExtension → Ordering) → Kind → Bool
 is_kept R (Known v) = well_formed R v
-is_kept R (Left t) = true
+is_kept R (Residual t) = true

@@ -1,3 +1,3 @@
 pub mod Kept
-pub mod Parts
+pub mod Simplified
 pub mod Promises

@@ -3,7 +3,7 @@ ghost use Rattle.std.specs.Prelude.{◌≡◌, is_some};
 ghost use Rattle.cedar_terms.specs.Literals.{bare_literal};
 ghost use Rattle.cedar_builders.specs.Trees.{literal_bool};
 ghost use Rattle.cedar_exprs.specs.BareExpr.{bare_expr};
-ghost use Rattle.simplifications.specs.Kinds as kinds;
+ghost use Rattle.semantics_simplify.specs.Kinds as kinds;
 
 use cedar_exprs::{Expr, ExprKind};
 use cedar_terms::{BinaryOp, Literal, UnaryOp};

@@ -6,5 +6,5 @@ use cedar_values::{NoExtension, Value};
 #[derive(Debug, Drop)]
 pub(crate) enum Kind {
     Known(Value<NoExtension>),
-    Left(Tree),
+    Residual(Tree),
 }

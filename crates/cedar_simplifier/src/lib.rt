@@ -4,14 +4,14 @@
 
 mod boolean;
 mod kind;
-mod left;
-mod one_walk;
 mod operations;
-mod part;
+mod residual;
 mod rows;
+mod simplified;
 mod simplifier;
+mod simplify;
 mod tree;
 
-pub use one_walk::simplify;
-pub use part::Part;
+pub use simplified::Simplified;
 pub use simplifier::Simplifier;
+pub use simplify::simplify;

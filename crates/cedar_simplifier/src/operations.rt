@@ -5,15 +5,15 @@ ghost use Rattle.cedar_terms.specs.Entities.{bare_entity_type};
 ghost use Rattle.cedar_values.specs.BareValues.{bare_value};
 ghost use Rattle.cedar_values.specs.Holders as held;
 ghost use Rattle.cedar_values.specs.WellFormed.{well_formed};
-ghost use Rattle.evaluations.specs.Attributes.{get_in, has_path as path_in, is_in, like_in};
-ghost use Rattle.evaluations.specs.Operators.{apply_one as one, apply_two as two};
-ghost use Rattle.evaluations.specs.Outcomes.{settled, strict, strict_two};
+ghost use Rattle.semantics_eval.specs.Attributes.{get_in, has_path as path_in, is_in, like_in};
+ghost use Rattle.semantics_eval.specs.Operators.{apply_one as one, apply_two as two};
+ghost use Rattle.semantics_eval.specs.Outcomes.{settled, strict, strict_two};
 ghost use Rattle.cedar_evaluator.specs.Kinds as kinds;
 ghost use Rattle.cedar_evaluator.specs.Outcomes.{faulted, literal_outcome};
-ghost use Rattle.simplifications.specs.Parts.{outcome_of};
-ghost use Rattle.cedar_simplifier.specs.Parts.{literal_value, meaning_of, value_in};
+ghost use Rattle.semantics_simplify.specs.Simplified.{outcome_of};
+ghost use Rattle.cedar_simplifier.specs.Simplified.{literal_value, meaning_of, value_in};
 
-use crate::part::Part;
+use crate::simplified::Simplified;
 use cedar_evaluator::{EvalFault, operations as values};
 use cedar_names::NonEmpty;
 use cedar_terms::{BinaryOp, EntityType, Literal, Pattern, UnaryOp};
@@ -45,7 +45,7 @@ fn tested(answer: Option<bool>) -> Option<Literal>
 
 // An operator on one argument.
 #[tactic(auto, using(crate::proofs::KnownParts::outcome_known, crate::proofs::KnownParts::outcome_left))]
-pub(crate) fn apply_one(op: UnaryOp, arg: &Part) -> Option<Literal>
+pub(crate) fn apply_one(op: UnaryOp, arg: &Simplified) -> Option<Literal>
     ensures { literal_value result ≡ value_in (strict (one op) (outcome_of (meaning_of arg.now))) }
 {
     match arg.as_value() {
@@ -56,7 +56,7 @@ pub(crate) fn apply_one(op: UnaryOp, arg: &Part) -> Option<Literal>
 
 // An operator on two arguments.
 #[tactic(auto, using(crate::proofs::KnownParts::outcome_known, crate::proofs::KnownParts::outcome_left))]
-pub(crate) fn apply_two(op: BinaryOp, left: &Part, right: &Part) -> Option<Literal>
+pub(crate) fn apply_two(op: BinaryOp, left: &Simplified, right: &Simplified) -> Option<Literal>
     ensures { literal_value result ≡ value_in
         (strict_two (two ⟦<NoExtension as Ord>⟧.cmp ⟦<NoExtension as PartialEq>⟧.eq op)
         (outcome_of (meaning_of left.now)) (outcome_of (meaning_of right.now))) }
@@ -74,7 +74,7 @@ pub(crate) fn apply_two(op: BinaryOp, left: &Part, right: &Part) -> Option<Liter
 #[tactic(auto, using(crate::proofs::KnownParts::outcome_known, crate::proofs::KnownParts::outcome_left))]
 pub(crate) fn get(
     alloc: Global,
-    expr: &Part,
+    expr: &Simplified,
     attr: &RcStr,
 ) -> Result<Option<Value<NoExtension>>, AllocError>
     ensures value { IfOk result (λ found. option_map bare_value found
@@ -94,7 +94,7 @@ pub(crate) fn get(
 
 // Whether a path of attributes is there.
 #[tactic(auto, using(crate::proofs::KnownParts::outcome_known, crate::proofs::KnownParts::outcome_left))]
-pub(crate) fn has(expr: &Part, attrs: &NonEmpty<RcStr>) -> Option<Literal>
+pub(crate) fn has(expr: &Simplified, attrs: &NonEmpty<RcStr>) -> Option<Literal>
     ensures { literal_value result ≡ value_in
         (path_in (outcome_of (meaning_of expr.now)) (rc_str_bytes attrs.now.head)
         (map rc_str_bytes attrs.now.tail.items)) }
@@ -110,7 +110,7 @@ pub(crate) fn has(expr: &Part, attrs: &NonEmpty<RcStr>) -> Option<Literal>
 
 // Whether a pattern matches the text.
 #[tactic(auto, using(crate::proofs::KnownParts::outcome_known, crate::proofs::KnownParts::outcome_left))]
-pub(crate) fn like(expr: &Part, pattern: &Pattern) -> Option<Literal>
+pub(crate) fn like(expr: &Simplified, pattern: &Pattern) -> Option<Literal>
     ensures { literal_value result
         ≡ value_in (strict (like_in pattern.now) (outcome_of (meaning_of expr.now))) }
 {
@@ -122,7 +122,7 @@ pub(crate) fn like(expr: &Part, pattern: &Pattern) -> Option<Literal>
 
 // Whether the entity is of a type.
 #[tactic(auto, using(crate::proofs::KnownParts::outcome_known, crate::proofs::KnownParts::outcome_left))]
-pub(crate) fn is_of_type(expr: &Part, ty: &EntityType) -> Option<Literal>
+pub(crate) fn is_of_type(expr: &Simplified, ty: &EntityType) -> Option<Literal>
     ensures { literal_value result
         ≡ value_in (strict (is_in (bare_entity_type ty.now)) (outcome_of (meaning_of expr.now))) }
 {

@@ -5,11 +5,11 @@ ghost use Rattle.cedar_builders.specs.BareExpr as bare;
 ghost use Rattle.cedar_builders.specs.Keys.{keys_of, meant_pairs};
 ghost use Rattle.cedar_exprs.specs.BareExpr.{bare_expr, bare_exprs};
 ghost use Rattle.cedar_values.specs.Holders.{held_call};
-ghost use Rattle.simplifications.specs.Asks.{holds_no_call};
-ghost use Rattle.simplifications.specs.Parts as parts;
-ghost use Rattle.cedar_simplifier.specs.Parts.{held_pair, held_value, is_known, meaning_of};
+ghost use Rattle.semantics_simplify.specs.Asks.{holds_no_call};
+ghost use Rattle.semantics_simplify.specs.Simplified as parts;
+ghost use Rattle.cedar_simplifier.specs.Simplified.{held_pair, held_value, is_known, meaning_of};
 
-use crate::part::Part;
+use crate::simplified::Simplified;
 use cedar_exprs::Expr;
 use cedar_values::{NoExtension, Value};
 use std::alloc::{AllocError, Global};
@@ -32,7 +32,7 @@ pub(crate) struct Fields {
 }
 
 // Whether each part of a row is known.
-pub(crate) fn are_known(row: &[Part]) -> bool
+pub(crate) fn are_known(row: &[Simplified]) -> bool
     ensures { result ≡ list_all (λ p. is_known (meaning_of p)) row.now }
 {
     row.iter().all(|part| part.is_known())
@@ -41,7 +41,7 @@ pub(crate) fn are_known(row: &[Part]) -> bool
 // The values of the parts that are known.
 pub(crate) fn values_of(
     alloc: Global,
-    row: Vec<Part>,
+    row: Vec<Simplified>,
 ) -> Result<Vec<Value<NoExtension>>, AllocError>
     ensures { IfOk result (λ vs. vs.items ≡ filter_map held_value row.items) }
 {
@@ -51,7 +51,7 @@ pub(crate) fn values_of(
 }
 
 // The expressions of a row.
-pub(crate) fn row_of(alloc: Global, row: Vec<Part>) -> Result<Row, AllocError>
+pub(crate) fn row_of(alloc: Global, row: Vec<Simplified>) -> Result<Row, AllocError>
     ensures { IfOk result (λ r.
         bare_exprs r.exprs.items ≡ parts.row_of held_call (map meaning_of row.items)) }
 {
@@ -69,7 +69,7 @@ pub(crate) fn row_of(alloc: Global, row: Vec<Part>) -> Result<Row, AllocError>
 }
 
 // Whether each value of a record is known.
-pub(crate) fn have_known(pairs: &[(RcStr, Part)]) -> bool
+pub(crate) fn have_known(pairs: &[(RcStr, Simplified)]) -> bool
     ensures { result ≡ list_all (λ p. is_known (meaning_of p.1)) pairs.now }
 {
     pairs.iter().all(|pair| pair.1.is_known())
@@ -78,7 +78,7 @@ pub(crate) fn have_known(pairs: &[(RcStr, Part)]) -> bool
 // The values of a record that are known, by their keys.
 pub(crate) fn values_by_key(
     alloc: Global,
-    pairs: Vec<(RcStr, Part)>,
+    pairs: Vec<(RcStr, Simplified)>,
 ) -> Result<Vec<(RcStr, Value<NoExtension>)>, AllocError>
     ensures { IfOk result (λ vs. vs.items ≡ filter_map held_pair pairs.items) }
 {
@@ -89,7 +89,7 @@ pub(crate) fn values_by_key(
 }
 
 // A value that is known, with its key.
-fn value_by_key(pair: (RcStr, Part)) -> Option<(RcStr, Value<NoExtension>)>
+fn value_by_key(pair: (RcStr, Simplified)) -> Option<(RcStr, Value<NoExtension>)>
     ensures { result ≡ held_pair pair }
 {
     let (key, part) = pair;
@@ -100,7 +100,10 @@ fn value_by_key(pair: (RcStr, Part)) -> Option<(RcStr, Value<NoExtension>)>
 }
 
 // The expressions of a record's values, by their keys.
-pub(crate) fn fields_of(alloc: Global, pairs: Vec<(RcStr, Part)>) -> Result<Fields, AllocError>
+pub(crate) fn fields_of(
+    alloc: Global,
+    pairs: Vec<(RcStr, Simplified)>,
+) -> Result<Fields, AllocError>
     ensures keys { IfOk result (λ f. keys_of f.pairs.items ≡ keys_of pairs.items) }
     ensures trees { IfOk result (λ f. bare.fields_of (meant_pairs bare_expr f.pairs.items)
         ≡ parts.fields_of_parts held_call (meant_pairs meaning_of pairs.items)) }

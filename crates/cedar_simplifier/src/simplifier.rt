@@ -3,16 +3,16 @@ ghost use Rattle.std.specs.Prelude.{◌≡◌, ⊤, IfErr, map};
 ghost use Rattle.cedar_names.specs.PlainNames.{bare_name};
 ghost use Rattle.cedar_builders.specs.Answers.{Gives, Means, never};
 ghost use Rattle.cedar_builders.specs.Errors.{OnDuplicateKey};
-ghost use Rattle.cedar_builders.specs.Keys.{HasRepeat, IsRising, keys_of, meant_pairs};
+ghost use Rattle.cedar_builders.specs.Keys.{HasRepeat, IsAscending, keys_of, meant_pairs};
 ghost use Rattle.cedar_builders.specs.declared.expression_construction_errors.ExpressionConstructionError.TheVariants as error;
 ghost use Rattle.cedar_values.specs.Holders as held;
-ghost use Rattle.simplifications.specs.Parts as meant;
-ghost use Rattle.simplifications.specs.Simplifier.{simplifier_lawful, simplifier_ops};
-ghost use Rattle.cedar_simplifier.specs.Parts.{meaning_of};
+ghost use Rattle.semantics_simplify.specs.Simplified as meant;
+ghost use Rattle.semantics_simplify.specs.Simplifier.{simplifier_lawful, simplifier_ops};
+ghost use Rattle.cedar_simplifier.specs.Simplified.{meaning_of};
 
 use crate::operations::{apply_one, apply_two, get, has, is_of_type, like};
-use crate::part::Part;
 use crate::rows::{are_known, fields_of, have_known, row_of, values_by_key, values_of};
+use crate::simplified::Simplified;
 use crate::tree::Tree;
 use cedar_builders::{
     BuildFault, ExprBuilder, ExprBuilderInfallibleBuild, ExpressionConstructionError,
@@ -39,7 +39,7 @@ use std::rc::RcStr;
 /// its place; a value that is known has none.
 ///
 /// ```rust
-/// fn simplified(alloc: Global, expr: &Expr) -> Result<Part, BuildFault<Infallible>> {
+/// fn simplified(alloc: Global, expr: &Expr) -> Result<Simplified, BuildFault<Infallible>> {
 ///     expr.try_into_expr::<Simplifier>(alloc)
 /// }
 /// ```
@@ -49,14 +49,14 @@ pub struct Simplifier {
 }
 
 impl ExprBuilder for Simplifier {
-    type Expr = Part;
+    type Expr = Simplified;
 
     type Data = ();
 
     type BuildError = Infallible;
 
     // An expression means the tree of its value, or the tree that is left.
-    ghost Meaning = { meant.Part held.NoExtension };
+    ghost Meaning = { meant.Simplified held.NoExtension };
 
     // There is no error.
     ghost Fault = { ⊥ };
@@ -92,60 +92,75 @@ impl ExprBuilder for Simplifier {
         Simplifier { place: source_loc }
     }
 
-    fn val(self, _alloc: Global, literal: Literal) -> Result<Part, AllocError> {
-        Ok(Part::lit(literal))
+    fn val(self, _alloc: Global, literal: Literal) -> Result<Simplified, AllocError> {
+        Ok(Simplified::lit(literal))
     }
 
-    fn var(self, _alloc: Global, var: Var) -> Result<Part, AllocError> {
-        Ok(self.left(Tree::var(var)))
+    fn var(self, _alloc: Global, var: Var) -> Result<Simplified, AllocError> {
+        Ok(self.residual(Tree::var(var)))
     }
 
-    fn slot(self, _alloc: Global, slot: SlotId) -> Result<Part, AllocError> {
-        Ok(self.left(Tree::slot(slot)))
+    fn slot(self, _alloc: Global, slot: SlotId) -> Result<Simplified, AllocError> {
+        Ok(self.residual(Tree::slot(slot)))
     }
 
-    fn unknown(self, _alloc: Global, unknown: Unknown) -> Result<Part, AllocError> {
-        Ok(self.left(Tree::unknown(unknown)))
+    fn unknown(self, _alloc: Global, unknown: Unknown) -> Result<Simplified, AllocError> {
+        Ok(self.residual(Tree::unknown(unknown)))
     }
 
     #[tactic(auto, using(crate::proofs::Branches::first_of, crate::proofs::Branches::second_of))]
     fn ite(
         self,
         alloc: Global,
-        test_expr: Part,
-        then_expr: Part,
-        else_expr: Part,
-    ) -> Result<Part, AllocError> {
+        test_expr: Simplified,
+        then_expr: Simplified,
+        else_expr: Simplified,
+    ) -> Result<Simplified, AllocError> {
         match test_expr.truth() {
             Some(true) if else_expr.calls_nothing() => Ok(then_expr),
             Some(false) if then_expr.calls_nothing() => Ok(else_expr),
-            _ => self.left_if(alloc, test_expr, then_expr, else_expr),
+            _ => self.residual_if(alloc, test_expr, then_expr, else_expr),
         }
     }
 
     #[tactic(auto, using(crate::proofs::Branches::first_of, crate::proofs::Branches::second_of))]
-    fn and(self, alloc: Global, left: Part, right: Part) -> Result<Part, AllocError> {
+    fn and(
+        self,
+        alloc: Global,
+        left: Simplified,
+        right: Simplified,
+    ) -> Result<Simplified, AllocError> {
         match left.truth() {
             Some(true) if right.is_boolean() => Ok(right),
-            Some(false) if right.calls_nothing() => Ok(Part::lit(Literal::Bool(false))),
-            _ => self.left_and(alloc, left, right),
+            Some(false) if right.calls_nothing() => Ok(Simplified::lit(Literal::Bool(false))),
+            _ => self.residual_and(alloc, left, right),
         }
     }
 
     #[tactic(auto, using(crate::proofs::Branches::first_of, crate::proofs::Branches::second_of))]
-    fn or(self, alloc: Global, left: Part, right: Part) -> Result<Part, AllocError> {
+    fn or(
+        self,
+        alloc: Global,
+        left: Simplified,
+        right: Simplified,
+    ) -> Result<Simplified, AllocError> {
         match left.truth() {
-            Some(true) if right.calls_nothing() => Ok(Part::lit(Literal::Bool(true))),
+            Some(true) if right.calls_nothing() => Ok(Simplified::lit(Literal::Bool(true))),
             Some(false) if right.is_boolean() => Ok(right),
-            _ => self.left_or(alloc, left, right),
+            _ => self.residual_or(alloc, left, right),
         }
     }
 
     #[tactic(auto, using(crate::proofs::KnownParts::made_known, crate::proofs::KnownParts::made_left))]
-    fn unary_app(self, alloc: Global, op: UnaryOp, arg: Part) -> Result<Part, AllocError> {
+    fn unary_app(
+        self,
+        alloc: Global,
+        op: UnaryOp,
+        arg: Simplified,
+    ) -> Result<Simplified, AllocError> {
         match apply_one(op, &arg) {
-            Some(literal) => Ok(Part::lit(literal)),
-            None => self.left_unary(alloc, op, arg),
+            Some(literal) => Ok(Simplified::lit(literal)),
+            None => self.residual_unary(alloc, op, arg),
         }
     }
 
@@ -154,12 +169,12 @@ impl ExprBuilder for Simplifier {
         self,
         alloc: Global,
         op: BinaryOp,
-        arg1: Part,
-        arg2: Part,
-    ) -> Result<Part, AllocError> {
+        arg1: Simplified,
+        arg2: Simplified,
+    ) -> Result<Simplified, AllocError> {
         match apply_two(op, &arg1, &arg2) {
-            Some(literal) => Ok(Part::lit(literal)),
-            None => self.left_binary(alloc, op, arg1, arg2),
+            Some(literal) => Ok(Simplified::lit(literal)),
+            None => self.residual_binary(alloc, op, arg1, arg2),
         }
     }
 
@@ -167,21 +182,26 @@ impl ExprBuilder for Simplifier {
         self,
         alloc: Global,
         fn_name: Name,
-        args: Vec<Part>,
-    ) -> Result<Part, BuildFault<Infallible>>
+        args: Vec<Simplified>,
+    ) -> Result<Simplified, BuildFault<Infallible>>
         ensures { Gives meaning_of never
             (⟦<Simplifier as ExprBuilder>⟧.ops.call_of (bare_name fn_name)
             (map meaning_of args.items)) result }
     {
         let row = row_of(alloc, args)?;
-        Ok(self.left(Tree::call(alloc, fn_name, row)?))
+        Ok(self.residual(Tree::call(alloc, fn_name, row)?))
     }
 
     #[tactic(auto, using(crate::proofs::KnownParts::made_known, crate::proofs::KnownParts::made_left))]
-    fn get_attr(self, alloc: Global, expr: Part, attr: RcStr) -> Result<Part, AllocError> {
+    fn get_attr(
+        self,
+        alloc: Global,
+        expr: Simplified,
+        attr: RcStr,
+    ) -> Result<Simplified, AllocError> {
         match get(alloc, &expr, &attr)? {
-            Some(value) => Ok(Part::known(value)),
-            None => self.left_get(alloc, expr, attr),
+            Some(value) => Ok(Simplified::known(value)),
+            None => self.residual_get(alloc, expr, attr),
         }
     }
 
@@ -189,20 +209,25 @@ impl ExprBuilder for Simplifier {
     fn extended_has_attr(
         self,
         alloc: Global,
-        expr: Part,
+        expr: Simplified,
         attrs: NonEmpty<RcStr>,
-    ) -> Result<Part, AllocError> {
+    ) -> Result<Simplified, AllocError> {
         match has(&expr, &attrs) {
-            Some(literal) => Ok(Part::lit(literal)),
-            None => self.left_has(alloc, expr, attrs),
+            Some(literal) => Ok(Simplified::lit(literal)),
+            None => self.residual_has(alloc, expr, attrs),
         }
     }
 
     #[tactic(auto, using(crate::proofs::KnownParts::made_known, crate::proofs::KnownParts::made_left))]
-    fn like(self, alloc: Global, expr: Part, pattern: Pattern) -> Result<Part, AllocError> {
+    fn like(
+        self,
+        alloc: Global,
+        expr: Simplified,
+        pattern: Pattern,
+    ) -> Result<Simplified, AllocError> {
         match like(&expr, &pattern) {
-            Some(literal) => Ok(Part::lit(literal)),
-            None => self.left_like(alloc, expr, pattern),
+            Some(literal) => Ok(Simplified::lit(literal)),
+            None => self.residual_like(alloc, expr, pattern),
         }
     }
 
@@ -210,45 +235,45 @@ impl ExprBuilder for Simplifier {
     fn is_entity_type(
         self,
         alloc: Global,
-        expr: Part,
+        expr: Simplified,
         entity_type: EntityType,
-    ) -> Result<Part, AllocError> {
+    ) -> Result<Simplified, AllocError> {
         match is_of_type(&expr, &entity_type) {
-            Some(literal) => Ok(Part::lit(literal)),
-            None => self.left_is(alloc, expr, entity_type),
+            Some(literal) => Ok(Simplified::lit(literal)),
+            None => self.residual_is(alloc, expr, entity_type),
         }
     }
 
-    fn set(self, alloc: Global, members: Vec<Part>) -> Result<Part, AllocError>
+    fn set(self, alloc: Global, members: Vec<Simplified>) -> Result<Simplified, AllocError>
         ensures { Means meaning_of
             (⟦<Simplifier as ExprBuilder>⟧.ops.set_of (map meaning_of members.items)) result }
     {
         if are_known(&members) {
             let values = values_of(alloc, members)?;
-            return Ok(Part::known(set_of(alloc, values)?));
+            return Ok(Simplified::known(set_of(alloc, values)?));
         }
         let row = row_of(alloc, members)?;
-        Ok(self.left(Tree::set(alloc, row)?))
+        Ok(self.residual(Tree::set(alloc, row)?))
     }
 
     fn record(
         self,
         alloc: Global,
-        pairs: Vec<(RcStr, Part)>,
-    ) -> Result<Part, ExpressionConstructionError>
-        ensures means { IsRising (keys_of pairs.items)
+        pairs: Vec<(RcStr, Simplified)>,
+    ) -> Result<Simplified, ExpressionConstructionError>
+        ensures means { IsAscending (keys_of pairs.items)
             → Means meaning_of
             (⟦<Simplifier as ExprBuilder>⟧.ops.record_of (meant_pairs meaning_of pairs.items))
             result }
-        ensures accepts { IsRising (keys_of pairs.items) → IfErr result (λ e. e ≡ error.Memory) }
+        ensures accepts { IsAscending (keys_of pairs.items) → IfErr result (λ e. e ≡ error.Memory) }
         ensures refuses { IfErr result (OnDuplicateKey (λ _. HasRepeat (keys_of pairs.items))) }
     {
         if have_known(&pairs) {
             let values = values_by_key(alloc, pairs)?;
-            return Ok(Part::known(record_of(alloc, values)?));
+            return Ok(Simplified::known(record_of(alloc, values)?));
         }
         let fields = fields_of(alloc, pairs)?;
-        Ok(self.left(Tree::record(alloc, fields)?))
+        Ok(self.residual(Tree::record(alloc, fields)?))
     }
 }
 

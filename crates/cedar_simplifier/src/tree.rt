@@ -3,7 +3,7 @@
 //! Whether an expression holds a call is known where it is made, so nothing looks for calls.
 ghost use Rattle.std.specs.Prelude.{◌≡◌};
 ghost use Rattle.cedar_exprs.specs.BareExpr.{bare_expr};
-ghost use Rattle.simplifications.specs.Asks.{holds_no_call};
+ghost use Rattle.semantics_simplify.specs.Asks.{holds_no_call};
 
 use crate::rows::{Fields, Row};
 use cedar_builders::laws::pairs_in_key_order;
@@ -13,7 +13,7 @@ use cedar_names::{Loc, Name, NonEmpty, SlotId};
 use cedar_terms::{BinaryOp, EntityType, Pattern, UnaryOp, Unknown, Var};
 use cedar_values::laws::no_extension_values;
 use cedar_values::{NoExtension, Value};
-use simplifications::laws::{asks_by_children, values_ask_nothing};
+use semantics_simplify::laws::{asks_by_children, values_ask_nothing};
 use std::alloc::{AllocError, Global};
 use std::rc::{Rc, RcStr};
 
@@ -49,14 +49,14 @@ impl Tree {
       Var as var_tree,
       fields_of,
     };
-    ghost use Rattle.cedar_builders.specs.Keys.{HasRepeat, IsRising, keys_of, meant_pairs};
+    ghost use Rattle.cedar_builders.specs.Keys.{HasRepeat, IsAscending, keys_of, meant_pairs};
     ghost use Rattle.cedar_builders.specs.Errors.{OnDuplicateKey};
     ghost use Rattle.cedar_builders.specs.declared.expression_construction_errors.ExpressionConstructionError.TheVariants as error;
     ghost use Rattle.cedar_exprs.specs.BareExpr.{bare_exprs};
     ghost use Rattle.cedar_values.specs.BareValues.{bare_value};
     ghost use Rattle.cedar_values.specs.Holders.{held_call};
-    ghost use Rattle.cedar_value_trees.specs.ValueExpr.{value_expr};
-    ghost use Rattle.cedar_simplifier.specs.Parts.{bare_tree};
+    ghost use Rattle.semantics_values.specs.ValueExpr.{value_expr};
+    ghost use Rattle.cedar_simplifier.specs.Simplified.{bare_tree};
 
     // The expression.
     pub(crate) fn expr(&self) -> &Expr
@@ -290,9 +290,9 @@ impl Tree {
 
     // A record by its keys and values.
     pub(crate) fn record(alloc: Global, fields: Fields) -> Result<Tree, ExpressionConstructionError>
-        ensures tree { IsRising (keys_of fields.pairs.items) → IfOk result (λ t.
+        ensures tree { IsAscending (keys_of fields.pairs.items) → IfOk result (λ t.
             bare_tree t ≡ Record (fields_of (meant_pairs bare_expr fields.pairs.items))) }
-        ensures accepts { IsRising (keys_of fields.pairs.items)
+        ensures accepts { IsAscending (keys_of fields.pairs.items)
             → IfErr result (λ e. e ≡ error.Memory) }
         ensures refuses { IfErr result
             (OnDuplicateKey (λ _. HasRepeat (keys_of fields.pairs.items))) }

@@ -10,7 +10,7 @@ ghost use Rattle.cedar_terms.specs.Ops.{binary_op_text, unary_op_text};
 ghost use Rattle.cedar_terms.specs.Unknowns.{bare_annotation};
 ghost use Rattle.cedar_builders.specs.Errors.{OnDuplicateKey};
 ghost use Rattle.cedar_builders.specs.Answers.{Gives};
-ghost use Rattle.cedar_builders.specs.Keys.{keys_of, meant_pairs, IsRising, HasRepeat};
+ghost use Rattle.cedar_builders.specs.Keys.{keys_of, meant_pairs, IsAscending, HasRepeat};
 ghost use Rattle.cedar_builders.specs.declared.expression_construction_errors.ExpressionConstructionError.TheVariants as error;
 ghost use Rattle.cedar_builders.specs.Answers.{never};
 ghost use Rattle.cedar_sketch.specs.SketchTexts.{annotation_texts, form_text, joined, pair_text, quoted_pattern, sketch_ops, spaced_text, text_of};
@@ -528,9 +528,9 @@ impl ExprBuilder for Sketch {
         alloc: Global,
         pairs: Vec<(RcStr, SExpression)>,
     ) -> Result<SExpression, ExpressionConstructionError>
-        ensures means { IsRising (keys_of pairs.items) → IfOk result (λ e.
+        ensures means { IsAscending (keys_of pairs.items) → IfOk result (λ e.
             text_of e ≡ sketch_ops.record_of (meant_pairs text_of pairs.items)) }
-        ensures accepts { IsRising (keys_of pairs.items) → IfErr result (λ e. e ≡ error.Memory) }
+        ensures accepts { IsAscending (keys_of pairs.items) → IfErr result (λ e. e ≡ error.Memory) }
         ensures refuses { IfErr result (OnDuplicateKey (λ _. HasRepeat (keys_of pairs.items))) }
     {
         let mut list = Pieces::open(alloc, "(record")?;

@@ -1,4 +1,4 @@
--- A map that is filled by rising keys.
+-- A map that is filled by ascending keys.
 use Rattle.std.proofs.Common.{◌≡◌, ℕ, List, [], ◌∷◌, ◌++◌, Option, Ordering, Less, Equal, Greater, map, nat_cmp, Global, refl, ap, sym, ◌∙◌}
 use Rattle.std.proofs.lemmas.Cmp.{nat_list_cmp_total}
 use Rattle.std.specs.BTreeMap.{insert_entry}

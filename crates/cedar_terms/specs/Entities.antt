@@ -3,7 +3,7 @@ use Rattle.std.specs.Prelude.{ℕ, List, ◌++◌, codes}
 use Rattle.std.specs.Rc.{rc_str_bytes}
 use Rattle.cedar_names.specs.Names.{BareName, name_text}
 use Rattle.cedar_names.specs.PlainNames.{bare_name}
-use Rattle.cedar_names.specs.declared.plain_name.Name.{Name}
+use Rattle.cedar_names.specs.declared.name.Name.{Name}
 use Rattle.cedar_terms.specs.declared.entity.EntityType.{EntityType}
 use Rattle.cedar_terms.specs.declared.entity.EntityUID.{EntityUID}
 use Rattle.cedar_terms.specs.Escape.{quoted}

@@ -6,7 +6,7 @@ use Rattle.std.specs.declared.rc.RcStr.{RcStr}
 use Rattle.cedar_names.specs.Names.{BareName}
 use Rattle.cedar_names.specs.Place.{Place}
 use Rattle.cedar_names.specs.PlainNames.{bare_name, name_place}
-use Rattle.cedar_names.specs.declared.plain_name.Name.{Name}
+use Rattle.cedar_names.specs.declared.name.Name.{Name}
 use Rattle.cedar_terms.specs.declared.schema_type.SchemaType.{SchemaType, SchemaType-F, fold-SchemaType}
 use Rattle.cedar_terms.specs.Entities.{bare_entity_type, entity_type_name}
 use Rattle.cedar_terms.specs.Types.{BareType, BoolType, LongType, StringType, SetType, RecordType, EntityOfType, ExtensionType}

@@ -123,7 +123,7 @@ fn clone_schema_type(alloc: Global, ty: &SchemaType) -> Result<SchemaType, Alloc
     }
 }
 
-// A copy of the attributes, which come and go by rising keys.
+// A copy of the attributes, which come and go by ascending keys.
 #[cycle(copy)]
 fn clone_attributes(
     alloc: Global,

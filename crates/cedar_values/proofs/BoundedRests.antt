@@ -9,7 +9,7 @@ use Rattle.std.proofs.Math.Seq.{take-nil, drop-nil, drop-cons}
 use Rattle.cedar_builders.specs.BareExpr.{Text}
 use Rattle.std.specs.Rc.{rc_str_bytes}
 use Rattle.std.specs.declared.rc.RcStr.{RcStr}
-use Rattle.cedar_value_trees.specs.BareValue.{SetValue, RecordValue, values_of}
+use Rattle.semantics_values.specs.BareValue.{SetValue, RecordValue, values_of}
 use Rattle.cedar_values.specs.BareValues.{bare_set, bare_value}
 use Rattle.cedar_values.specs.BoundedTexts.{bounded_text, elision, hidden, inside, key_text, member_texts, pair_texts, separated, separator, shown}
 use Rattle.cedar_values.specs.Conversions.{bare_pairs}

@@ -3,7 +3,7 @@ use Rattle.std.proofs.Common.{◌≡◌, ◌+◌, suc, refl, sym, ap, ◌∙◌,
 use Rattle.std.specs.Rc.{rc_with_value}
 use Rattle.std.specs.declared.rc.Rc.{Rc}
 use Rattle.std.specs.declared.rc.RcStr.{RcStr}
-use Rattle.cedar_value_trees.specs.BareValue.{values_of}
+use Rattle.semantics_values.specs.BareValue.{values_of}
 use Rattle.cedar_values.specs.BareValues.{bare_value, kind_of}
 use Rattle.cedar_values.specs.Conversions.{bare_pairs}
 use Rattle.cedar_values.specs.Counts.{nodes, kind_nodes, member_nodes, pair_nodes}

@@ -10,7 +10,7 @@ use Rattle.cedar_exprs.specs.FirstNodes.{InPreorder, at_node, decided, split}
 use Rattle.cedar_exprs.specs.Walks.{kind_children}
 use Rattle.cedar_exprs.specs.declared.expr.Expr.{Expr}
 use Rattle.cedar_exprs.specs.declared.expr.KindOf.TheVariants.{Set, Record}
-use Rattle.cedar_value_trees.specs.Reading.{is_readable_node, is_readable}
+use Rattle.semantics_values.specs.Reading.{is_readable_node, is_readable}
 use Rattle.cedar_values.specs.NotReadable.{first_not_readable, first_not_readable_of, IsNotValueAt, IsAnswerWhere}
 use Rattle.cedar_values.specs.declared.not_value.NotValue.{NotValue}
 use Rattle.cedar_values.specs.declared.not_value.NotValue.TheVariants as error

@@ -11,11 +11,11 @@ use Rattle.std.proofs.lemmas.List.Folds.{list_any-append}
 use Rattle.std.proofs.lemmas.Map.Keys.{IsDistinct-push}
 use Rattle.cedar_terms.specs.LiteralOrder.{literal_eq, literal_eq_equiv, literal_ties}
 use Rattle.cedar_terms.specs.Literals.{BareLiteral}
-use Rattle.sorted_slices.specs.Classes.{has_class}
-use Rattle.sorted_slices.specs.Images.{has_image}
-use Rattle.sorted_slices.specs.Unique.{has_alike}
-use Rattle.cedar_value_trees.specs.BareValue.{BareValue, LitValue, SetValue, RecordValue, ExtensionValue}
-use Rattle.cedar_value_trees.specs.ValueOrder.{value_cmp}
+use Rattle.cedar_sorted_slices.specs.Classes.{has_class}
+use Rattle.cedar_sorted_slices.specs.Images.{has_image}
+use Rattle.cedar_sorted_slices.specs.Unique.{has_alike}
+use Rattle.semantics_values.specs.BareValue.{BareValue, LitValue, SetValue, RecordValue, ExtensionValue}
+use Rattle.semantics_values.specs.ValueOrder.{value_cmp}
 use Rattle.cedar_values.specs.BareValues.{bare_value}
 use Rattle.cedar_values.specs.HashForms.{HasLiterals, LiteralSet, is_among, literals_in, literals_of}
 use Rattle.cedar_values.specs.Places.{is_lit_value, literal_of}

@@ -11,10 +11,10 @@ use Rattle.std.proofs.lemmas.Map.Made.{length-from_same_keys, length-le_from_is_
 use Rattle.cedar_terms.specs.LiteralOrder.{literal_eq, literal_eq_decides, literal_eq_equiv, literal_ties}
 use Rattle.cedar_terms.specs.Literals.{BareLiteral, bare_literal}
 use Rattle.cedar_terms.specs.declared.literal.Literal.{Literal}
-use Rattle.sorted_slices.specs.Images.{sorted_images}
-use Rattle.sorted_slices.specs.Rising.{and_right}
-use Rattle.cedar_value_trees.specs.BareValue.{BareValue, LitValue, SetValue, RecordValue, ExtensionValue}
-use Rattle.cedar_value_trees.specs.ValueOrder.{value_cmp}
+use Rattle.cedar_sorted_slices.specs.Images.{sorted_images}
+use Rattle.cedar_sorted_slices.specs.Ascending.{and_right}
+use Rattle.semantics_values.specs.BareValue.{BareValue, LitValue, SetValue, RecordValue, ExtensionValue}
+use Rattle.semantics_values.specs.ValueOrder.{value_cmp}
 use Rattle.cedar_values.specs.BareValues.{bare_value}
 use Rattle.cedar_values.specs.HashForms.{are_alike, is_among, is_hash_form, is_literal_among, literals_in}
 use Rattle.cedar_values.specs.Places.{is_lit_value}
@@ -131,6 +131,6 @@ module _ {X : Type 0} where
     distinct_in (RecordValue ps ∷ ts) h = distinct_in ts h.1
     distinct_in (ExtensionValue x g ∷ ts) h = distinct_in ts h.1
 
-    -- of rising values no two are the same literal
+    -- of ascending values no two are the same literal
     pub distinct_literals : (vs : List (Value X)) → IsStrictlySortedBy (by_tree R) vs → IsDistinct literal_eq (literals_in (map bare_value vs))
     distinct_literals vs h = distinct_in (map bare_value vs) (sorted_images bare_value (value_cmp R) vs h)

@@ -17,12 +17,12 @@ use Rattle.std.proofs.lemmas.Map.Steps.{list_any_congr}
 use Rattle.cedar_terms.specs.LiteralOrder.{literal_eq, literal_eq_decides, literal_eq_equiv, literal_ties}
 use Rattle.cedar_terms.specs.Literals.{BareLiteral, bare_literal}
 use Rattle.cedar_terms.specs.declared.literal.Literal.{Literal}
-use Rattle.sorted_slices.specs.Classes.{has_class, IsClassesOf, IsPartOf}
-use Rattle.sorted_slices.specs.Images.{classes_of_images, has_image}
-use Rattle.sorted_slices.specs.Rising.{and_left, and_right}
-use Rattle.sorted_slices.specs.Unique.{has_first}
-use Rattle.cedar_value_trees.specs.BareValue.{BareValue, LitValue, SetValue, RecordValue, ExtensionValue}
-use Rattle.cedar_value_trees.specs.ValueOrder.{value_cmp}
+use Rattle.cedar_sorted_slices.specs.Classes.{has_class, IsClassesOf, IsPartOf}
+use Rattle.cedar_sorted_slices.specs.Images.{classes_of_images, has_image}
+use Rattle.cedar_sorted_slices.specs.Ascending.{and_left, and_right}
+use Rattle.cedar_sorted_slices.specs.Unique.{has_first}
+use Rattle.semantics_values.specs.BareValue.{BareValue, LitValue, SetValue, RecordValue, ExtensionValue}
+use Rattle.semantics_values.specs.ValueOrder.{value_cmp}
 use Rattle.cedar_values.specs.BareValues.{bare_value}
 use Rattle.cedar_values.specs.HashForms.{HasLiterals, LiteralSet, are_alike, is_among, is_hash_form, is_literal_among, literals_in, literals_of}
 use Rattle.cedar_values.specs.Places.{is_lit_value, literal_of}

@@ -10,7 +10,7 @@ use Rattle.std.proofs.lemmas.List.Folds.{list_all-map}
 use Rattle.cedar_terms.specs.LiteralOrder.{literal_eq, literal_eq_decides}
 use Rattle.cedar_terms.specs.Literals.{BareLiteral, bare_literal}
 use Rattle.cedar_terms.specs.declared.literal.Literal.{Literal}
-use Rattle.sorted_slices.specs.Classes.{has_class, HaveNoneInCommon, IsPartOf}
+use Rattle.cedar_sorted_slices.specs.Classes.{has_class, HaveNoneInCommon, IsPartOf}
 use Rattle.cedar_values.specs.BareValues.{bare_value}
 use Rattle.cedar_values.specs.HashForms.{LiteralSet, is_hash_form, is_literal_among, literals_of}
 use Rattle.cedar_values.specs.Places.{is_lit_value, literal_of, literal_value}

@@ -9,9 +9,9 @@ use Rattle.cedar_names.specs.Place.{Place}
 use Rattle.cedar_terms.specs.Literals.{bare_literal}
 use Rattle.cedar_terms.specs.declared.literal.Literal.{Literal}
 use Rattle.cedar_builders.specs.Keys.{keyed}
-use Rattle.sorted_slices.specs.Rising.{and_left}
-use Rattle.cedar_value_trees.specs.BareValue.{BareValue, BareValues, LitValue, SetValue, RecordValue, values_of, pairs_of}
-use Rattle.cedar_value_trees.specs.WellFormed.{is_well_formed, pairs_are_well_formed}
+use Rattle.cedar_sorted_slices.specs.Ascending.{and_left}
+use Rattle.semantics_values.specs.BareValue.{BareValue, BareValues, LitValue, SetValue, RecordValue, values_of, pairs_of}
+use Rattle.semantics_values.specs.WellFormed.{is_well_formed, pairs_are_well_formed}
 use Rattle.cedar_values.specs.BareValues.{bare_representable, bare_value, bare_value_kind, bare_set, kind_step, set_step, value_step, kind_of, value_place}
 use Rattle.cedar_values.specs.Places.{value_at, literal_value, unplaced}
 use Rattle.cedar_values.specs.Sets.{members}

@@ -25,4 +25,4 @@ pub mod Displays
 pub mod Uids
 pub mod PartialEquality
 pub mod PlainParts
-pub mod RisingKeys
+pub mod AscendingKeys

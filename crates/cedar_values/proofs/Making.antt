@@ -5,8 +5,8 @@ use Rattle.std.specs.List.{list_all}
 use Rattle.std.specs.Ordering.{is_eq}
 use Rattle.std.specs.declared.cmp.Ordering.{Ordering}
 use Rattle.cedar_terms.specs.Literals.{BareLiteral}
-use Rattle.sorted_slices.specs.Classes.{has_class, rises, HaveSameClasses, IsClassesOf}
-use Rattle.cedar_value_trees.specs.ValueOrder.{value_cmp}
+use Rattle.cedar_sorted_slices.specs.Classes.{has_class, ascends, HaveSameClasses, IsClassesOf}
+use Rattle.semantics_values.specs.ValueOrder.{value_cmp}
 use Rattle.cedar_values.specs.BareValues.{bare_value}
 use Rattle.cedar_values.specs.HashForms.{is_hash_form}
 use Rattle.cedar_values.specs.Places.{gathered, is_lit_value, unplaced}
@@ -44,12 +44,12 @@ module _ {X : Type 0} (R : X → X → Ordering) where
 
   -- a set without members, and with no literal by hash
   pub empty_kept : (s : Set X) → members s ≡ [] → hashed_literals s ≡ Some [] → set_well_formed R s ≡ true
-  empty_kept s h none = set_is R s ∙ λ i. rises (by_tree R) (h i) && (is_hash_form (map bare_value (h i)) (none i) && list_all (well_formed R) (h i))
+  empty_kept s h none = set_is R s ∙ λ i. ascends (by_tree R) (h i) && (is_hash_form (map bare_value (h i)) (none i) && list_all (well_formed R) (h i))
 
   -- the classes of some of the values, which are one or more of each class, are those of all
   pub classes_of_each : (ms ws vs : List (Value X)) → IsClassesOf (by_tree R) ms ws → HaveEachOf R ws vs → IsClassesOf (by_tree R) ms vs
   classes_of_each ms ws vs h each = record {
-    rising = h.rising;
+    ascending = h.ascending;
     same = λ q. h.same q ∙ each.same q;
     kept = λ v there. each.kept v (h.kept v there);
   }

@@ -10,8 +10,8 @@ use Rattle.std.specs.declared.rc.RcStr.{RcStr}
 use Rattle.cedar_terms.specs.LiteralOrder.{literal_cmp}
 use Rattle.cedar_terms.specs.Literals.{bare_literal}
 use Rattle.cedar_builders.specs.Keys.{keyed}
-use Rattle.cedar_value_trees.specs.BareValue.{BareValue, BareValues, values_of, pairs_of}
-use Rattle.cedar_value_trees.specs.ValueOrder.{value_cmp, values_cmp, pairs_cmp}
+use Rattle.semantics_values.specs.BareValue.{BareValue, BareValues, values_of, pairs_of}
+use Rattle.semantics_values.specs.ValueOrder.{value_cmp, values_cmp, pairs_cmp}
 use Rattle.cedar_values.specs.BareValues.{bare_value, bare_value_kind, bare_set, kind_step, set_step, value_step}
 use Rattle.cedar_values.specs.declared.set.Set.{Set, fold_out-Set, fold-roll-Set, out-Set, out-roll-Set, roll-Set}
 use Rattle.cedar_values.specs.declared.value.Value.{Value, fold_out-Value, fold-roll-Value, out-Value, roll-Value, ind-Value}

@@ -1,7 +1,7 @@
 -- Equality of partial values, case by case.
 use Rattle.std.proofs.Common.{◌≡◌, Bool, false}
 use Rattle.cedar_exprs.specs.declared.expr.Expr.{Expr}
-use Rattle.cedar_value_trees.specs.ValueOrder.{value_eq}
+use Rattle.semantics_values.specs.ValueOrder.{value_eq}
 use Rattle.cedar_values.specs.BareValues.{bare_value}
 use Rattle.cedar_values.specs.PartialValues.{partial_eq}
 use Rattle.cedar_values.specs.declared.partial_value.PartialValue.{PartialValue}

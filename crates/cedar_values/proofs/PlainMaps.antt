@@ -6,10 +6,10 @@ use Rattle.std.specs.Str.{bytes_eq}
 use Rattle.cedar_names.specs.Names.{BareName}
 use Rattle.cedar_terms.specs.Types.{BareType}
 use Rattle.cedar_builders.specs.BareExpr.{BareExpr}
-use Rattle.cedar_value_trees.specs.BareValue.{BareCall, BareValue}
-use Rattle.cedar_value_trees.specs.Laws.{BindsPlainValues}
-use Rattle.cedar_value_trees.specs.ValueExpr.{has_extension, value_expr}
-use Rattle.cedar_value_trees.specs.ValueTypes.{value_type}
+use Rattle.semantics_values.specs.BareValue.{BareCall, BareValue}
+use Rattle.semantics_values.specs.Laws.{BindsPlainValues}
+use Rattle.semantics_values.specs.ValueExpr.{has_extension, value_expr}
+use Rattle.semantics_values.specs.ValueTypes.{value_type}
 use Rattle.cedar_values.specs.BareValues.{bare_value}
 use Rattle.cedar_values.specs.ValueMaps.{ValueMap, values_env, HasPlainValues}
 use Rattle.cedar_values.specs.declared.value.Value.{Value}

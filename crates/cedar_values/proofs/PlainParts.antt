@@ -2,8 +2,8 @@
 use Rattle.std.proofs.Common.{◌≡◌, ◌||◌, List, [], ◌∷◌, map, refl, ap, Global}
 use Rattle.std.specs.List.{list_any}
 use Rattle.std.specs.declared.rc.RcStr.{RcStr}
-use Rattle.cedar_value_trees.specs.BareValue.{values_of}
-use Rattle.cedar_value_trees.specs.ValueExpr.{has_extension, any_has_extension, any_pair_has_extension}
+use Rattle.semantics_values.specs.BareValue.{values_of}
+use Rattle.semantics_values.specs.ValueExpr.{has_extension, any_has_extension, any_pair_has_extension}
 use Rattle.cedar_values.specs.BareValues.{bare_value}
 use Rattle.cedar_values.specs.Conversions.{bare_pairs}
 use Rattle.cedar_values.specs.declared.value.Value.{Value}

@@ -7,15 +7,15 @@ use Rattle.std.specs.declared.rc.Rc.{Rc}
 use Rattle.std.specs.declared.rc.RcStr.{RcStr}
 use Rattle.std.specs.declared.cmp.Ordering.{Ordering}
 use Rattle.std.proofs.lemmas.List.Folds.{list_all-append}
-use Rattle.sorted_slices.specs.Classes.{IsClassesOf}
-use Rattle.sorted_slices.specs.Images.{classes_of_images}
+use Rattle.cedar_sorted_slices.specs.Classes.{IsClassesOf}
+use Rattle.cedar_sorted_slices.specs.Images.{classes_of_images}
 use Rattle.cedar_builders.specs.BareExpr as tree
 use Rattle.cedar_exprs.specs.BareExpr.{bare_expr, bare_exprs, bare_fields, kind_of}
 use Rattle.cedar_exprs.specs.declared.expr.Expr.{Expr}
 use Rattle.cedar_exprs.specs.declared.expr.KindOf.TheVariants as Kind
-use Rattle.cedar_value_trees.specs.BareValue.{RecordValue}
-use Rattle.cedar_value_trees.specs.ValueOrder.{value_cmp}
-use Rattle.cedar_value_trees.specs.Reading.{IsValueOf, AreValuesOf, ArePairsOf}
+use Rattle.semantics_values.specs.BareValue.{RecordValue}
+use Rattle.semantics_values.specs.ValueOrder.{value_cmp}
+use Rattle.semantics_values.specs.Reading.{IsValueOf, AreValuesOf, ArePairsOf}
 use Rattle.cedar_values.specs.BareValues.{bare_value, bare_value_kind}
 use Rattle.cedar_values.specs.Conversions.{bare_pairs}
 use Rattle.cedar_values.specs.RowsRead.{IsRead, IsReadPair}

@@ -5,8 +5,8 @@ use Rattle.cedar_names.specs.Place.{Place}
 use Rattle.cedar_builders.specs.BareExpr.{BareExpr}
 use Rattle.cedar_exprs.specs.BareExpr.{bare_expr}
 use Rattle.cedar_exprs.specs.declared.expr.Expr.{Expr}
-use Rattle.cedar_value_trees.specs.BareValue.{BareCall}
-use Rattle.cedar_value_trees.specs.ValueExpr.{value_expr}
+use Rattle.semantics_values.specs.BareValue.{BareCall}
+use Rattle.semantics_values.specs.ValueExpr.{value_expr}
 use Rattle.cedar_values.specs.BareValues.{kind_of, bare_value_kind, bare_value, value_place}
 use Rattle.cedar_values.specs.Counts.{nodes}
 use Rattle.cedar_values.specs.Rows.{filled, row_place, row_left, step_tree, step_place, step_left, IsRow, IsStep}

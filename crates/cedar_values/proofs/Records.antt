@@ -14,7 +14,7 @@ use Rattle.std.specs.Option.{option_or}
 use Rattle.std.specs.Ordering.{eq_by_cmp, is_eq}
 use Rattle.std.specs.Rc.{rc_str_bytes}
 use Rattle.std.specs.declared.rc.RcStr.{RcStr}
-use Rattle.sorted_slices.specs.Rising.{and_left, and_right}
+use Rattle.cedar_sorted_slices.specs.Ascending.{and_left, and_right}
 use Rattle.cedar_values.specs.Records.{is_key, key_cmp, last_value, IsLastOfEach}
 
 pub tied_keys : (k l : RcStr Global) → is_key k l ≡ eq_by_cmp key_cmp k l
@@ -41,7 +41,7 @@ module _ {V : Type 0} where
   pub last_of_updates : (ps es : List (RcStr Global × V)) → IsStrictlySortedBy key_cmp (keys_of es)
       → ((k : RcStr Global) → lookup (λ l. is_eq (key_cmp k l)) es ≡ update_all (eq_by_cmp key_cmp) (λ _. None) ps k) → IsLastOfEach ps es
   last_of_updates ps es s h = record {
-    rising = s;
+    ascending = s;
     last = λ k. (λ i. lookup (λ l. tied_keys k l i) es) ∙ h k ∙ last_after (λ _. None) ps k ∙ or_none (last_value ps k);
   }
 
@@ -71,5 +71,5 @@ module _ {V : Type 0} where
         list_all-from_AllPass (λ e. P e.1) es
         (λ i d l.
         subst Passes
-        (sym (h.last (get_or es i d).0) ∙ lookup-from_Contains (on_equiv rc_str_bytes nat_list_eq_equiv) (get_or es i d).0 (get_or es i d).1 es (distinct (keys_of es) h.rising) (Contains-get_or es i d l))
+        (sym (h.last (get_or es i d).0) ∙ lookup-from_Contains (on_equiv rc_str_bytes nat_list_eq_equiv) (get_or es i d).0 (get_or es i d).1 es (distinct (keys_of es) h.ascending) (Contains-get_or es i d l))
         (last_passes ps (get_or es i d).0 all))

@@ -9,7 +9,7 @@ use Rattle.std.specs.declared.cmp.Ordering.{Ordering}
 use Rattle.std.specs.declared.rc.Rc.{Rc}
 use Rattle.std.specs.declared.rc.RcStr.{RcStr}
 use Rattle.std.proofs.lemmas.List.{map-append}
-use Rattle.sorted_slices.specs.Classes.{IsClassesOf}
+use Rattle.cedar_sorted_slices.specs.Classes.{IsClassesOf}
 use Rattle.cedar_builders.specs.BareExpr.{BareExpr, Set, Record, trees_of}
 use Rattle.cedar_builders.specs.Count.{count, total, count_is}
 use Rattle.cedar_builders.specs.Walks as bare
@@ -17,9 +17,9 @@ use Rattle.cedar_exprs.specs.FirstNodes.{InPreorder, passed}
 use Rattle.cedar_exprs.specs.BareExpr.{bare_expr, bare_exprs, bare_fields, kind_of}
 use Rattle.cedar_exprs.specs.declared.expr.Expr.{Expr}
 use Rattle.cedar_exprs.specs.declared.expr.KindOf.TheVariants as Kind
-use Rattle.cedar_value_trees.specs.BareValue.{BareValue}
-use Rattle.cedar_value_trees.specs.Reading.{IsValueOf, AreValuesOf, ArePairsOf, is_readable, is_readable_node}
-use Rattle.cedar_value_trees.specs.ValueOrder.{value_cmp}
+use Rattle.semantics_values.specs.BareValue.{BareValue}
+use Rattle.semantics_values.specs.Reading.{IsValueOf, AreValuesOf, ArePairsOf, is_readable, is_readable_node}
+use Rattle.semantics_values.specs.ValueOrder.{value_cmp}
 use Rattle.cedar_values.specs.BareValues as values
 use Rattle.cedar_values.specs.BareValues.{bare_value, bare_value_kind}
 use Rattle.cedar_values.specs.Conversions.{bare_pairs}
@@ -111,10 +111,10 @@ module _ {X : Type 0} (R : X → X → Ordering) where
 
   pub record_begun : (e : Expr Unit) (es : Rc (BTreeMap (RcStr Global) (Expr Unit)) Global) (left : List (RcStr Global × Expr Unit)) (vs : List (RcStr Global × Value X)) → kind_of e ≡ Kind.Record es → IsStrictlySortedBy key_cmp (keys_of es.value.entries)
       → left ≡ es.value.entries → vs ≡ [] → IsRecordRead R e vs left
-  record_begun e es left vs is rising all none = record {
+  record_begun e es left vs is ascending all none = record {
     all = es;
     is_record = is;
-    rising = rising;
+    ascending = ascending;
     seen = [];
     parts = sym all;
     read = subst (AllZip (IsReadPair R) []) (sym none) tt;
@@ -134,7 +134,7 @@ module _ {X : Type 0} (R : X → X → Ordering) where
 
   -- the key of the pair that comes next is above those before it
   pub next_above : (e : Expr Unit) (vs : List (RcStr Global × Value X)) (d : RcStr Global × Expr Unit) (left : List (RcStr Global × Expr Unit)) (k : RcStr Global) → IsRecordRead R e vs (d ∷ left) → rc_str_bytes k ≡ rc_str_bytes d.0 → IsAbove k vs
-  next_above e vs d left k h key = above h.seen vs d left k (same_texts R h.seen vs h.read) (subst (λ es. IsStrictlySortedBy key_cmp (keys_of es)) h.parts h.rising) key
+  next_above e vs d left k h key = above h.seen vs d left k (same_texts R h.seen vs h.read) (subst (λ es. IsStrictlySortedBy key_cmp (keys_of es)) h.parts h.ascending) key
 
   -- one pair more
   pub one_more_pair : (e : Expr Unit) (d : RcStr Global × Expr Unit) (vs ws : List (RcStr Global × Value X)) (left : List (RcStr Global × Expr Unit)) (k : RcStr Global) (v : Value X) → IsRecordRead R e vs (d ∷ left) → rc_str_bytes k ≡ rc_str_bytes d.0 → IsRead R d.1 v → IsTrue (well_formed R v)
@@ -142,7 +142,7 @@ module _ {X : Type 0} (R : X → X → Ordering) where
   one_more_pair e d vs ws left k v h key read kept put = record {
     all = h.all;
     is_record = h.is_record;
-    rising = h.rising;
+    ascending = h.ascending;
     seen = h.seen ++ d ∷ [];
     parts = h.parts ∙ sym (append_assoc h.seen (d ∷ []) left);
     read = subst (AllZip (IsReadPair R) (h.seen ++ d ∷ [])) (sym put) (zip_push (IsReadPair R) h.seen vs d (k, v) h.read (key, read));

@@ -10,7 +10,7 @@ use Rattle.cedar_terms.specs.Entities.{BareEntityUID, bare_entity_uid}
 use Rattle.cedar_terms.specs.EntityOrder.{entity_uid_eq, entity_uid_eq_equiv}
 use Rattle.cedar_terms.specs.declared.entity.EntityUID.{EntityUID}
 use Rattle.cedar_exprs.specs.Walks.{referents}
-use Rattle.cedar_value_trees.specs.BareValue.{RecordValue, values_of}
+use Rattle.semantics_values.specs.BareValue.{RecordValue, values_of}
 use Rattle.cedar_values.specs.BareValues.{bare_value, bare_value_kind, kind_of}
 use Rattle.cedar_values.specs.Conversions.{bare_pairs}
 use Rattle.cedar_values.specs.Counts.{kind_nodes, nodes, nodes_of, pair_nodes}

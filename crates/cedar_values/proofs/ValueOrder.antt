@@ -13,8 +13,8 @@ use Rattle.std.specs.contracts.cmp.Eq.TheBound as eq_bound
 use Rattle.std.specs.contracts.cmp.PartialEq.TheBound as partial_eq_bound
 use Rattle.std.specs.contracts.cmp.PartialOrd.TheBound as partial_ord_bound
 use Rattle.std.proofs.Common.{sym, None}
-use Rattle.cedar_value_trees.specs.BareValue.{SetValue}
-use Rattle.cedar_value_trees.specs.ValueOrder as trees
+use Rattle.semantics_values.specs.BareValue.{SetValue}
+use Rattle.semantics_values.specs.ValueOrder as trees
 use Rattle.cedar_values.proofs.Levels.{kind_at, set_row, value_tree}
 use Rattle.cedar_values.proofs.Order.{layer_cmp, cmp_is_by_tree}
 use Rattle.cedar_values.specs.BareValues.{bare_value_kind, bare_set}

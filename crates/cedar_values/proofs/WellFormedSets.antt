@@ -5,12 +5,12 @@ use Rattle.std.specs.List.{list_all}
 use Rattle.std.specs.List.Sorted.{IsStrictlySortedBy}
 use Rattle.std.specs.declared.cmp.Ordering.{Ordering}
 use Rattle.cedar_terms.specs.Literals.{BareLiteral}
-use Rattle.sorted_slices.specs.Classes.{IsClassesOf, rises}
-use Rattle.sorted_slices.specs.Images.{rising_images}
-use Rattle.sorted_slices.specs.Rising.{and_left, and_right, sorted_of_rises, rises_of_sorted}
-use Rattle.cedar_value_trees.specs.BareValue.{BareValue, BareValues, SetValue, values_of, list_of_values}
-use Rattle.cedar_value_trees.specs.ValueOrder.{value_cmp}
-use Rattle.cedar_value_trees.specs.WellFormed.{is_well_formed, are_well_formed}
+use Rattle.cedar_sorted_slices.specs.Classes.{IsClassesOf, ascends}
+use Rattle.cedar_sorted_slices.specs.Images.{ascending_images}
+use Rattle.cedar_sorted_slices.specs.Ascending.{and_left, and_right, sorted_of_ascends, ascends_of_sorted}
+use Rattle.semantics_values.specs.BareValue.{BareValue, BareValues, SetValue, values_of, list_of_values}
+use Rattle.semantics_values.specs.ValueOrder.{value_cmp}
+use Rattle.semantics_values.specs.WellFormed.{is_well_formed, are_well_formed}
 use Rattle.cedar_values.specs.BareValues.{bare_value, bare_set, kind_step, set_step, value_step}
 use Rattle.cedar_values.specs.HashForms.{is_hash_form}
 use Rattle.cedar_values.specs.Sets.{by_tree, has_hash_form, hashed_literals, members}
@@ -36,21 +36,21 @@ module _ {X : Type 0} (R : X → X → Ordering) where
   all_members [] = refl
   all_members (v ∷ vs) = ap (λ b. is_well_formed R (bare_value v) && b) (all_members vs)
 
-  set_rises : (s : Set X) → is_well_formed R (SetValue (bare_set s)) ≡ (rises (by_tree R) (members s) && list_all (λ v. is_well_formed R (bare_value v)) (members s))
-  set_rises s =
+  set_ascends : (s : Set X) → is_well_formed R (SetValue (bare_set s)) ≡ (ascends (by_tree R) (members s) && list_all (λ v. is_well_formed R (bare_value v)) (members s))
+  set_ascends s =
       ap (λ ts. is_well_formed R (SetValue ts)) (set_values s)
-      ∙ λ i. (ap (rises (value_cmp R)) (list_of_values (map bare_value (members s))) ∙ sym (rising_images bare_value (value_cmp R) (members s))) i && all_members (members s) i
+      ∙ λ i. (ap (ascends (value_cmp R)) (list_of_values (map bare_value (members s))) ∙ sym (ascending_images bare_value (value_cmp R) (members s))) i && all_members (members s) i
 
-  -- a set rises, has its hash form, and each member is well formed
-  pub set_is : (s : Set X) → set_well_formed R s ≡ (rises (by_tree R) (members s) && (has_hash_form s && list_all (well_formed R) (members s)))
+  -- a set ascends, has its hash form, and each member is well formed
+  pub set_is : (s : Set X) → set_well_formed R s ≡ (ascends (by_tree R) (members s) && (has_hash_form s && list_all (well_formed R) (members s)))
   unfolding well_formed set_well_formed
   set_is s =
-      (λ i. set_rises s i && set_hash s i)
-      ∙ joined (rises (by_tree R) (members s)) (list_all (λ v. is_well_formed R (bare_value v)) (members s)) (has_hash_form s) (list_all is_hashed (members s))
-      ∙ ap (λ b. rises (by_tree R) (members s) && (has_hash_form s && b)) (all_both (λ v. is_well_formed R (bare_value v)) is_hashed (members s))
+      (λ i. set_ascends s i && set_hash s i)
+      ∙ joined (ascends (by_tree R) (members s)) (list_all (λ v. is_well_formed R (bare_value v)) (members s)) (has_hash_form s) (list_all is_hashed (members s))
+      ∙ ap (λ b. ascends (by_tree R) (members s) && (has_hash_form s && b)) (all_both (λ v. is_well_formed R (bare_value v)) is_hashed (members s))
 
   pub set_is_hashed : (s : Set X) → set_well_formed R s ≡ true → has_hash_form s ≡ true
-  set_is_hashed s h = and_left (has_hash_form s) _ (and_right (rises (by_tree R) (members s)) _ (sym (set_is s) ∙ h))
+  set_is_hashed s h = and_left (has_hash_form s) _ (and_right (ascends (by_tree R) (members s)) _ (sym (set_is s) ∙ h))
 
   -- the literals that a well formed set keeps by hash
   pub form_is : (s : Set X) → set_well_formed R s ≡ true → (f : Option (List BareLiteral)) → hashed_literals s ≡ f → is_hash_form (map bare_value (members s)) f ≡ true
@@ -60,17 +60,17 @@ module _ {X : Type 0} (R : X → X → Ordering) where
   pub same_set : (s t : Set X) → members s ≡ members t → hashed_literals s ≡ hashed_literals t → set_well_formed R s ≡ set_well_formed R t
   same_set s t same hashed =
       set_is s
-      ∙ (λ i. rises (by_tree R) (same i) && (is_hash_form (map bare_value (same i)) (hashed i) && list_all (well_formed R) (same i)))
+      ∙ (λ i. ascends (by_tree R) (same i) && (is_hash_form (map bare_value (same i)) (hashed i) && list_all (well_formed R) (same i)))
       ∙ sym (set_is t)
 
   pub sorted_members : IsTotalOrder (by_tree R) → (s : Set X) → set_well_formed R s ≡ true → IsStrictlySortedBy (by_tree R) (members s)
-  sorted_members o s h = sorted_of_rises o (members s) (and_left (rises (by_tree R) (members s)) _ (sym (set_is s) ∙ h))
+  sorted_members o s h = sorted_of_ascends o (members s) (and_left (ascends (by_tree R) (members s)) _ (sym (set_is s) ∙ h))
 
   -- a set of the classes of well formed values, with its hash form, is well formed
   pub kept_of_classes : (s : Set X) (values : List (Value X)) → IsClassesOf (by_tree R) (members s) values → has_hash_form s ≡ true → list_all (well_formed R) values ≡ true → set_well_formed R s ≡ true
   kept_of_classes s values h form all =
       set_is s
-      ∙ λ i. rises_of_sorted (by_tree R) (members s) h.rising i && (form i && all_kept (well_formed R) (members s) values h.kept all i)
+      ∙ λ i. ascends_of_sorted (by_tree R) (members s) h.ascending i && (form i && all_kept (well_formed R) (members s) values h.kept all i)
 
 -- what is known by the order that values have, by that of their trees
 module _ {X : Type 0} (R : X → X → Ordering) {C : Value X → Value X → Ordering} (order : (a b : Value X) → C a b ≡ by_tree R a b) where

@@ -11,12 +11,12 @@ use Rattle.std.specs.declared.rc.RcStr.{RcStr}
 use Rattle.std.proofs.lemmas.List.{map-append}
 use Rattle.std.proofs.lemmas.List.Folds.{list_all-append}
 use Rattle.cedar_builders.specs.BareExpr.{Text, BareExpr, Set, Record, trees_of, fields_of, field}
-use Rattle.cedar_builders.specs.Keys.{IsRising, keys_of, meant_pairs}
+use Rattle.cedar_builders.specs.Keys.{IsAscending, keys_of, meant_pairs}
 use Rattle.cedar_builders.specs.Restricted.{IsRestricted, is_restricted}
 use Rattle.cedar_exprs.specs.BareExpr.{bare_expr, bare_fields}
 use Rattle.cedar_exprs.specs.declared.expr.Expr.{Expr}
-use Rattle.cedar_value_trees.specs.BareValue.{BareCall, values_of}
-use Rattle.cedar_value_trees.specs.ValueExpr.{value_expr, member_exprs, pair_exprs}
+use Rattle.semantics_values.specs.BareValue.{BareCall, values_of}
+use Rattle.semantics_values.specs.ValueExpr.{value_expr, member_exprs, pair_exprs}
 use Rattle.cedar_values.specs.BareValues.{bare_value, bare_value_kind}
 use Rattle.cedar_values.specs.Conversions.{bare_pairs}
 use Rattle.cedar_values.specs.Counts.{nodes, nodes_of, pair_nodes}
@@ -100,18 +100,18 @@ below : {A : Type 0} (k : RcStr Global) (es : List (RcStr Global × A)) → AllB
 below k [] h = tt
 below k (e ∷ es) h = (h.0, below k es h.1)
 
--- in order in the map, rising as texts
-pub keys_rise : {A : Type 0} (es : List (RcStr Global × A)) → IsStrictlySortedBy key_cmp (maps.keys_of es) → IsRising (keys_of es)
+-- in order in the map, ascending as texts
+pub keys_ascend : {A : Type 0} (es : List (RcStr Global × A)) → IsStrictlySortedBy key_cmp (maps.keys_of es) → IsAscending (keys_of es)
 unfolding IsStrictlySortedBy
-keys_rise [] h = tt
-keys_rise (e ∷ es) h = (below e.0 es h.0, keys_rise es h.1)
+keys_ascend [] h = tt
+keys_ascend (e ∷ es) h = (below e.0 es h.0, keys_ascend es h.1)
 
 below_later : {A : Type 0} (first : Text) (es : List (RcStr Global × A)) (k : Text) (more : List Text) → AllByRecursion (λ y. slice_cmp nat_cmp first y ≡ Less) (keys_of es ++ k ∷ more) → slice_cmp nat_cmp first k ≡ Less
 below_later first [] k more h = h.0
 below_later first (e ∷ es) k more h = below_later first es k more h.1
 
 -- the key that comes next is above those before it
-pub next_above : {A : Type 0} (made : List (RcStr Global × A)) (k : RcStr Global) (more : List Text) → IsRising (keys_of made ++ rc_str_bytes k ∷ more) → IsAbove k made
+pub next_above : {A : Type 0} (made : List (RcStr Global × A)) (k : RcStr Global) (more : List Text) → IsAscending (keys_of made ++ rc_str_bytes k ∷ more) → IsAbove k made
 unfolding IsStrictlySortedBy
 next_above [] k more h = tt
 next_above (m ∷ made) k more h = (

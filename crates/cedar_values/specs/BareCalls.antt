@@ -3,11 +3,11 @@ use Rattle.std.specs.Prelude.{map}
 use Rattle.std.specs.Global.{Global}
 use Rattle.std.specs.declared.vec.Vec.{Vec}
 use Rattle.cedar_names.specs.PlainNames.{bare_name}
-use Rattle.cedar_names.specs.declared.plain_name.Name.{Name}
+use Rattle.cedar_names.specs.declared.name.Name.{Name}
 use Rattle.cedar_builders.specs.BareExpr.{trees_of}
 use Rattle.cedar_exprs.specs.RestrictedExprs.{bare_restricted_expr}
 use Rattle.cedar_exprs.specs.declared.restricted_expr.RestrictedExpr.{RestrictedExpr}
-use Rattle.cedar_value_trees.specs.BareValue.{BareCall}
+use Rattle.semantics_values.specs.BareValue.{BareCall}
 
 -- a function and its arguments
 abbrev pub bare_call : Name × Vec RestrictedExpr Global → BareCall

@@ -3,7 +3,7 @@ use Rattle.std.specs.Prelude.{Option, option_map}
 use Rattle.cedar_names.specs.Place.{Place}
 use Rattle.cedar_terms.specs.Literals.{bare_literal}
 use Rattle.cedar_builders.specs.Keys.{keyed}
-use Rattle.cedar_value_trees.specs.BareValue.{BareValue, BareValues, LitValue, SetValue, RecordValue, ExtensionValue, values_of, pairs_of}
+use Rattle.semantics_values.specs.BareValue.{BareValue, BareValues, LitValue, SetValue, RecordValue, ExtensionValue, values_of, pairs_of}
 use Rattle.cedar_values.specs.BareCalls.{bare_call}
 use Rattle.cedar_values.specs.declared.extension_value.RepresentableExtensionValue.{RepresentableExtensionValue}
 use Rattle.cedar_values.specs.declared.value.ValueKind.{ValueKind, fold-ValueKind}

@@ -5,7 +5,7 @@ use Rattle.std.specs.List.{concat}
 use Rattle.cedar_names.specs.Grammar.{is_unreserved_id}
 use Rattle.cedar_terms.specs.Literals.{literal_text}
 use Rattle.cedar_builders.specs.BareExpr.{Text}
-use Rattle.cedar_value_trees.specs.BareValue.{BareValue, LitValue, SetValue, RecordValue, ExtensionValue, BareValues, no_values, value, BarePairs, no_pairs, pair}
+use Rattle.semantics_values.specs.BareValue.{BareValue, LitValue, SetValue, RecordValue, ExtensionValue, BareValues, no_values, value, BarePairs, no_pairs, pair}
 
 -- the first of some items, as many as the bound says; without a bound all
 abbrev pub shown : {A : Type 0} → Option ℕ → List A → List A

@@ -3,7 +3,7 @@ use Rattle.std.specs.Prelude.{List, map}
 use Rattle.std.specs.Global.{Global}
 use Rattle.std.specs.declared.rc.RcStr.{RcStr}
 use Rattle.cedar_builders.specs.Keys.{keyed}
-use Rattle.cedar_value_trees.specs.BareValue.{BarePairs, pairs_of}
+use Rattle.semantics_values.specs.BareValue.{BarePairs, pairs_of}
 use Rattle.cedar_values.specs.BareValues.{bare_value}
 use Rattle.cedar_values.specs.declared.value.Value.{Value}
 

@@ -1,7 +1,7 @@
 -- How many values there are inside values.
 use Rattle.std.specs.Prelude.{ℕ, suc, ◌+◌, ◌<◌, List, map}
 use Rattle.std.proofs.Common.{arith}
-use Rattle.cedar_value_trees.specs.BareValue.{BareValue, LitValue, SetValue, RecordValue, ExtensionValue, BareValues, no_values, value, BarePairs, no_pairs, pair, values_of}
+use Rattle.semantics_values.specs.BareValue.{BareValue, LitValue, SetValue, RecordValue, ExtensionValue, BareValues, no_values, value, BarePairs, no_pairs, pair, values_of}
 use Rattle.cedar_values.specs.BareValues.{bare_value, bare_value_kind}
 use Rattle.cedar_values.specs.declared.value.Value.{Value}
 use Rattle.cedar_values.specs.declared.value.ValueKind.{ValueKind}

@@ -2,12 +2,12 @@
 use Rattle.std.specs.Prelude.{ℕ, ◌+◌, ◌<◌, ◌≤◌, ⊤, List, Option, IfSome}
 use Rattle.std.specs.Global.{Global}
 use Rattle.std.specs.declared.rc.RcStr.{RcStr}
-use Rattle.dropped_rows.specs.Rows as rows
+use Rattle.cedar_iterative_drop.specs.Rows as rows
 use Rattle.cedar_values.specs.BareValues.{bare_value}
 use Rattle.cedar_values.specs.Counts.{kind_nodes, nodes}
 use Rattle.cedar_values.specs.declared.value.Value.{Value}
 use Rattle.cedar_values.specs.declared.value.ValueKind.{ValueKind}
-use Rattle.cedar_values.specs.declared.dropping.Left.{Left}
+use Rattle.cedar_values.specs.declared.dropping.Remaining.{Remaining}
 use Rattle.cedar_values.specs.declared.dropping.Step.{Step}
 use Rattle.cedar_values.specs.declared.dropping.Step.TheVariants.{Into, On, Row, End}
 
@@ -25,7 +25,7 @@ abbrev pub waiting_nodes : {X : Type 0} → Option (ValueKind X) → ℕ
 waiting_nodes = rows.waiting_nodes kind_nodes
 
 -- all that is left
-abbrev pub all_nodes : {X : Type 0} → Left X → ℕ
+abbrev pub all_nodes : {X : Type 0} → Remaining X → ℕ
 all_nodes l = kind_nodes l.kind + waiting_nodes l.waiting
 
 -- from a kind of k values, of n in all: no more values and a smaller kind, or fewer values

@@ -7,7 +7,7 @@ use Rattle.std.specs.declared.hash.FoldHasher.{FoldHasher}
 use Rattle.cedar_terms.specs.LiteralOrder.{literal_eq}
 use Rattle.cedar_terms.specs.Literals.{BareLiteral, bare_literal}
 use Rattle.cedar_terms.specs.declared.literal.Literal.{Literal}
-use Rattle.cedar_value_trees.specs.BareValue.{BareValue, LitValue, SetValue, RecordValue, ExtensionValue}
+use Rattle.semantics_values.specs.BareValue.{BareValue, LitValue, SetValue, RecordValue, ExtensionValue}
 use Rattle.cedar_values.specs.Places.{is_lit_value}
 
 -- whether a literal is among some

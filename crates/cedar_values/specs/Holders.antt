@@ -4,7 +4,7 @@ use Rattle.cedar_names.specs.Names.{BareName}
 use Rattle.cedar_names.specs.PlainNames.{bare_name}
 use Rattle.cedar_builders.specs.BareExpr.{no_trees}
 use Rattle.cedar_builders.specs.Environment.{Env}
-use Rattle.cedar_value_trees.specs.BareValue.{BareCall}
+use Rattle.semantics_values.specs.BareValue.{BareCall}
 use Rattle.cedar_values.specs.ValueMaps.{ValueMap, values_env}
 use Rattle.cedar_values.specs.declared.extension_value.Holder.{Holder}
 

@@ -9,7 +9,7 @@ use Rattle.cedar_terms.specs.Entities.{BareEntityUID, bare_entity_uid}
 use Rattle.cedar_terms.specs.EntityOrder.{entity_uid_eq}
 use Rattle.cedar_terms.specs.Literals.{BareLiteral, EntityLit}
 use Rattle.cedar_terms.specs.declared.entity.EntityUID.{EntityUID}
-use Rattle.cedar_value_trees.specs.BareValue.{BareValue, LitValue, SetValue, RecordValue, ExtensionValue, BareValues, no_values, value, BarePairs, no_pairs, pair}
+use Rattle.semantics_values.specs.BareValue.{BareValue, LitValue, SetValue, RecordValue, ExtensionValue, BareValues, no_values, value, BarePairs, no_pairs, pair}
 
 -- the entity, if a literal is one
 abbrev pub literal_uid : BareLiteral → List BareEntityUID

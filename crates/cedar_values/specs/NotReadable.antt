@@ -3,7 +3,7 @@ use Rattle.std.specs.Prelude.{◌≡◌, ⊤, Bool, true, false, List, Option, S
 use Rattle.cedar_exprs.specs.BareExpr.{expr_place}
 use Rattle.cedar_exprs.specs.FirstNodes.{first_failing, first_failing_of}
 use Rattle.cedar_exprs.specs.declared.expr.Expr.{Expr}
-use Rattle.cedar_value_trees.specs.Reading.{is_readable_node}
+use Rattle.semantics_values.specs.Reading.{is_readable_node}
 use Rattle.cedar_values.specs.declared.not_value.NotValue.{NotValue}
 use Rattle.cedar_values.specs.declared.not_value.NotValue.TheVariants as error
 

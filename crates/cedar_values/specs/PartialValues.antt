@@ -12,9 +12,9 @@ use Rattle.cedar_exprs.specs.Walks.{children}
 use Rattle.cedar_exprs.specs.declared.expr.Expr.{Expr}
 use Rattle.either.specs.declared.Either.{Either}
 use Rattle.either.specs.declared.Either.TheVariants.{Left, Right}
-use Rattle.cedar_value_trees.specs.BareValue.{BareCall}
-use Rattle.cedar_value_trees.specs.ValueExpr.{value_expr}
-use Rattle.cedar_value_trees.specs.ValueOrder.{value_eq}
+use Rattle.semantics_values.specs.BareValue.{BareCall}
+use Rattle.semantics_values.specs.ValueExpr.{value_expr}
+use Rattle.semantics_values.specs.ValueOrder.{value_eq}
 use Rattle.cedar_values.specs.BareValues.{bare_value, kind_of, value_place}
 use Rattle.cedar_values.specs.Kinds.{IsCopy}
 use Rattle.cedar_values.specs.declared.partial_value.ContainsUnknown.{ContainsUnknown}

@@ -4,7 +4,7 @@ use Rattle.std.specs.List.{list_all}
 use Rattle.cedar_names.specs.Place.{Place}
 use Rattle.cedar_terms.specs.Literals.{BareLiteral}
 use Rattle.cedar_terms.specs.declared.literal.Literal.{Literal}
-use Rattle.cedar_value_trees.specs.BareValue.{BareValue, LitValue, SetValue, RecordValue, ExtensionValue}
+use Rattle.semantics_values.specs.BareValue.{BareValue, LitValue, SetValue, RecordValue, ExtensionValue}
 use Rattle.cedar_values.specs.BareValues.{bare_value, kind_of}
 use Rattle.cedar_values.specs.declared.value.Value.{Value, roll-Value}
 use Rattle.cedar_values.specs.declared.value.ValueKind.{ValueKind}

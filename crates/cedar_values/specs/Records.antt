@@ -24,7 +24,7 @@ abbrev pub last_value : {V : Type 0} → List (RcStr Global × V) → RcStr Glob
 last_value [] k = None
 last_value (p ∷ ps) k = option_or (last_value ps k) (if is_key p.0 k then Some p.1 else None)
 
--- each key of the pairs once, rising, with the last value that they give to it
+-- each key of the pairs once, ascending, with the last value that they give to it
 pub record IsLastOfEach {V : Type 0} (ps es : List (RcStr Global × V)) : Type 0 where
-  pub rising : IsStrictlySortedBy key_cmp (keys_of es)
+  pub ascending : IsStrictlySortedBy key_cmp (keys_of es)
   pub last : (k : RcStr Global) → lookup (is_key k) es ≡ last_value ps k

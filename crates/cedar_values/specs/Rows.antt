@@ -8,12 +8,12 @@ use Rattle.std.specs.Slice.Iter.{iter_rest}
 use Rattle.std.specs.declared.rc.RcStr.{RcStr}
 use Rattle.cedar_names.specs.Place.{Place}
 use Rattle.cedar_builders.specs.BareExpr.{BareExpr, Set, Record, trees_of, fields_of}
-use Rattle.cedar_builders.specs.Keys.{IsRising, keys_of, meant_pairs}
+use Rattle.cedar_builders.specs.Keys.{IsAscending, keys_of, meant_pairs}
 use Rattle.cedar_builders.specs.Restricted.{is_restricted}
 use Rattle.cedar_exprs.specs.BareExpr.{bare_expr, expr_place}
 use Rattle.cedar_exprs.specs.declared.expr.Expr.{Expr}
-use Rattle.cedar_value_trees.specs.BareValue.{BareCall}
-use Rattle.cedar_value_trees.specs.ValueExpr.{value_expr}
+use Rattle.semantics_values.specs.BareValue.{BareCall}
+use Rattle.semantics_values.specs.ValueExpr.{value_expr}
 use Rattle.cedar_values.specs.BareValues.{bare_value}
 use Rattle.cedar_values.specs.Conversions.{bare_pairs}
 use Rattle.cedar_values.specs.Counts.{nodes, nodes_of, pair_nodes}
@@ -72,10 +72,10 @@ AreRestricted es = IsTrue (list_all (λ e. is_restricted (bare_expr e)) es)
 abbrev pub ArePairsRestricted : List (RcStr Global × Expr Unit) → Type 0
 ArePairsRestricted es = IsTrue (list_all (λ e. is_restricted (bare_expr e.1)) es)
 
--- what is written is restricted, and the keys rise
+-- what is written is restricted, and the keys ascend
 abbrev pub IsRow : {X : Type 0} → Waiting X → Type 0
 IsRow (InSet m) = AreRestricted m.exprs.items
-IsRow (InRecord m k) = ArePairsRestricted m.exprs.entries × IsRising (keys_of m.exprs.entries ++ rc_str_bytes k ∷ keys_of m.rest)
+IsRow (InRecord m k) = ArePairsRestricted m.exprs.entries × IsAscending (keys_of m.exprs.entries ++ rc_str_bytes k ∷ keys_of m.rest)
 
 abbrev pub IsStep : {X : Type 0} → Step X → Type 0
 IsStep (Made e) = IsTrue (is_restricted (bare_expr e))

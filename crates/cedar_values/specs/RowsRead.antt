@@ -15,7 +15,7 @@ use Rattle.cedar_builders.specs.Count.{count, total}
 use Rattle.cedar_exprs.specs.BareExpr.{bare_expr, expr_place, kind_of}
 use Rattle.cedar_exprs.specs.declared.expr.Expr.{Expr}
 use Rattle.cedar_exprs.specs.declared.expr.KindOf.TheVariants.{Set, Record}
-use Rattle.cedar_value_trees.specs.Reading.{IsValueOf}
+use Rattle.semantics_values.specs.Reading.{IsValueOf}
 use Rattle.cedar_values.specs.BareValues.{bare_value, value_place}
 use Rattle.cedar_values.specs.Records.{key_cmp}
 use Rattle.cedar_values.specs.WellFormed.{well_formed}
@@ -67,7 +67,7 @@ module _ {X : Type 0} (R : X → X → Ordering) where
   pub record IsRecordRead (e : Expr Unit) (vs : List (RcStr Global × Value X)) (left : List (RcStr Global × Expr Unit)) : Type 0 where
     pub all : Rc (BTreeMap (RcStr Global) (Expr Unit)) Global
     pub is_record : kind_of e ≡ Record all
-    pub rising : IsStrictlySortedBy key_cmp (keys_of all.value.entries)
+    pub ascending : IsStrictlySortedBy key_cmp (keys_of all.value.entries)
     pub seen : List (RcStr Global × Expr Unit)
     pub parts : all.value.entries ≡ seen ++ left
     pub read : AllZip IsReadPair seen vs

@@ -7,8 +7,8 @@ use Rattle.std.specs.declared.cmp.Ordering.{Ordering}
 use Rattle.cedar_terms.specs.LiteralOrder.{literal_eq}
 use Rattle.cedar_terms.specs.Literals.{BareLiteral, bare_literal}
 use Rattle.cedar_terms.specs.declared.literal.Literal.{Literal}
-use Rattle.sorted_slices.specs.Classes.{has_class, HaveSameClasses}
-use Rattle.cedar_value_trees.specs.ValueOrder.{value_cmp}
+use Rattle.cedar_sorted_slices.specs.Classes.{has_class, HaveSameClasses}
+use Rattle.semantics_values.specs.ValueOrder.{value_cmp}
 use Rattle.cedar_values.specs.BareValues.{bare_value}
 use Rattle.cedar_values.specs.HashForms.{LiteralSet, is_hash_form, literals_of}
 use Rattle.cedar_values.specs.Places.{literal_value}

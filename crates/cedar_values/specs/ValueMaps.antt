@@ -12,9 +12,9 @@ use Rattle.cedar_builders.specs.BareExpr.{Text}
 use Rattle.cedar_builders.specs.Environment.{Env}
 use Rattle.cedar_builders.specs.Laws.{both, then}
 use Rattle.cedar_exprs.specs.RestrictedExprs.{env_of}
-use Rattle.cedar_value_trees.specs.BareValue.{BareCall}
-use Rattle.cedar_value_trees.specs.ValueExpr.{has_extension, value_expr}
-use Rattle.cedar_value_trees.specs.ValueTypes.{value_type}
+use Rattle.semantics_values.specs.BareValue.{BareCall}
+use Rattle.semantics_values.specs.ValueExpr.{has_extension, value_expr}
+use Rattle.semantics_values.specs.ValueTypes.{value_type}
 use Rattle.cedar_values.specs.BareValues.{bare_value}
 use Rattle.cedar_values.specs.declared.value.Value.{Value}
 

@@ -1,10 +1,10 @@
--- Well formed values and sets: the list of each set inside rises strictly, and its literals are kept
+-- Well formed values and sets: the list of each set inside ascends strictly, and its literals are kept
 -- by hash exactly where all its members are literals.
 use Rattle.std.specs.Prelude.{Bool, true, ◌&&◌, map, option_map}
 use Rattle.std.specs.List.{list_all}
 use Rattle.std.specs.declared.cmp.Ordering.{Ordering}
-use Rattle.cedar_value_trees.specs.BareValue.{SetValue}
-use Rattle.cedar_value_trees.specs.WellFormed.{is_well_formed}
+use Rattle.semantics_values.specs.BareValue.{SetValue}
+use Rattle.semantics_values.specs.WellFormed.{is_well_formed}
 use Rattle.cedar_values.specs.BareValues.{bare_value, bare_value_kind, bare_set}
 use Rattle.cedar_values.specs.HashForms.{is_hash_form, literals_of}
 use Rattle.cedar_values.specs.declared.value.Value.{Value, para-Value}

@@ -3,7 +3,7 @@ ghost use Rattle.std.specs.Prelude.{◌≡◌, ◌↔◌, ◌++◌, ◌-◌, [],
 ghost use Rattle.std.specs.Prelude.{codes, if◌then◌else◌, option_map};
 ghost use Rattle.std.specs.Fmt.{WritesInCalls, WritesOnOk};
 ghost use Rattle.std.specs.String.{string_bytes};
-ghost use Rattle.cedar_value_trees.specs.BareValue as bare;
+ghost use Rattle.semantics_values.specs.BareValue as bare;
 ghost use Rattle.cedar_values.specs.BareValues.{bare_set, bare_value, bare_value_kind};
 ghost use Rattle.cedar_values.specs.BoundedTexts.{bounded_text, key_text};
 ghost use Rattle.cedar_values.specs.Conversions.{bare_pairs};

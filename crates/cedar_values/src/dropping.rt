@@ -1,6 +1,6 @@
 //! How a value is dropped.
 ghost use Rattle.std.specs.Prelude.{◌≡◌, ℕ, ◌+◌, ◌<◌, ◌≤◌, suc, IfSome};
-ghost use Rattle.dropped_rows.specs.Rows.{IsTaken};
+ghost use Rattle.cedar_iterative_drop.specs.Rows.{IsTaken};
 ghost use Rattle.cedar_values.specs.Counts.{kind_nodes};
 ghost use Rattle.cedar_values.specs.Drops.{
   IsStep,
@@ -14,7 +14,7 @@ ghost use Rattle.cedar_values.specs.Drops.{
 use crate::row_items::{last_branch, last_branch_value, take_member, take_value};
 use crate::set::Set;
 use crate::value::{Value, ValueKind};
-use dropped_rows::{LEVELS, Taken};
+use cedar_iterative_drop::{LEVELS, Taken};
 use std::collections::BTreeMap;
 use std::rc::{Rc, RcStr};
 
@@ -42,9 +42,9 @@ fn drop_near<X: Drop>(kind: ValueKind<X>, levels: u32) {
 // with the items that it still has: the first of them is the row that waits below it.
 #[cycle(dropped)]
 fn drop_branch<X: Drop>(kind: ValueKind<X>) {
-    let mut left = only(kind);
+    let mut left = remaining(kind);
     'down: loop {
-        match enter(left) {
+        match enter_kind(left) {
             Step::Into(next) => left = next,
             Step::On(next) => left = next,
             Step::Row(row, next) => {
@@ -60,7 +60,7 @@ fn drop_branch<X: Drop>(kind: ValueKind<X>) {
 }
 
 // What a drop has still to do.
-struct Left<X> {
+struct Remaining<X> {
     // The kind that comes next.
     kind: ValueKind<X>,
     // The rows that wait, as the set or the record that is the innermost of them.
@@ -70,19 +70,19 @@ struct Left<X> {
 // A step of a drop.
 enum Step<X> {
     // Into an item of a row, which then waits.
-    Into(Left<X>),
+    Into(Remaining<X>),
     // A value is gone.
-    On(Left<X>),
+    On(Remaining<X>),
     // A row that can't wait, and what is left beside it.
-    Row(ValueKind<X>, Option<Left<X>>),
+    Row(ValueKind<X>, Option<Remaining<X>>),
     // Nothing is left.
     End,
 }
 
-fn enter<X: Drop>(left: Left<X>) -> Step<X>
+fn enter_kind<X: Drop>(left: Remaining<X>) -> Step<X>
     ensures { IsStep (kind_nodes left.kind) (all_nodes left) result }
 {
-    let Left { kind, waiting } = left;
+    let Remaining { kind, waiting } = left;
     match kind {
         ValueKind::Lit(literal) => {
             drop(literal);
@@ -101,29 +101,29 @@ fn enter<X: Drop>(left: Left<X>) -> Step<X>
 fn go_up<X: Drop>(waiting: Option<ValueKind<X>>) -> Step<X>
     ensures { (k n : ℕ) → waiting_nodes waiting < n → IsStep k n result }
 {
-    match go_on(waiting) {
+    match resume_waiting(waiting) {
         Some(left) => Step::On(left),
         None => Step::End,
     }
 }
 
 // What waits, if anything does.
-fn go_on<X: Drop>(waiting: Option<ValueKind<X>>) -> Option<Left<X>>
+fn resume_waiting<X: Drop>(waiting: Option<ValueKind<X>>) -> Option<Remaining<X>>
     ensures { IfSome result (λ left. all_nodes left ≤ waiting_nodes waiting) }
 {
     match waiting {
         Some(ValueKind::Set(set)) => Some(resume_members(set.into_row())),
         Some(ValueKind::Record(pairs)) => Some(resume_pairs(pairs)),
-        Some(kind) => Some(only(kind)),
+        Some(kind) => Some(remaining(kind)),
         None => None,
     }
 }
 
 // A kind beside which nothing waits.
-fn only<X>(kind: ValueKind<X>) -> Left<X>
+fn remaining<X>(kind: ValueKind<X>) -> Remaining<X>
     ensures { all_nodes result ≡ kind_nodes kind }
 {
-    Left {
+    Remaining {
         kind,
         waiting: None,
     }
@@ -137,11 +137,11 @@ fn open_members<X: Drop>(row: Rc<Vec<Value<X>>>, waiting: Option<ValueKind<X>>) 
 {
     let mut row = row;
     match Rc::get_mut(&mut row) {
-        Some(members) => opened(
+        Some(members) => enter_item(
             take_member(members, waiting),
             ValueKind::Set(Set::of_row(row)),
         ),
-        None => opened(Taken::Nothing(waiting), ValueKind::Set(Set::of_row(row))),
+        None => enter_item(Taken::Nothing(waiting), ValueKind::Set(Set::of_row(row))),
     }
 }
 
@@ -153,77 +153,77 @@ fn open_pairs<X: Drop>(row: Rc<BTreeMap<RcStr, Value<X>>>, waiting: Option<Value
 {
     let mut row = row;
     match Rc::get_mut(&mut row) {
-        Some(pairs) => opened(take_value(pairs, waiting), ValueKind::Record(row)),
-        None => opened(Taken::Nothing(waiting), ValueKind::Record(row)),
+        Some(pairs) => enter_item(take_value(pairs, waiting), ValueKind::Record(row)),
+        None => enter_item(Taken::Nothing(waiting), ValueKind::Record(row)),
     }
 }
 
 // Into an item that was taken out of a row, which then waits.
-fn opened<X: Drop>(item: Taken<ValueKind<X>>, row: ValueKind<X>) -> Step<X>
+fn enter_item<X: Drop>(item: Taken<ValueKind<X>>, row: ValueKind<X>) -> Step<X>
     ensures { (m w n : ℕ) → IsTaken kind_nodes m w n item → kind_nodes row ≡ suc n
         → IsStep (suc m) (suc m + w) result }
 {
     match item {
-        Taken::Below(kind) => Step::Into(Left {
+        Taken::Subtrees(kind) => Step::Into(Remaining {
             kind,
             waiting: Some(row),
         }),
-        Taken::AfterLeaf(kind) => Step::On(Left {
+        Taken::AfterLeaf(kind) => Step::On(Remaining {
             kind,
             waiting: Some(row),
         }),
-        Taken::Nothing(waiting) => Step::Row(row, go_on(waiting)),
+        Taken::Nothing(waiting) => Step::Row(row, resume_waiting(waiting)),
     }
 }
 
 // The last member of a row that waits, but for leaves.
-fn resume_members<X: Drop>(row: Rc<Vec<Value<X>>>) -> Left<X>
+fn resume_members<X: Drop>(row: Rc<Vec<Value<X>>>) -> Remaining<X>
     ensures { all_nodes result ≤ suc (row_nodes row.value.items) }
 {
     let mut row = row;
     match Rc::get_mut(&mut row) {
         Some(members) => {
             let last = last_branch(members);
-            resumed(last, members.is_empty(), ValueKind::Set(Set::of_row(row)))
+            resume_row(last, members.is_empty(), ValueKind::Set(Set::of_row(row)))
         }
-        None => only(ValueKind::Set(Set::of_row(row))),
+        None => remaining(ValueKind::Set(Set::of_row(row))),
     }
 }
 
 // The last value of a row that waits, but for leaves.
-fn resume_pairs<X: Drop>(row: Rc<BTreeMap<RcStr, Value<X>>>) -> Left<X>
+fn resume_pairs<X: Drop>(row: Rc<BTreeMap<RcStr, Value<X>>>) -> Remaining<X>
     ensures { all_nodes result ≤ suc (entry_nodes row.value.entries) }
 {
     let mut row = row;
     match Rc::get_mut(&mut row) {
         Some(pairs) => {
             let last = last_branch_value(pairs);
-            resumed(last, pairs.is_empty(), ValueKind::Record(row))
+            resume_row(last, pairs.is_empty(), ValueKind::Record(row))
         }
-        None => only(ValueKind::Record(row)),
+        None => remaining(ValueKind::Record(row)),
     }
 }
 
 // The last item of a row that waits, beside that row. If it was the only one, it is taken to be the
 // row that waits below, and the row is done with.
-fn resumed<X>(last: Option<ValueKind<X>>, is_only: bool, row: ValueKind<X>) -> Left<X>
+fn resume_row<X>(last: Option<ValueKind<X>>, is_only: bool, row: ValueKind<X>) -> Remaining<X>
     ensures { all_nodes result ≡ waiting_nodes last + kind_nodes row }
 {
     match last {
         Some(last) => {
             if is_only {
-                Left {
+                Remaining {
                     kind: row,
                     waiting: Some(last),
                 }
             } else {
-                Left {
+                Remaining {
                     kind: last,
                     waiting: Some(row),
                 }
             }
         }
-        None => only(row),
+        None => remaining(row),
     }
 }
 

@@ -2,8 +2,8 @@
 ghost use Rattle.std.specs.Prelude.{◌≡◌, IfOk, Some, None};
 ghost use Rattle.std.specs.Option.{option_copied};
 ghost use Rattle.cedar_names.specs.PlainNames.{bare_name};
-ghost use Rattle.cedar_value_trees.specs.BareValue as bare;
-ghost use Rattle.cedar_value_trees.specs.ValueTypes.{value_type};
+ghost use Rattle.semantics_values.specs.BareValue as bare;
+ghost use Rattle.semantics_values.specs.ValueTypes.{value_type};
 ghost use Rattle.cedar_values.specs.BareCalls.{bare_call};
 ghost use Rattle.cedar_values.specs.BareValues.{bare_representable, extension_of};
 
@@ -17,7 +17,7 @@ use std::convert::Infallible;
 pub trait ExtensionValue: Drop {
     ghost use Rattle.std.specs.Prelude.{ℕ, List, Bool};
     ghost use Rattle.cedar_names.specs.Names.{BareName};
-    ghost use Rattle.cedar_value_trees.specs.BareValue.{BareCall};
+    ghost use Rattle.semantics_values.specs.BareValue.{BareCall};
 
     // The name of its type.
     ghost type_name: { Self → BareName };

@@ -5,8 +5,8 @@ ghost use Rattle.std.specs.Slice.Iter.{iter_rest};
 ghost use Rattle.cedar_terms.specs.Literals.{bare_literal};
 ghost use Rattle.cedar_builders.specs.Count.{count};
 ghost use Rattle.cedar_exprs.specs.BareExpr.{bare_expr, expr_place, kind_of};
-ghost use Rattle.cedar_value_trees.specs.BareValue as bare;
-ghost use Rattle.cedar_value_trees.specs.Reading.{IsValueOf, is_readable};
+ghost use Rattle.semantics_values.specs.BareValue as bare;
+ghost use Rattle.semantics_values.specs.Reading.{IsValueOf, is_readable};
 ghost use Rattle.cedar_values.specs.BareValues.{bare_value, bare_value_kind, value_place};
 ghost use Rattle.cedar_values.specs.NotReadable.{first_not_readable, IsAnswerWhere, IsNotValueAt};
 ghost use Rattle.cedar_values.specs.RowsRead.{
@@ -31,7 +31,7 @@ use cedar_exprs::laws::nodes_in_preorder;
 use cedar_exprs::{Expr, ExprKind};
 use cedar_names::Loc;
 use cedar_terms::Literal;
-use cedar_value_trees::laws::{reading_gives_one_value, values_are_ordered};
+use semantics_values::laws::{reading_gives_one_value, values_are_ordered};
 use std::alloc::{AllocError, Global};
 use std::collections::{BTreeMap, btree_map};
 use std::rc::{Rc, RcStr};
@@ -85,15 +85,15 @@ fn value_of<X: ExtensionValue + Ord>(alloc: Global, expr: &Expr) -> Result<Value
     nodes_in_preorder::<()>();
     reading_gives_one_value::<X>();
     let mut waiting = Vec::new(alloc);
-    let mut step = enter(alloc, expr)?;
+    let mut step = enter_expr(alloc, expr)?;
     'walk: loop {
         match step {
             Step::Into(row, inner) => {
                 waiting.push(row)?;
-                step = enter(alloc, inner)?;
+                step = enter_expr(alloc, inner)?;
             }
             Step::Read(value) => match waiting.pop() {
-                Some(row) => step = go_on(alloc, row, value)?,
+                Some(row) => step = resume_row(alloc, row, value)?,
                 None => return Ok(value),
             },
         }
@@ -135,7 +135,7 @@ enum Step<'a, X> {
 }
 
 // Into an expression.
-fn enter<'a, X: ExtensionValue + Ord>(
+fn enter_expr<'a, X: ExtensionValue + Ord>(
     alloc: Global,
     expr: &'a Expr,
 ) -> Result<Step<'a, X>, NotValue>
@@ -163,7 +163,7 @@ fn enter<'a, X: ExtensionValue + Ord>(
 }
 
 // Back to what waited for this value.
-fn go_on<'a, X: ExtensionValue + Ord>(
+fn resume_row<'a, X: ExtensionValue + Ord>(
     alloc: Global,
     row: Waiting<'a, X>,
     value: Value<X>,

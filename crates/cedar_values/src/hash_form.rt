@@ -1,7 +1,7 @@
 //! The literals of a set by hash, which it keeps beside its members (`fast` of Cedar's `Set`).
 ghost use Rattle.std.specs.Prelude.{◌≡◌, ◌∷◌, IsTrue, IfOk, OnOk, map, not, option_map};
 ghost use Rattle.std.specs.List.{IsDistinct, list_all};
-ghost use Rattle.sorted_slices.specs.Classes.{IsClassesOf};
+ghost use Rattle.cedar_sorted_slices.specs.Classes.{IsClassesOf};
 ghost use Rattle.cedar_terms.specs.LiteralOrder.{literal_eq};
 ghost use Rattle.cedar_terms.specs.Literals.{bare_literal};
 ghost use Rattle.cedar_values.specs.BareValues.{bare_value};
@@ -18,7 +18,7 @@ ghost use Rattle.cedar_values.specs.Sets.{HaveEachOf, by_tree};
 use crate::laws::order_of_values;
 use crate::value::{Value, are_literals};
 use cedar_terms::Literal;
-use cedar_value_trees::laws::values_are_ordered;
+use semantics_values::laws::values_are_ordered;
 use std::alloc::{AllocError, Global};
 use std::collections::HashSet;
 use std::rc::Rc;
@@ -26,7 +26,7 @@ use std::rc::Rc;
 // Room is made at first for so many literals at most: of many values few may be different.
 const FIRST_ROOM: usize = 128;
 
-// The members of the set of some values, strictly rising, and their hash form: of literals, which
+// The members of the set of some values, strictly ascending, and their hash form: of literals, which
 // are kept by hash as they come, the first of each is sorted, and no search for repeats follows.
 pub(crate) fn with_hash_form<X: Ord + Drop>(
     alloc: Global,
@@ -40,11 +40,11 @@ pub(crate) fn with_hash_form<X: Ord + Drop>(
     order_of_values::<X>();
     values_are_ordered::<X>();
     if !are_literals(&values) {
-        return Ok((sorted_slices::into_rising(values), None));
+        return Ok((cedar_sorted_slices::into_ascending(values), None));
     }
     let (firsts, literals) = firsts_by_hash(alloc, values)?;
     let literals = Rc::new(alloc, literals)?;
-    Ok((sorted_slices::into_sorted(firsts), Some(literals)))
+    Ok((cedar_sorted_slices::into_sorted(firsts), Some(literals)))
 }
 
 // The first value of each literal, every value that is none, and the literals by hash.

@@ -10,16 +10,16 @@ ghost use Rattle.std.specs.declared.rc.Rc.{Rc};
 ghost use Rattle.std.specs.declared.rc.RcStr.{RcStr};
 ghost use Rattle.std.specs.List.{list_all, list_any};
 ghost use Rattle.std.specs.List.Sorted.{IsStrictlySortedBy};
-ghost use Rattle.sorted_slices.specs.Classes.{HaveSameClasses};
+ghost use Rattle.cedar_sorted_slices.specs.Classes.{HaveSameClasses};
 ghost use Rattle.cedar_terms.specs.Literals.{bare_literal};
 ghost use Rattle.cedar_terms.specs.declared.literal.Literal.{Literal};
 ghost use Rattle.cedar_builders.specs.Keys.{meant_pairs};
-ghost use Rattle.cedar_value_trees.specs.ValueOrder.{value_cmp, value_eq, values_cmp, values_eq};
-ghost use Rattle.cedar_value_trees.specs.BareValue as bare;
-ghost use Rattle.cedar_value_trees.specs.Laws.{BindsPlainValues};
-ghost use Rattle.cedar_value_trees.specs.RisingKeys.{KeysRise};
-ghost use Rattle.cedar_value_trees.specs.ValueExpr.{has_extension};
-ghost use Rattle.cedar_value_trees.specs.WellFormed.{is_well_formed};
+ghost use Rattle.semantics_values.specs.ValueOrder.{value_cmp, value_eq, values_cmp, values_eq};
+ghost use Rattle.semantics_values.specs.BareValue as bare;
+ghost use Rattle.semantics_values.specs.Laws.{BindsPlainValues};
+ghost use Rattle.semantics_values.specs.AscendingKeys.{KeysAscend};
+ghost use Rattle.semantics_values.specs.ValueExpr.{has_extension};
+ghost use Rattle.semantics_values.specs.WellFormed.{is_well_formed};
 ghost use Rattle.cedar_values.specs.BareValues.{
   bare_representable,
   bare_set,
@@ -42,12 +42,12 @@ ghost use Rattle.cedar_values.specs.declared.value.Value.{Value};
 ghost use Rattle.cedar_values.specs.declared.value.ValueKind.{ValueKind};
 
 use crate::extension_value::{ExtensionValue, NoExtension, RepresentableExtensionValue};
-use crate::keys_rise;
+use crate::keys_ascend;
 use crate::partial_value::PartialValue;
 use crate::set::Set;
 use crate::value::{Value, ValueKind};
 use cedar_exprs::Expr;
-pub use cedar_value_trees::laws::{
+pub use semantics_values::laws::{
     expressions_read_back, plain_where_none, reading_gives_one_value, then_is_both_of_values,
     values_are_ordered,
 };
@@ -148,11 +148,11 @@ pub fn trees_of_values<X>()
 {}
 
 /// What is inside of a well formed value is well formed, and so is its tree: the members of a well
-/// formed set rise strictly and are well formed, as the values of a well formed record are.
+/// formed set ascend strictly and are well formed, as the values of a well formed record are.
 pub fn well_formed_parts<X: Ord>()
     ensures tree { (v : Value X) → IsTrue (well_formed X.cmp v)
         → IsTrue (is_well_formed X.cmp (bare_value v)) }
-    ensures rising { (s : Set X) → IsTrue (set_well_formed X.cmp s)
+    ensures ascending { (s : Set X) → IsTrue (set_well_formed X.cmp s)
         → IsStrictlySortedBy (by_tree X.cmp) (members s) }
     ensures members { (s : Set X) → IsTrue (set_well_formed X.cmp s)
         → IsTrue (list_all (well_formed X.cmp) (members s)) }
@@ -167,13 +167,13 @@ pub fn well_formed_parts<X: Ord>()
     order_of_values::<X>();
 }
 
-/// The keys of each record inside a value strictly rise, by bytes.
+/// The keys of each record inside a value strictly ascend, by bytes.
 ///
 /// This one walks the value, since it is the maps inside that know the order of their keys.
-pub fn value_keys_rise<X>(value: &Value<X>)
-    ensures { KeysRise (bare_value value.now) }
+pub fn value_keys_ascend<X>(value: &Value<X>)
+    ensures { KeysAscend (bare_value value.now) }
 {
-    keys_rise::walk(value);
+    keys_ascend::walk(value);
 }
 
 /// Whether an extension value is inside of a value: none is in a literal, and in a set or a record

@@ -6,7 +6,7 @@ mod dropping;
 mod extension_value;
 mod from_expr;
 mod hash_form;
-mod keys_rise;
+mod keys_ascend;
 pub mod laws;
 mod literal_uids;
 mod literals;

@@ -1,12 +1,12 @@
 //! Items that are taken out of a row that is dropped: the members of a set or the values of a
 //! record.
 ghost use Rattle.std.specs.Prelude.{◌+◌, ◌≤◌, IfSome};
-ghost use Rattle.dropped_rows.specs.Rows.{IsPut, IsTaken};
+ghost use Rattle.cedar_iterative_drop.specs.Rows.{IsPut, IsTaken};
 ghost use Rattle.cedar_values.specs.Counts.{kind_nodes};
 ghost use Rattle.cedar_values.specs.Drops.{entry_nodes, row_nodes, waiting_nodes};
 
 use crate::value::{Value, ValueKind};
-use dropped_rows::{Taken, after_leaf};
+use cedar_iterative_drop::{Taken, after_leaf};
 use std::collections::BTreeMap;
 use std::rc::RcStr;
 
@@ -21,12 +21,12 @@ pub(crate) fn take_member<X: Drop>(
 {
     match waiting {
         Some(next) => match put_first(members, next) {
-            Ok(Some(kind)) => Taken::Below(kind),
+            Ok(Some(kind)) => Taken::Subtrees(kind),
             Ok(None) => after_leaf(last_branch(members), members.is_empty()),
             Err(next) => Taken::Nothing(Some(next)),
         },
         None => match last_branch(members) {
-            Some(last) => Taken::Below(last),
+            Some(last) => Taken::Subtrees(last),
             None => Taken::Nothing(None),
         },
     }
@@ -73,12 +73,12 @@ pub(crate) fn take_value<X: Drop>(
 {
     match waiting {
         Some(next) => match put_first_value(pairs, next) {
-            Ok(Some(kind)) => Taken::Below(kind),
+            Ok(Some(kind)) => Taken::Subtrees(kind),
             Ok(None) => after_leaf(last_branch_value(pairs), pairs.is_empty()),
             Err(next) => Taken::Nothing(Some(next)),
         },
         None => match last_branch_value(pairs) {
-            Some(last) => Taken::Below(last),
+            Some(last) => Taken::Subtrees(last),
             None => Taken::Nothing(None),
         },
     }

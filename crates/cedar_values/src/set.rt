@@ -14,7 +14,7 @@ ghost use Rattle.std.specs.Prelude.{
 };
 ghost use Rattle.std.specs.List.{list_all};
 ghost use Rattle.std.specs.Slice.Iter.{iter_rest};
-ghost use Rattle.sorted_slices.specs.Classes.{
+ghost use Rattle.cedar_sorted_slices.specs.Classes.{
   HaveNoneInCommon,
   HaveSameClasses,
   IsClassesOf,
@@ -37,7 +37,7 @@ use std::collections::HashSet;
 use std::rc::Rc;
 use std::slice;
 
-/// A set of values, as the strictly rising list of its members. Where all of them are literals, as
+/// A set of values, as the strictly ascending list of its members. Where all of them are literals, as
 /// those of the empty set are, they are kept by hash too.
 #[cycle(value)]
 #[derive(Drop)]
@@ -98,7 +98,7 @@ impl<X: Drop> Set<X> {
 }
 
 impl<X> Set<X> {
-    /// The members, strictly rising.
+    /// The members, strictly ascending.
     pub fn authoritative(&self) -> &[Value<X>]
         ensures { result.now ≡ members self.now }
     {
@@ -197,7 +197,7 @@ impl<X: Ord + Drop> Set<X> {
         order_of_values::<X>();
         match self.hash_form() {
             Some(literals) => is_among(value, literals),
-            None => sorted_slices::contains(self.authoritative(), value),
+            None => cedar_sorted_slices::contains(self.authoritative(), value),
         }
     }
 
@@ -212,7 +212,7 @@ impl<X: Ord + Drop> Set<X> {
                 literals.is_subset(others)
             }
             (None, Some(_)) => false,
-            _ => sorted_slices::is_subset(self.authoritative(), other.authoritative()),
+            _ => cedar_sorted_slices::is_subset(self.authoritative(), other.authoritative()),
         }
     }
 
@@ -230,7 +230,7 @@ impl<X: Ord + Drop> Set<X> {
             (Some(literals), Some(others)) if is_short_beside(others, literals) => {
                 others.is_disjoint(literals)
             }
-            _ => sorted_slices::is_disjoint(self.authoritative(), other.authoritative()),
+            _ => cedar_sorted_slices::is_disjoint(self.authoritative(), other.authoritative()),
         }
     }
 
@@ -248,7 +248,7 @@ impl<X: Ord + Drop> Set<X> {
         self.hash_form()
     }
 
-    /// Whether this set, and each set inside, is well formed: its list rises strictly, and its
+    /// Whether this set, and each set inside, is well formed: its list ascends strictly, and its
     /// members are kept by hash exactly where all of them are literals.
     ///
     /// Members and literals by hash are counted, and each member is looked up by hash, so the time
@@ -264,12 +264,12 @@ impl<X: Ord + Drop> Set<X> {
             }
         }
         let members = self.members.as_slice();
-        sorted_slices::is_rising(members) && is_hash_form(members, self.hash_form())
+        cedar_sorted_slices::is_ascending(members) && is_hash_form(members, self.hash_form())
     }
 }
 
 // Whether some literals are looked up one by one in others: these are twice as many, or more. Else
-// two sets of literals are compared by one walk over their rising lists.
+// two sets of literals are compared by one walk over their ascending lists.
 fn is_short_beside(literals: &HashSet<Literal>, others: &HashSet<Literal>) -> bool {
     literals.len() <= others.len() / 2
 }

@@ -16,8 +16,8 @@ use std::collections::HashMap;
 use std::rc::RcStr;
 
 impl<X: ExtensionValue + Ord> SubstituteValue for Value<X> {
-    ghost use Rattle.cedar_value_trees.specs.ValueExpr.{value_expr};
-    ghost use Rattle.cedar_value_trees.specs.ValueTypes.{value_type};
+    ghost use Rattle.semantics_values.specs.ValueExpr.{value_expr};
+    ghost use Rattle.semantics_values.specs.ValueTypes.{value_type};
     ghost use Rattle.cedar_values.specs.BareValues.{bare_value};
 
     ghost bare_type_of = { λ v. value_type X.type_name (bare_value v) };

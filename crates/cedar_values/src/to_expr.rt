@@ -4,12 +4,12 @@ ghost use Rattle.std.specs.Option.{option_copied};
 ghost use Rattle.std.specs.Slice.Iter.{iter_rest};
 ghost use Rattle.cedar_terms.specs.Literals.{bare_literal};
 ghost use Rattle.cedar_builders.specs.BareExpr.{Lit};
-ghost use Rattle.cedar_builders.specs.Keys.{IsRising, keys_of};
+ghost use Rattle.cedar_builders.specs.Keys.{IsAscending, keys_of};
 ghost use Rattle.cedar_builders.specs.Restricted.{IsRestricted};
 ghost use Rattle.cedar_exprs.specs.BareExpr.{bare_expr, expr_place};
 ghost use Rattle.cedar_exprs.specs.RestrictedExprs.{bare_restricted_expr};
-ghost use Rattle.cedar_value_trees.specs.Reading.{ReadsBack};
-ghost use Rattle.cedar_value_trees.specs.ValueExpr.{call_expr, value_expr};
+ghost use Rattle.semantics_values.specs.Reading.{ReadsBack};
+ghost use Rattle.semantics_values.specs.ValueExpr.{call_expr, value_expr};
 ghost use Rattle.cedar_values.specs.BareCalls.{bare_call};
 ghost use Rattle.cedar_values.specs.BareValues.{bare_representable, bare_value, bare_value_kind, value_place};
 ghost use Rattle.cedar_values.specs.Conversions.{bare_pairs};
@@ -37,7 +37,7 @@ use cedar_builders::ExprBuilder as _;
 use cedar_exprs::{Expr, ExprBuilder, ExprKind, RestrictedExpr};
 use cedar_names::{Loc, Name};
 use cedar_terms::Literal;
-use cedar_value_trees::laws::expressions_read_back;
+use semantics_values::laws::expressions_read_back;
 use std::alloc::{AllocError, Global};
 use std::collections::{BTreeMap, btree_map};
 use std::rc::{Rc, RcStr};
@@ -99,15 +99,15 @@ fn expr_at<X: ExtensionValue + Ord>(
     ensures place { IfOk result (λ e. expr_place e ≡ option_copied loc.entry) }
 {
     let mut waiting = Vec::new(alloc);
-    let mut step = enter(alloc, kind, loc)?;
+    let mut step = enter_value(alloc, kind, loc)?;
     'walk: loop {
         match step {
             Step::Into(row, value) => {
                 waiting.push(row)?;
-                step = enter(alloc, value.value_kind(), value.source_loc())?;
+                step = enter_value(alloc, value.value_kind(), value.source_loc())?;
             }
             Step::Made(expr) => match waiting.pop() {
-                Some(row) => step = go_on(alloc, row, expr)?,
+                Some(row) => step = resume_row(alloc, row, expr)?,
                 None => return Ok(expr),
             },
         }
@@ -149,7 +149,7 @@ enum Step<'a, X> {
 }
 
 // Into a value of this kind at this place.
-fn enter<'a, X: ExtensionValue + Ord>(
+fn enter_value<'a, X: ExtensionValue + Ord>(
     alloc: Global,
     kind: &'a ValueKind<X>,
     loc: Option<&'a Loc>,
@@ -178,7 +178,7 @@ fn enter<'a, X: ExtensionValue + Ord>(
 }
 
 // Back to what waited for this expression.
-fn go_on<'a, X: ExtensionValue + Ord>(
+fn resume_row<'a, X: ExtensionValue + Ord>(
     alloc: Global,
     row: Waiting<'a, X>,
     expr: Expr,
@@ -238,7 +238,7 @@ fn write_pairs<'a, X: ExtensionValue + Ord>(
     row: RecordRow<'a, X>,
 ) -> Result<Step<'a, X>, AllocError>
     requires restricted { ArePairsRestricted row.exprs.entries }
-    requires rising { IsRising (keys_of row.exprs.entries ++ keys_of row.rest) }
+    requires ascending { IsAscending (keys_of row.exprs.entries ++ keys_of row.rest) }
     ensures tree { IfOk result (λ step.
         step_tree X.canonical step ≡ pairs_tree X.canonical row.entry) }
     ensures place { IfOk result (λ step. step_place step ≡ option_copied row.entry.loc) }

@@ -3,10 +3,10 @@ ghost use Rattle.std.specs.Prelude.{◌≡◌, ◌↔◌, None, IsTrue, IfOk, ma
 ghost use Rattle.std.specs.List.{list_all};
 ghost use Rattle.std.specs.Option.{option_copied};
 ghost use Rattle.cedar_terms.specs.Literals.{bare_literal};
-ghost use Rattle.sorted_slices.specs.Classes.{IsClassesOf};
-ghost use Rattle.cedar_value_trees.specs.BareValue as bare;
-ghost use Rattle.cedar_value_trees.specs.ValueOrder.{value_eq};
-ghost use Rattle.cedar_value_trees.specs.ValueTypes.{value_type};
+ghost use Rattle.cedar_sorted_slices.specs.Classes.{IsClassesOf};
+ghost use Rattle.semantics_values.specs.BareValue as bare;
+ghost use Rattle.semantics_values.specs.ValueOrder.{value_eq};
+ghost use Rattle.semantics_values.specs.ValueTypes.{value_type};
 ghost use Rattle.cedar_values.specs.BareValues.{
   bare_value,
   bare_value_kind,

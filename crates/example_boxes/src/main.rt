@@ -65,7 +65,7 @@ fn same(rt: &HostRuntime) -> io::Result<()> {
     binary::<NoExtension>(rt, "same", func, SchemaType::Bool, &args)
 }
 
-// Of three arguments: whether they rise.
+// Of three arguments: whether they ascend.
 fn between(rt: &HostRuntime) -> io::Result<()> {
     let func: FunctionBox = Box::new(
         rt.alloc(),

@@ -6,7 +6,7 @@ ghost use Rattle.cedar_ast.specs.PlainNames.{bare_name};
 ghost use Rattle.cedar_ast.specs.Answers.{Gives};
 ghost use Rattle.cedar_ast.specs.BareExpr.{Text};
 ghost use Rattle.cedar_ast.specs.Errors.{OnDuplicateKey};
-ghost use Rattle.cedar_ast.specs.Keys.{keys_of, meant_pairs, IsRising, HasRepeat};
+ghost use Rattle.cedar_ast.specs.Keys.{keys_of, meant_pairs, IsAscending, HasRepeat};
 ghost use Rattle.cedar_ast.specs.Construction as error;
 ghost use Rattle.example_builder.specs.UnknownNames.{texts_of, unknown_names_ops};
 
@@ -175,9 +175,9 @@ impl ExprBuilder for UnknownNames {
         alloc: Global,
         pairs: Vec<(RcStr, Names)>,
     ) -> Result<Names, ExpressionConstructionError>
-        ensures means { IsRising (keys_of pairs.items) → IfOk result (λ found.
+        ensures means { IsAscending (keys_of pairs.items) → IfOk result (λ found.
             texts_of found ≡ unknown_names_ops.record_of (meant_pairs texts_of pairs.items)) }
-        ensures accepts { IsRising (keys_of pairs.items) → IfErr result (λ e. e ≡ error.Memory) }
+        ensures accepts { IsAscending (keys_of pairs.items) → IfErr result (λ e. e ≡ error.Memory) }
         ensures refuses { IfErr result (OnDuplicateKey (λ _. HasRepeat (keys_of pairs.items))) }
     {
         let mut all = Names::none(alloc);

@@ -1,6 +1,6 @@
 -- Decimals and their comparisons.
 use Rattle.std.specs.Prelude.{◌≡◌, ◌↔◌, ◌<ℤ◌, ◌≤ℤ◌, ⊤, ℤ, codes, IsTrue, Option, Some, None, Ok, Err}
-use Rattle.cedar_value_trees.specs.BareValue.{BareValue, LitValue, ExtensionValue}
+use Rattle.semantics_values.specs.BareValue.{BareValue, LitValue, ExtensionValue}
 use Rattle.cedar_values.specs.BareValues.{bare_value}
 use Rattle.cedar_terms.specs.Literals.{BoolLit}
 use Rattle.cedar_names.specs.Names.{BareName, unqualified}

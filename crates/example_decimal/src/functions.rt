@@ -3,7 +3,7 @@ ghost use Rattle.std.specs.Prelude.{◌≡◌, ◌↔◌, codes, IfOk, IsTrue, o
 ghost use Rattle.cedar_values.specs.BareValues.{bare_value};
 ghost use Rattle.cedar_names.specs.Names.{unqualified};
 ghost use Rattle.cedar_terms.specs.Types.{BoolType, ExtensionType};
-ghost use Rattle.cedar_value_trees.specs.ValueTypes.{value_type};
+ghost use Rattle.semantics_values.specs.ValueTypes.{value_type};
 ghost use Rattle.cedar_calls.specs.Types.{Keeps, declared};
 ghost use Rattle.cedar_terms.specs.SchemaTypes.{SchemaExtension, bare_schema_type};
 ghost use Rattle.example_decimal.specs.Decimals.{Compares, Holds, decimal_in, decimal_name};

@@ -6,7 +6,7 @@ use Rattle.cedar_ast.specs.Evaluations.{IsDecided, NoExtension, meaning_of, resu
 use Rattle.cedar_ast.specs.declared.BuildFault.{BuildFault}
 use Rattle.cedar_ast.specs.declared.BuildFault.TheVariants.{Build, Memory}
 use Rattle.cedar_ast.specs.declared.evaluator.Outcome.{Outcome}
-use Rattle.evaluations.specs.Outcomes as meant
+use Rattle.semantics_eval.specs.Outcomes as meant
 
 open_means : (m : Outcome) → result_of m ≡ Err fault.Open → meaning_of m ≡ Err meant.Open
 open_means m opens = rw opens refl

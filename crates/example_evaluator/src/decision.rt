@@ -4,7 +4,7 @@ ghost use Rattle.cedar_ast.specs.Answers.{Gives};
 ghost use Rattle.cedar_ast.specs.Environment.{fold};
 ghost use Rattle.cedar_ast.specs.Evaluations.{IsDecided, both, meaning_of, plain_env};
 ghost use Rattle.cedar_ast.specs.Exprs.{bare_expr};
-ghost use Rattle.evaluations.specs.Outcomes.{Open};
+ghost use Rattle.semantics_eval.specs.Outcomes.{Open};
 
 use cedar_ast::evaluator::laws::decided_stays;
 use cedar_ast::evaluator::{CallRefused, EvalFault, Evaluator, Outcome, evaluate};

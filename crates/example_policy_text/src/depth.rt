@@ -5,7 +5,7 @@ ghost use Rattle.cedar_ast.specs.Answers.{Gives, never};
 ghost use Rattle.cedar_ast.specs.Environment.{empty, fold};
 ghost use Rattle.cedar_ast.specs.Errors.{OnDuplicateKey};
 ghost use Rattle.cedar_ast.specs.Exprs.{bare_expr};
-ghost use Rattle.cedar_ast.specs.Keys.{keys_of, meant_pairs, IsRising, HasRepeat};
+ghost use Rattle.cedar_ast.specs.Keys.{keys_of, meant_pairs, IsAscending, HasRepeat};
 ghost use Rattle.cedar_ast.specs.Construction as error;
 ghost use Rattle.example_policy_text.specs.TreeDepth.{above, deepest, depth_ops};
 
@@ -170,9 +170,9 @@ impl ExprBuilder for TreeDepth {
         _alloc: Global,
         pairs: Vec<(RcStr, usize)>,
     ) -> Result<usize, ExpressionConstructionError>
-        ensures means { IsRising (keys_of pairs.items) → IfOk result (λ depth.
+        ensures means { IsAscending (keys_of pairs.items) → IfOk result (λ depth.
             depth ≡ depth_ops.record_of (meant_pairs (λ depth. depth) pairs.items)) }
-        ensures accepts { IsRising (keys_of pairs.items) → IfErr result (λ e. e ≡ error.Memory) }
+        ensures accepts { IsAscending (keys_of pairs.items) → IfErr result (λ e. e ≡ error.Memory) }
         ensures refuses { IfErr result (OnDuplicateKey (λ _. HasRepeat (keys_of pairs.items))) }
     {
         let mut greatest: usize = 0;

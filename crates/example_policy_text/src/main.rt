@@ -7,8 +7,8 @@ mod depth;
 use crate::depth::depth_of;
 use anyhow::Result;
 use cedar_ast::{Expr, Literal, Unknown, Var};
+use cedar_parser::{ParseError, parse_expr};
 use cedar_printer::policy_text;
-use cedar_reader::{ReadError, read_expr};
 use std::alloc::{AllocError, Global};
 use std::io;
 use std::rc::RcStr;
@@ -18,7 +18,7 @@ fn main(rt: HostRuntime) -> Result<()> {
     let tree = condition(alloc)?;
     let text = policy_text(alloc, &tree)?.text;
     println!(rt; "{text}")?;
-    let read = read_expr(alloc, &text)?;
+    let read = parse_expr(alloc, &text)?;
     println!(rt; "read as the same tree: {}", tree.eq_shape(&read))?;
     show_depth(&rt, &read)?;
 
@@ -52,10 +52,10 @@ fn condition(alloc: Global) -> Result<Expr, AllocError> {
 
 // Prints a condition that is read, and its depth, or why it is none.
 fn show(rt: &HostRuntime, text: &str) -> io::Result<()> {
-    match read_expr(rt.alloc(), text) {
+    match parse_expr(rt.alloc(), text) {
         Ok(expr) => show_condition(rt, &expr),
-        Err(ReadError::Syntax(error)) => println!(rt; "{error}\n{}", error.excerpt(text)),
-        Err(ReadError::Memory) => println!(rt; "no memory"),
+        Err(ParseError::Syntax(error)) => println!(rt; "{error}\n{}", error.excerpt(text)),
+        Err(ParseError::Memory) => println!(rt; "no memory"),
     }
 }
 

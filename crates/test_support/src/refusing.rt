@@ -5,7 +5,7 @@ ghost use Rattle.cedar_names.specs.PlainNames.{bare_name};
 ghost use Rattle.cedar_builders.specs.BareExpr.{BareExpr, Set};
 ghost use Rattle.cedar_builders.specs.Answers.{Gives};
 ghost use Rattle.cedar_builders.specs.Errors.{OnDuplicateKey};
-ghost use Rattle.cedar_builders.specs.Keys.{keys_of, meant_pairs, IsRising, HasRepeat};
+ghost use Rattle.cedar_builders.specs.Keys.{keys_of, meant_pairs, IsAscending, HasRepeat};
 ghost use Rattle.cedar_builders.specs.Trees.{tree_ops};
 ghost use Rattle.cedar_builders.specs.declared.expression_construction_errors.ExpressionConstructionError.TheVariants as error;
 ghost use Rattle.cedar_exprs.specs.MadeNode.{builder_place};
@@ -205,9 +205,9 @@ impl<R: Refusal, C: Connectives> Builder for Refusing<R, C> {
         alloc: Global,
         pairs: Vec<(RcStr, Expr)>,
     ) -> Result<Expr, ExpressionConstructionError>
-        ensures means { IsRising (keys_of pairs.items) → IfOk result (λ e.
+        ensures means { IsAscending (keys_of pairs.items) → IfOk result (λ e.
             bare_expr e ≡ tree_ops.record_of (meant_pairs bare_expr pairs.items)) }
-        ensures accepts { IsRising (keys_of pairs.items) → IfErr result (λ e. e ≡ error.Memory) }
+        ensures accepts { IsAscending (keys_of pairs.items) → IfErr result (λ e. e ≡ error.Memory) }
         ensures refuses { IfErr result (OnDuplicateKey (λ _. HasRepeat (keys_of pairs.items))) }
     {
         self.inner.record(alloc, pairs)

@@ -3,8 +3,8 @@ use Rattle.std.proofs.Common.{◌≡◌, Bool, true, false, ◌&&◌, get_or, ma
 use Rattle.std.specs.List.{list_all}
 use Rattle.std.specs.BTreeMap.{values}
 use Rattle.std.proofs.lemmas.List.Folds.{list_all_at, list_all-map}
-use Rattle.sorted_slices.specs.Classes.{rises}
-use Rattle.sorted_slices.specs.Rising.{sorted_of_rises}
+use Rattle.cedar_sorted_slices.specs.Classes.{ascends}
+use Rattle.cedar_sorted_slices.specs.Ascending.{sorted_of_ascends}
 use Rattle.cedar_values.specs.BareValues.{bare_value}
 use Rattle.cedar_values.specs.HashForms.{is_hash_form}
 use Rattle.cedar_values.specs.WellFormed.{kind_well_formed, well_formed}
@@ -38,35 +38,35 @@ set::Set::is_well_formed-returns-then-not-is_well_formed g t c =
     let xs = c.deref-member-items.result.now in
     let here : well_formed R (get_or xs c.loop-member.member-index c.member-item.result) ≡ false = ap (well_formed R) (sym c.member-item.is) ∙ sym c.is_well_formed.ensures ∙ c.if-not-is_well_formed.true in
     let all : list_all (well_formed R) (members s) ≡ false = ap (list_all (well_formed R)) (sym c.loop-member.invariant.whole) ∙ list_all_at (well_formed R) xs c.loop-member.member-index c.member-item.result c.loop-member-test.true here in
-    sym (set_is R s ∙ ap (λ b. rises (by_tree R) (members s) && (has_hash_form s && b)) all ∙ none_left _ _)
+    sym (set_is R s ∙ ap (λ b. ascends (by_tree R) (members s) && (has_hash_form s && b)) all ∙ none_left _ _)
 
 and_true : (b : Bool) → (b && true) ≡ b
 and_true true = refl
 and_true false = refl
 
-pub set::Set::is_well_formed-returns-then-is_rising : goal.set::Set::is_well_formed-returns-then-is_rising
+pub set::Set::is_well_formed-returns-then-is_ascending : goal.set::Set::is_well_formed-returns-then-is_ascending
 unfolding members
-set::Set::is_well_formed-returns-then-is_rising g t c =
+set::Set::is_well_formed-returns-then-is_ascending g t c =
     let R = g.X.Ord.cmp in
     let s = c.args.self.now in
     let xs = c.deref-member-items.result.now in
     let ms = c.as_slice-members.result.now in
     let at : ms ≡ members s = c.as_slice-members.ensures.value ∙ λ i. (c.deref-2.ensures i).items in
     let all : list_all (well_formed R) (members s) ≡ true = ap (list_all (well_formed R)) (sym c.loop-member.invariant.whole) ∙ sym c.loop-member.invariant.left ∙ ap (list_all (well_formed R)) (drop_all c.loop-member.member-index xs c.loop-member-test.false) in
-    let rise : rises (by_tree R) ms ≡ true = sym (by_trees R c.order_of_values.ensures.order (λ D. c.is_rising.result ≡ rises D ms) c.is_rising.ensures.value) ∙ c.if-is_rising.true in
-    c.is_hash_form.ensures (distinct_literals R ms (sorted_of_rises c.order_of_values.ensures.total ms rise))
+    let ascend : ascends (by_tree R) ms ≡ true = sym (by_trees R c.order_of_values.ensures.order (λ D. c.is_ascending.result ≡ ascends D ms) c.is_ascending.ensures.value) ∙ c.if-is_ascending.true in
+    c.is_hash_form.ensures (distinct_literals R ms (sorted_of_ascends c.order_of_values.ensures.total ms ascend))
     ∙ (λ i. is_hash_form (map bare_value (at i)) (c.hash_form.ensures i))
-    ∙ sym (set_is R s ∙ (λ i. (sym (ap (rises (by_tree R)) at) ∙ rise) i && (has_hash_form s && all i)) ∙ and_true _)
+    ∙ sym (set_is R s ∙ (λ i. (sym (ap (ascends (by_tree R)) at) ∙ ascend) i && (has_hash_form s && all i)) ∙ and_true _)
 
-pub set::Set::is_well_formed-returns-else-is_rising : goal.set::Set::is_well_formed-returns-else-is_rising
+pub set::Set::is_well_formed-returns-else-is_ascending : goal.set::Set::is_well_formed-returns-else-is_ascending
 unfolding members
-set::Set::is_well_formed-returns-else-is_rising g t c =
+set::Set::is_well_formed-returns-else-is_ascending g t c =
     let R = g.X.Ord.cmp in
     let s = c.args.self.now in
     let ms = c.as_slice-members.result.now in
     let at : ms ≡ members s = c.as_slice-members.ensures.value ∙ λ i. (c.deref-2.ensures i).items in
-    let rise : rises (by_tree R) ms ≡ false = sym (by_trees R c.order_of_values.ensures.order (λ D. c.is_rising.result ≡ rises D ms) c.is_rising.ensures.value) ∙ c.if-is_rising.false in
-    c.if-is_rising.false ∙ sym (set_is R s ∙ λ i. (sym (ap (rises (by_tree R)) at) ∙ rise) i && (has_hash_form s && list_all (well_formed R) (members s)))
+    let ascend : ascends (by_tree R) ms ≡ false = sym (by_trees R c.order_of_values.ensures.order (λ D. c.is_ascending.result ≡ ascends D ms) c.is_ascending.ensures.value) ∙ c.if-is_ascending.false in
+    c.if-is_ascending.false ∙ sym (set_is R s ∙ λ i. (sym (ap (ascends (by_tree R)) at) ∙ ascend) i && (has_hash_form s && list_all (well_formed R) (members s)))
 
 pub value::ValueKind::is_well_formed-loop-value-init : goal.value::ValueKind::is_well_formed-loop-value-init
 value::ValueKind::is_well_formed-loop-value-init g t c = record {

@@ -1,11 +1,11 @@
 use Rattle.std.proofs.Common.{◌≡◌, ◌++◌, ◌∷◌, [], true, false, ap, sym, ◌∙◌, subst, append_assoc, append-nil}
 use Rattle.std.specs.Rc.{rc_str_bytes}
 use Rattle.std.specs.Vec.Iter.{into_iter_items}
-use Rattle.cedar_builders.specs.Keys.{keys_of, are_distinct, is_among, IsRising}
+use Rattle.cedar_builders.specs.Keys.{keys_of, are_distinct, is_among, IsAscending}
 use Rattle.cedar_builders.specs.Errors.{key_of, OnDuplicateKey}
 use Rattle.cedar_builders.specs.Keys.{keyed, in_key_order, IsFirstRepeat}
 use Rattle.cedar_builders.proofs.DistinctKeys.{texts, keys-keyed, found, made-push, texts-push, distinct-push, first_repeat, none_left}
-use Rattle.cedar_builders.proofs.KeyLemmas.{rising_accepted, rising_kept, repeat_found}
+use Rattle.cedar_builders.proofs.KeyLemmas.{ascending_accepted, ascending_kept, repeat_found}
 use Rattle.cedar_builders.proofs.keys.collect_distinct.Goals as goal
 
 pub loop-key-preserved : goal.loop-key-preserved
@@ -49,9 +49,9 @@ returns-then-contains_key-clause-repeats g c =
     repeat_found (keys_of c.args.pairs.items) c.into.result (returns-then-contains_key-clause-refused g c)
 
 pub returns-then-contains_key-clause-accepts : goal.returns-then-contains_key-clause-accepts
-returns-then-contains_key-clause-accepts g c = λ rising.
-    rising_accepted (keys_of c.args.pairs.items) c.into.result (returns-then-contains_key-clause-refused g c) rising
+returns-then-contains_key-clause-accepts g c = λ ascending.
+    ascending_accepted (keys_of c.args.pairs.items) c.into.result (returns-then-contains_key-clause-refused g c) ascending
 
 pub returns-clause-kept : goal.returns-clause-kept
-returns-clause-kept g c = λ rising.
-    returns-clause-made g c ∙ rising_kept (keyed c.args.pairs.items) (subst IsRising (keys-keyed c.args.pairs.items) rising)
+returns-clause-kept g c = λ ascending.
+    returns-clause-made g c ∙ ascending_kept (keyed c.args.pairs.items) (subst IsAscending (keys-keyed c.args.pairs.items) ascending)

@@ -15,7 +15,7 @@ loop-function-init g c = record {
 
 pub loop-function-preserved : goal.loop-function-preserved
 loop-function-preserved g c = record {
-  last = record { at = still_last bare_name_of c.loop-function.map c.put.new.map c.in-Some.function c.loop-function.yielded c.loop-function.invariant.last.at (search rules) };
+  last = record { at = still_last bare_name_of c.loop-function.map c.insert_new.new.map c.in-Some.function c.loop-function.yielded c.loop-function.invariant.last.at (search rules) };
   by_name = search rules;
 }
 

@@ -3,7 +3,7 @@ use Rattle.std.specs.List.{list_all}
 use Rattle.cedar_builders.specs.Keys.{meant_pairs}
 use Rattle.cedar_values.specs.BareValues.{bare_value, bare_value_kind}
 use Rattle.cedar_values.specs.WellFormed.{kind_well_formed, well_formed}
-use Rattle.evaluations.specs.Attributes.{list_of_pairs_of}
+use Rattle.semantics_eval.specs.Attributes.{list_of_pairs_of}
 use Rattle.cedar_evaluator.specs.Kinds.{pairs_in}
 use Rattle.cedar_evaluator.proofs.kinds.as_record.Goals as goal
 

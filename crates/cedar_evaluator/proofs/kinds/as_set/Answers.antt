@@ -1,5 +1,5 @@
 use Rattle.std.proofs.Common.{Some, map, sym, ap, ◌∙◌}
-use Rattle.cedar_value_trees.specs.BareValue.{list_of_values}
+use Rattle.semantics_values.specs.BareValue.{list_of_values}
 use Rattle.cedar_values.specs.BareValues.{bare_value, bare_value_kind}
 use Rattle.cedar_values.specs.Sets.{members}
 use Rattle.cedar_values.specs.WellFormed.{kind_well_formed}

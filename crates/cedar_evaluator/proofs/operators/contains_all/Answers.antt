@@ -1,5 +1,5 @@
 use Rattle.std.proofs.Common.{subst}
-use Rattle.sorted_slices.specs.Classes.{PartIsAll}
+use Rattle.cedar_sorted_slices.specs.Classes.{PartIsAll}
 use Rattle.cedar_values.specs.BareValues.{bare_value}
 use Rattle.cedar_evaluator.proofs.MemberTests.{inclusion}
 use Rattle.cedar_evaluator.proofs.operators.contains_all.Goals as goal

@@ -1,5 +1,5 @@
 use Rattle.std.proofs.Common.{subst}
-use Rattle.sorted_slices.specs.Classes.{NoneIsAny}
+use Rattle.cedar_sorted_slices.specs.Classes.{NoneIsAny}
 use Rattle.cedar_values.specs.BareValues.{bare_value}
 use Rattle.cedar_evaluator.proofs.MemberTests.{meeting}
 use Rattle.cedar_evaluator.proofs.operators.contains_any.Goals as goal

@@ -1,7 +1,7 @@
 use Rattle.std.proofs.Common.{ap, sym, ◌∙◌}
 use Rattle.std.specs.List.{list_all}
 use Rattle.std.specs.Vec.Iter.{into_iter_items}
-use Rattle.sorted_slices.specs.Rising.{and_left, and_right}
+use Rattle.cedar_sorted_slices.specs.Ascending.{and_left, and_right}
 use Rattle.cedar_values.specs.WellFormed.{well_formed}
 use Rattle.cedar_evaluator.proofs.Inserted.{kept_inserted}
 use Rattle.cedar_evaluator.proofs.Pairs.{put_next}
@@ -15,9 +15,9 @@ loop-key-preserved c =
     let k = c.in-Some.key in
     let v = c.in-Some.value in
     let steps = c.in-Some.ensures.steps.0 in
-    let put = c.in_ok-put.ensures in (
-      λ rising. put_next c.args.pairs.items es c.put.new.map.entries old left k v rising
-          (c.loop-key.invariant.0 rising) steps put,
+    let put = c.in_ok-insert_value.ensures in (
+      λ ascending. put_next c.args.pairs.items es c.insert_value.new.map.entries old left k v ascending
+          (c.loop-key.invariant.0 ascending) steps insert_value,
       λ R all.
           let kept = c.loop-key.invariant.1 R all in
           let rest = ap (list_all (λ p. well_formed R p.1)) (sym steps) ∙ kept.1 in (

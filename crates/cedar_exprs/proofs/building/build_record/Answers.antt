@@ -9,10 +9,10 @@ returns-in-Ok g c =
     let B = g.B.ExprBuilder in
     let ps = c.in_ok-keyed in
     let fields = bare_fields c.args.pairs.now.entries in
-    let means = c.in-Ok.ensures.means c.requires.new ps.ensures.rising in (
+    let means = c.in-Ok.ensures.means c.requires.new ps.ensures.ascending in (
       c.in-Ok.record,
       _,
-      c.in_ok-put-in-Ok.ensures,
+      c.in_ok-push_item-in-Ok.ensures,
       (
         c.in_ok-values.values.items,
         c.in_ok-values.ensures.taken,

@@ -1,5 +1,5 @@
 use Rattle.std.proofs.Common.{◌<◌, IfSome, arith, ap, subst}
-use Rattle.dropped_rows.specs.Sums.{fewer, no_more, one_off, last_pair_off}
+use Rattle.cedar_iterative_drop.specs.Sums.{fewer, no_more, one_off, last_pair_off}
 use Rattle.cedar_exprs.specs.Steps.{nodes, item_nodes, field_nodes, all_nodes}
 use Rattle.cedar_exprs.proofs.dropping.+dropped.Goals as goal
 

@@ -11,12 +11,12 @@ walk-init g c =
 pub walk-preserved : goal.walk-preserved
 walk-preserved g c =
     let n = c.in-Some in
-    still_all c.walk.count.most c.walk.count.left.items c.pop.new.self.items n.node n.below c.waits.new.self c.add_children.new.self n.ensures.items c.in_ok-waits.ensures.most c.in_ok-waits.ensures.left
+    still_all c.walk.count.most c.walk.count.left.items c.pop.new.self.items n.node n.below c.record_height.new.self c.add_children.new.self n.ensures.items c.in_ok-record_height.ensures.most c.in_ok-record_height.ensures.left
     c.in_ok-add_children.ensures
     ∙ c.walk.invariant
 
 pub walk-smaller : goal.walk-smaller
 walk-smaller g c =
     let n = c.in-Some in
-    fewer_left c.walk.count.most c.walk.count.left.items c.pop.new.self.items n.node n.below c.waits.new.self c.add_children.new.self n.ensures.items c.in_ok-waits.ensures.most c.in_ok-waits.ensures.left
+    fewer_left c.walk.count.most c.walk.count.left.items c.pop.new.self.items n.node n.below c.record_height.new.self c.add_children.new.self n.ensures.items c.in_ok-record_height.ensures.most c.in_ok-record_height.ensures.left
     c.in_ok-add_children.ensures

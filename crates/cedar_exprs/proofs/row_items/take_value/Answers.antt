@@ -1,6 +1,6 @@
 use Rattle.std.proofs.Common.{arith, ap, ◌∙◌, subst, Ok}
-use Rattle.dropped_rows.specs.Rows.{IsPut}
-use Rattle.dropped_rows.specs.Sums.{with_last}
+use Rattle.cedar_iterative_drop.specs.Rows.{IsPut}
+use Rattle.cedar_iterative_drop.specs.Sums.{with_last}
 use Rattle.cedar_exprs.specs.Steps.{below_nodes, if_row}
 use Rattle.cedar_exprs.proofs.row_items.take_value.Goals as goal
 

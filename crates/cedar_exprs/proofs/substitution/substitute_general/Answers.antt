@@ -1,7 +1,7 @@
 use Rattle.std.proofs.Common.{◌≡◌, Err, ◌∙◌, rules}
 use Rattle.cedar_builders.specs.Rebuilding.{renewed_is}
 use Rattle.cedar_exprs.specs.BareExpr.{bare_expr}
-use Rattle.cedar_exprs.specs.Renewal.{new_tree}
+use Rattle.cedar_exprs.specs.Substituting.{new_tree}
 use Rattle.cedar_exprs.specs.RestrictedExprs.{env_of}
 use Rattle.cedar_exprs.proofs.Refused.{passed_on}
 use Rattle.cedar_exprs.proofs.substitution.substitute_general.Goals as goal

@@ -4,9 +4,9 @@ use Rattle.std.specs.Vec.Iter.{into_iter_items}
 use Rattle.cedar_builders.specs.Keys.{keys_of, meant_pairs}
 use Rattle.cedar_exprs.specs.BareExpr.{bare_expr}
 use Rattle.cedar_values.specs.Holders.{held_call}
-use Rattle.simplifications.specs.Asks.{holds_no_call}
-use Rattle.simplifications.specs.Parts.{tree_of}
-use Rattle.cedar_simplifier.specs.Parts.{meaning_of}
+use Rattle.semantics_simplify.specs.Asks.{holds_no_call}
+use Rattle.semantics_simplify.specs.Simplified.{tree_of}
+use Rattle.cedar_simplifier.specs.Simplified.{meaning_of}
 use Rattle.cedar_simplifier.proofs.rows.fields_of.Given as goal
 
 -- the keys and the trees so far, and then those of the rest; and whether the trees so far call

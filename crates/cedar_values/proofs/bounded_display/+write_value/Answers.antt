@@ -5,7 +5,7 @@ use Rattle.std.specs.declared.rc.RcStr.{RcStr}
 use Rattle.std.proofs.Output.{writes_in_calls_append, writes_in_calls_single}
 use Rattle.std.proofs.lemmas.Bool.{false≢true}
 use Rattle.std.proofs.lemmas.List.{drop_all}
-use Rattle.cedar_value_trees.specs.BareValue.{SetValue, RecordValue}
+use Rattle.semantics_values.specs.BareValue.{SetValue, RecordValue}
 use Rattle.cedar_values.specs.BareValues.{bare_set, bare_value_kind}
 use Rattle.cedar_values.specs.BoundedTexts.{bounded_text, key_text}
 use Rattle.cedar_values.specs.Conversions.{bare_pairs}

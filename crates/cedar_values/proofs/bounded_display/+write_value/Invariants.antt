@@ -1,5 +1,5 @@
 use Rattle.std.proofs.Common.{◌++◌, drop, map, codes}
-use Rattle.cedar_value_trees.specs.BareValue as bare
+use Rattle.semantics_values.specs.BareValue as bare
 use Rattle.cedar_values.specs.BareValues.{bare_set}
 use Rattle.cedar_values.specs.BoundedTexts.{bounded_text}
 use Rattle.cedar_values.specs.Conversions.{bare_pairs}

@@ -1,5 +1,5 @@
 use Rattle.std.proofs.Common.{◌<◌, IfSome, arith, suc, ap, subst, ◌∙◌}
-use Rattle.dropped_rows.specs.Sums.{fewer, no_more, one_off, last_pair_off}
+use Rattle.cedar_iterative_drop.specs.Sums.{fewer, no_more, one_off, last_pair_off}
 use Rattle.cedar_values.specs.Drops.{value_nodes, row_nodes, entry_nodes, all_nodes}
 use Rattle.cedar_values.proofs.Fewer.{nodes_of_kind, set_nodes, record_nodes}
 use Rattle.cedar_values.proofs.dropping.+dropped.Goals as goal

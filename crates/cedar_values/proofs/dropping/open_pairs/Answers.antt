@@ -7,8 +7,8 @@ pub returns-in-Some : goal.returns-in-Some
 returns-in-Some g c =
     let whole = ap (λ m. entry_nodes m.entries) c.in-Some.ensures.value in
     let record_of = written_record c.args.row c.take_value.new.pairs in
-    subst (λ m. IsStep (suc m) (suc m + waiting_nodes c.args.waiting) c.opened.result) whole (c.opened.ensures _ _ _ c.take_value.ensures record_of)
+    subst (λ m. IsStep (suc m) (suc m + waiting_nodes c.args.waiting) c.enter_item.result) whole (c.enter_item.ensures _ _ _ c.take_value.ensures record_of)
 
 pub returns-in-None : goal.returns-in-None
 returns-in-None g c =
-    c.opened-in-None.ensures (entry_nodes c.args.row.value.entries) (waiting_nodes c.args.waiting) _ (omega arith) (record_nodes _ c.args.row refl)
+    c.enter_item-in-None.ensures (entry_nodes c.args.row.value.entries) (waiting_nodes c.args.waiting) _ (omega arith) (record_nodes _ c.args.row refl)

@@ -1,6 +1,6 @@
 use Rattle.std.proofs.Common.{rules, ◌≡◌, [], Err, MatchResult, refl, sym, subst}
 use Rattle.cedar_exprs.specs.BareExpr.{bare_expr}
-use Rattle.cedar_value_trees.specs.Reading.{IsValueOf}
+use Rattle.semantics_values.specs.Reading.{IsValueOf}
 use Rattle.cedar_values.specs.BareValues.{bare_value}
 use Rattle.cedar_values.specs.NotReadable.{IsNotValueAt, first_not_readable}
 use Rattle.cedar_values.specs.RowsRead.{row_expr}
@@ -39,8 +39,8 @@ walk-preserved-in-Into g c = (
   c.in_ok-step-in-Into.ensures.outcome,
 )
 
-pub go_on-requires : goal.go_on-requires
-go_on-requires g c =
+pub resume_row-requires : goal.resume_row-requires
+resume_row-requires g c =
     (course_back g.X.Ord.cmp c.walk.waiting.items c.pop.new.self.items c.in-Some.row c.in-Read.value c.walk.step c.args.expr.now c.in-Some.ensures.items c.in-Read.is c.walk.invariant).0
 
 pub walk-smaller : goal.walk-smaller

@@ -2,7 +2,7 @@ use Rattle.std.proofs.Common.{◌≡◌, true, not, None, Some, map, sym, ap, �
 use Rattle.std.specs.List.{IsDistinct, list_all}
 use Rattle.std.specs.Ordering.{eq_by_cmp}
 use Rattle.std.proofs.lemmas.List.Folds.{list_all-map}
-use Rattle.sorted_slices.specs.Classes.{IsClassesOf}
+use Rattle.cedar_sorted_slices.specs.Classes.{IsClassesOf}
 use Rattle.cedar_values.specs.BareValues.{bare_value}
 use Rattle.cedar_values.specs.HashForms.{is_hash_form, literals_of}
 use Rattle.cedar_values.specs.Places.{is_lit_value}
@@ -16,9 +16,9 @@ pub returns-then-not-are_literals : goal.returns-then-not-are_literals
 returns-then-not-are_literals g c =
     let R = g.X.Ord.cmp in
     let vs = c.args.values.items in
-    let ms = c.into_rising.result.items in
+    let ms = c.into_ascending.result.items in
     let all = ap (list_all (λ v. is_lit_value (bare_value v))) (sym c.deref.ensures.value) ∙ sym c.are_literals.ensures ∙ c.if-not-are_literals.true in
-    let classes = by_trees R c.order_of_values.ensures.order (λ D. IsClassesOf D ms vs) c.into_rising.ensures in
+    let classes = by_trees R c.order_of_values.ensures.order (λ D. IsClassesOf D ms vs) c.into_ascending.ensures in
     record {
       classes = classes;
       hashed = kept_form R c.values_are_ordered.ensures.total ms vs classes None (ap not (list_all-map is_lit_value bare_value vs ∙ all));

@@ -1,6 +1,6 @@
 use Rattle.std.proofs.Common.{sym, ◌∙◌}
 use Rattle.std.specs.Ordering.{is_eq}
-use Rattle.cedar_value_trees.specs.ValueOrder.{value_ties}
+use Rattle.semantics_values.specs.ValueOrder.{value_ties}
 use Rattle.cedar_values.specs.BareValues.{bare_value}
 use Rattle.cedar_values.proofs.ValueOrder.{value_order, by_tree_total, value_eq_by_cmp}
 use Rattle.cedar_values.proofs.laws.order_of_values.Goals as goal

@@ -1,5 +1,5 @@
 use Rattle.std.proofs.Common.{ap, ◌∙◌}
-use Rattle.cedar_value_trees.specs.ValueExpr.{has_extension}
+use Rattle.semantics_values.specs.ValueExpr.{has_extension}
 use Rattle.cedar_values.specs.Sets.{members}
 use Rattle.cedar_values.proofs.Levels.{extension_tree, kind_of_literal, record_tree, set_tree}
 use Rattle.cedar_values.proofs.PlainParts.{any_member, any_pair}

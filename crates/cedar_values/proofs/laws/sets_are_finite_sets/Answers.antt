@@ -2,7 +2,7 @@ use Rattle.std.proofs.Common.{sym, ap, ◌∙◌}
 use Rattle.std.specs.Cmp.{Equal-is}
 use Rattle.std.specs.Cmp.Lexicographic.{slice_cmp}
 use Rattle.std.specs.Ordering.{is_eq}
-use Rattle.sorted_slices.specs.Unique.{same_classes_tie, tied_has}
+use Rattle.cedar_sorted_slices.specs.Unique.{same_classes_tie, tied_has}
 use Rattle.cedar_values.specs.Sets.{by_tree, members}
 use Rattle.cedar_values.proofs.ValueOrder.{set_eq_is}
 use Rattle.cedar_values.proofs.WellFormedSets.{sorted_members}

@@ -1,5 +1,5 @@
 use Rattle.std.proofs.Common.{map, ap, ◌∙◌}
-use Rattle.cedar_value_trees.specs.BareValue.{list_of, list_of_values}
+use Rattle.semantics_values.specs.BareValue.{list_of, list_of_values}
 use Rattle.cedar_values.specs.BareValues.{bare_value}
 use Rattle.cedar_values.specs.Sets.{members}
 use Rattle.cedar_values.proofs.Levels.{extension_tree, kind_of_literal, set_row}

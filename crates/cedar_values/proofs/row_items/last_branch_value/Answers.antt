@@ -1,5 +1,5 @@
 use Rattle.std.proofs.Common.{arith}
-use Rattle.dropped_rows.specs.Sums.{last_pair_off}
+use Rattle.cedar_iterative_drop.specs.Sums.{last_pair_off}
 use Rattle.cedar_values.specs.Drops.{value_nodes}
 use Rattle.cedar_values.proofs.row_items.last_branch_value.Goals as goal
 

@@ -1,5 +1,5 @@
 use Rattle.std.proofs.Common.{sym, ap, ◌∙◌, ◌+◌}
-use Rattle.dropped_rows.specs.FirstItems.{put, value_fits, value_replaced}
+use Rattle.cedar_iterative_drop.specs.FirstItems.{put, value_fits, value_replaced}
 use Rattle.cedar_values.specs.BareValues.{bare_value}
 use Rattle.cedar_values.specs.Counts.{kind_nodes, has_nodes}
 use Rattle.cedar_values.specs.Drops.{value_nodes, entry_nodes}

@@ -1,6 +1,6 @@
 use Rattle.std.proofs.Common.{arith, ap, ◌∙◌, subst, Ok}
-use Rattle.dropped_rows.specs.Rows.{IsPut}
-use Rattle.dropped_rows.specs.Sums.{with_last}
+use Rattle.cedar_iterative_drop.specs.Rows.{IsPut}
+use Rattle.cedar_iterative_drop.specs.Sums.{with_last}
 use Rattle.cedar_values.specs.Counts.{kind_nodes}
 use Rattle.cedar_values.specs.Drops.{waiting_nodes}
 use Rattle.cedar_values.proofs.row_items.take_member.Goals as goal

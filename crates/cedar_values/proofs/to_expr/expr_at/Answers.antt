@@ -21,8 +21,8 @@ walk-preserved-in-Into g c =
       c.in_ok-step-in-Into.ensures.is_step,
     )
 
-pub go_on-requires-clause-is_row : goal.go_on-requires-clause-is_row
-go_on-requires-clause-is_row g c =
+pub resume_row-requires-clause-is_row : goal.resume_row-requires-clause-is_row
+resume_row-requires-clause-is_row g c =
     back_row g.X.ExtensionValue.canonical c.walk.waiting.items c.pop.new.self.items c.in-Some.row c.in-Made.expr c.walk.step c.in-Some.ensures.items c.in-Made.is c.walk.invariant.1
 
 pub walk-smaller : goal.walk-smaller

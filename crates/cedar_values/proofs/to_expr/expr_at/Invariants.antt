@@ -1,6 +1,6 @@
 use Rattle.std.proofs.Common.{◌≡◌, ◌+◌, ◌*◌}
 use Rattle.std.specs.Option.{option_copied}
-use Rattle.cedar_value_trees.specs.ValueExpr.{value_expr}
+use Rattle.semantics_values.specs.ValueExpr.{value_expr}
 use Rattle.cedar_values.specs.BareValues.{bare_value_kind}
 use Rattle.cedar_values.specs.Rows.{step_left, IsStep}
 use Rattle.cedar_values.proofs.Rebuilt.{rebuilt, step_placed, turns, AreRows}

@@ -2,7 +2,7 @@ use Rattle.std.proofs.Common.{rules, ◌≡◌, ◌++◌, ◌∷◌, [], ◌+◌
 use Rattle.std.specs.Rc.{rc_str_bytes}
 use Rattle.std.specs.declared.rc.RcStr.{RcStr}
 use Rattle.cedar_builders.specs.BareExpr.{Record, fields_of}
-use Rattle.cedar_builders.specs.Keys.{IsRising, keys_of}
+use Rattle.cedar_builders.specs.Keys.{IsAscending, keys_of}
 use Rattle.cedar_builders.specs.Restricted.{IsRestricted, is_restricted}
 use Rattle.cedar_exprs.specs.BareExpr.{bare_expr, bare_fields}
 use Rattle.cedar_values.specs.BareValues.{bare_value}
@@ -25,14 +25,14 @@ each-preserved g c =
     let taken : c.each.row.rest ≡ v ∷ left = c.in-Some.ensures.steps in
     let key : rc_str_bytes k ≡ rc_str_bytes v.0 = c.in_ok-key.ensures.cases in
     let keys : keys_of made ++ keys_of c.each.row.rest ≡ keys_of made ++ rc_str_bytes k ∷ keys_of left = ap (λ vs. keys_of made ++ keys_of vs) taken ∙ ap (λ t. keys_of made ++ t ∷ keys_of left) (sym key) in
-    let put = c.in_ok-put_last-in-Some-2.ensures (next_above made k (keys_of left) (subst IsRising keys c.each.invariant.2)) in
+    let put = c.in_ok-put_last-in-Some-2.ensures (next_above made k (keys_of left) (subst IsAscending keys c.each.invariant.2)) in
     let all = c.put_last.new.map.entries in
     let tree = if_some (λ e. bare_expr e ≡ written C v.1) c.in_ok-expr.field-0 e c.in-Some-2.is c.in_ok-expr.ensures.tree in
     let restricted = if_some (λ e. IsRestricted (bare_expr e)) c.in_ok-expr.field-0 e c.in-Some-2.is c.in_ok-expr.ensures.restricted in
     let fewer : pair_nodes (bare_pairs c.each.row.rest) ≡ nodes (bare_value v.1) + pair_nodes (bare_pairs left) = ap (λ vs. pair_nodes (bare_pairs vs)) taken in (
       ap (λ ps. Record (fields_of ps)) (next_pair C made all k e c.each.row.rest left v put taken key tree) ∙ c.each.invariant.0,
       put_restricted made all k e put c.each.invariant.1 restricted,
-      subst IsRising (keys ∙ sym (put_key made all k e (keys_of left) put)) c.each.invariant.2,
+      subst IsAscending (keys ∙ sym (put_key made all k e (keys_of left) put)) c.each.invariant.2,
       c.each.invariant.3,
       omega (arith, fewer, c.each.invariant.4),
     )

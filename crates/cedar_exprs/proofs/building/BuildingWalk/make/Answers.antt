@@ -7,7 +7,7 @@ use Rattle.cedar_builders.specs.Environment.{own}
 use Rattle.cedar_builders.specs.NodeByNode.{IsBuiltOf}
 use Rattle.cedar_builders.specs.Walks.{children}
 use Rattle.cedar_exprs.specs.BareExpr.{bare_exprs, bare_fields, unknown_tree}
-use Rattle.cedar_exprs.specs.Machine.{IsPut}
+use Rattle.cedar_exprs.specs.PostOrder.{IsPut}
 use Rattle.cedar_exprs.specs.declared.expr.KindOf.TheVariants.{Lit as LitOf, Var as VarOf, Slot as SlotOf, Unknown as UnknownOf}
 use Rattle.cedar_exprs.proofs.ChildrenOf.{bare_at_call, bare_at_set, bare_at_map, members-length, values-length, at_tree}
 use Rattle.cedar_exprs.proofs.Records.{bare_at}

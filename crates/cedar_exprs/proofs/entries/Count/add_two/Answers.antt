@@ -5,5 +5,5 @@ use Rattle.cedar_exprs.proofs.entries.Count.add_two.Goals as goal
 pub returns : goal.returns
 returns g c =
     let a = c.args in
-    room_added a.self.now c.waits.new.self c.add-2.new.self a.below (a.first.now ∷ a.second.now ∷ []) c.requires c.in_ok-waits.ensures.most c.in_ok-waits.ensures.left
-    (then_added c.waits.new.self c.add.new.self c.add-2.new.self a.below a.first.now (a.second.now ∷ []) c.in_ok-add.ensures.added c.in_ok-add-2.ensures.added)
+    room_added a.self.now c.record_height.new.self c.add-2.new.self a.below (a.first.now ∷ a.second.now ∷ []) c.requires c.in_ok-record_height.ensures.most c.in_ok-record_height.ensures.left
+    (then_added c.record_height.new.self c.add.new.self c.add-2.new.self a.below a.first.now (a.second.now ∷ []) c.in_ok-add.ensures.added c.in_ok-add-2.ensures.added)

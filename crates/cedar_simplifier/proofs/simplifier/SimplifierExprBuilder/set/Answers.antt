@@ -2,7 +2,7 @@ use Rattle.std.proofs.Common.{ap, sym, ◌∙◌}
 use Rattle.std.specs.List.{list_all}
 use Rattle.cedar_builders.specs.BareExpr.{Set}
 use Rattle.cedar_values.specs.WellFormed.{well_formed}
-use Rattle.simplifications.specs.Parts.{Left}
+use Rattle.semantics_simplify.specs.Simplified.{Residual}
 use Rattle.cedar_simplifier.proofs.KnownRows.{are_known, known_set, set_left, values_kept}
 use Rattle.cedar_simplifier.proofs.simplifier.SimplifierExprBuilder.set.Goals as goal
 
@@ -21,6 +21,6 @@ returns-then-are_known c =
 
 pub returns : goal.returns
 returns c =
-    c.left.ensures ∙ ap Left (c.in_ok-set.ensures ∙ ap Set c.in_ok-row.ensures)
+    c.residual.ensures ∙ ap Residual (c.in_ok-set.ensures ∙ ap Set c.in_ok-row.ensures)
     ∙ set_left _ _ c.args.members.items
     (ap are_known (sym c.deref.ensures.value) ∙ sym c.are_known.ensures ∙ c.if-are_known.false)

@@ -1,7 +1,7 @@
 use Rattle.std.proofs.Common.{ap, sym, ◌∙◌}
 use Rattle.cedar_values.specs.BareValues.{bare_value}
 use Rattle.cedar_values.specs.Holders.{held_call}
-use Rattle.simplifications.specs.Asks.{holds_no_call, is_no_call}
+use Rattle.semantics_simplify.specs.Asks.{holds_no_call, is_no_call}
 use Rattle.cedar_simplifier.proofs.tree.Tree.of_value.Goals as goal
 
 pub invariant_of-result : goal.invariant_of-result

@@ -2,7 +2,7 @@ use Rattle.std.proofs.Common.{map, subst, IsTrue}
 use Rattle.std.proofs.lemmas.Result.{IfOk-weaker}
 use Rattle.std.specs.Prelude.{IfOk}
 use Rattle.std.specs.List.{list_all}
-use Rattle.sorted_slices.specs.Classes.{IsClassesOf}
+use Rattle.cedar_sorted_slices.specs.Classes.{IsClassesOf}
 use Rattle.cedar_values.specs.Places.{literal_value}
 use Rattle.cedar_values.specs.Sets.{by_tree, members}
 use Rattle.cedar_values.specs.WellFormed.{set_well_formed, well_formed}

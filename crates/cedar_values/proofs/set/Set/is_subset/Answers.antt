@@ -1,6 +1,6 @@
 use Rattle.std.proofs.Common.{◌↔◌, Some, None, IsTrue, ap, sym, ◌∙◌}
 use Rattle.std.specs.Prelude.{option_map}
-use Rattle.sorted_slices.specs.Classes.{IsPartOf}
+use Rattle.cedar_sorted_slices.specs.Classes.{IsPartOf}
 use Rattle.cedar_values.specs.HashForms.{literals_of}
 use Rattle.cedar_values.specs.Sets.{members}
 use Rattle.cedar_values.proofs.HashForms.{not_part}

@@ -1,5 +1,5 @@
 use Rattle.std.proofs.Common.{sym, ap, length, ◌∙◌}
-use Rattle.sorted_slices.specs.Unique.{same_classes_tie, tied_length}
+use Rattle.cedar_sorted_slices.specs.Unique.{same_classes_tie, tied_length}
 use Rattle.cedar_values.specs.Sets.{members}
 use Rattle.cedar_values.proofs.WellFormedSets.{sorted_members}
 use Rattle.cedar_values.proofs.set.Set.len.Goals as goal
@@ -9,4 +9,4 @@ returns-clause-classes g c kept xs h =
     let total = c.order_of_values.ensures.total in
     let s = c.args.self.now in
     ap length c.authoritative.ensures
-    ∙ tied_length total (members s) xs (same_classes_tie total (members s) xs (sorted_members g.X.Ord.cmp total s kept) h.rising (λ q. sym (h.same q)))
+    ∙ tied_length total (members s) xs (same_classes_tie total (members s) xs (sorted_members g.X.Ord.cmp total s kept) h.ascending (λ q. sym (h.same q)))

@@ -2,7 +2,7 @@ use Rattle.std.proofs.Common.{◌≡◌, sym, subst, IsTrue}
 use Rattle.std.specs.Prelude.{option_map}
 use Rattle.std.proofs.lemmas.Result.{IfOk-weaker}
 use Rattle.std.specs.List.{list_all}
-use Rattle.sorted_slices.specs.Classes.{IsClassesOf}
+use Rattle.cedar_sorted_slices.specs.Classes.{IsClassesOf}
 use Rattle.cedar_values.specs.HashForms.{literals_of}
 use Rattle.cedar_values.specs.Sets.{by_tree, hashed_literals, members}
 use Rattle.cedar_values.specs.WellFormed.{well_formed, set_well_formed}

@@ -1,7 +1,7 @@
 use Rattle.std.proofs.Common.{sym, ap, subst, ◌∙◌}
-use Rattle.sorted_slices.specs.Rising.{and_left}
-use Rattle.cedar_value_trees.specs.Reading.{ReadsBack}
-use Rattle.cedar_value_trees.specs.ValueExpr.{value_expr}
+use Rattle.cedar_sorted_slices.specs.Ascending.{and_left}
+use Rattle.semantics_values.specs.Reading.{ReadsBack}
+use Rattle.semantics_values.specs.ValueExpr.{value_expr}
 use Rattle.cedar_values.specs.BareValues.{bare_value, bare_value_kind}
 use Rattle.cedar_values.specs.WellFormed.{well_formed}
 use Rattle.cedar_values.proofs.Levels.{value_tree}

@@ -1,5 +1,5 @@
 use Rattle.cedar_exprs.specs.BareExpr.{bare_expr}
-use Rattle.cedar_value_trees.specs.Reading.{IsValueOf}
+use Rattle.semantics_values.specs.Reading.{IsValueOf}
 use Rattle.cedar_values.specs.BareValues.{bare_value}
 use Rattle.cedar_exprs.specs.FirstNodes.{InPreorder}
 use Rattle.cedar_values.proofs.FirstFault.{answered}

@@ -1,6 +1,6 @@
 use Rattle.std.proofs.Common.{map, sym, ap, ◌∙◌}
 use Rattle.std.specs.List.{list_all}
-use Rattle.cedar_value_trees.specs.BareValue.{SetValue, values_of}
+use Rattle.semantics_values.specs.BareValue.{SetValue, values_of}
 use Rattle.cedar_values.specs.BareValues.{bare_value, bare_value_kind}
 use Rattle.cedar_values.specs.WellFormed.{kind_well_formed, well_formed}
 use Rattle.cedar_values.proofs.Levels.{extension_kept, literal_kept, record_kept, set_kept, set_tree}

@@ -1,5 +1,5 @@
 use Rattle.std.proofs.Common.{ap, map, ◌∙◌}
-use Rattle.cedar_value_trees.specs.BareValue.{SetValue, values_of}
+use Rattle.semantics_values.specs.BareValue.{SetValue, values_of}
 use Rattle.cedar_values.specs.BareValues.{bare_value}
 use Rattle.cedar_values.proofs.Levels.{set_kept, set_tree}
 use Rattle.cedar_values.proofs.value.ValueKind.empty_set.Goals as goal

@@ -1,6 +1,6 @@
 use Rattle.std.proofs.Common.{sym, subst}
-use Rattle.sorted_slices.specs.Rising.{and_left}
-use Rattle.cedar_value_trees.specs.Reading.{ReadsBack}
+use Rattle.cedar_sorted_slices.specs.Ascending.{and_left}
+use Rattle.semantics_values.specs.Reading.{ReadsBack}
 use Rattle.cedar_values.specs.BareValues.{bare_value_kind}
 use Rattle.cedar_values.specs.WellFormed.{kind_well_formed}
 use Rattle.cedar_values.proofs.Writings.{if_ok}

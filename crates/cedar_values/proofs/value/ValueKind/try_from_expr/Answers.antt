@@ -1,6 +1,6 @@
 use Rattle.std.proofs.Common.{◌≡◌, Err, sym, ap, subst, ◌∙◌, rules}
 use Rattle.cedar_exprs.specs.BareExpr.{bare_expr}
-use Rattle.cedar_value_trees.specs.Reading.{IsValueOf, is_readable}
+use Rattle.semantics_values.specs.Reading.{IsValueOf, is_readable}
 use Rattle.cedar_values.specs.BareValues.{bare_value}
 use Rattle.cedar_values.specs.NotReadable.{IsAnswerWhere}
 use Rattle.cedar_values.specs.WellFormed.{kind_well_formed}

@@ -1,0 +1,111 @@
+//! The terms that parts of a row stand for.
+use crate::call_error::CallError;
+use crate::escapes::unescaped;
+use crate::sexpr::Sexpr;
+use cedar_names::{FromNormalizedStr, InternalName, Name, ParseErrors};
+use cedar_terms::{EntityType, EntityUID, Literal, Type};
+use std::alloc::Global;
+use std::convert::TryFrom;
+use std::rc::RcStr;
+
+/// The name that a word spells.
+pub fn name(alloc: Global, word: &str) -> Result<Name, CallError> {
+    parsed(Name::from_normalized_str(alloc, word))
+}
+
+/// The internal name that a word spells.
+pub fn internal_name(alloc: Global, part: &Sexpr) -> Result<InternalName, CallError> {
+    parsed(InternalName::from_normalized_str(alloc, part.word()?))
+}
+
+/// The internal name that a word spells; none for `-`.
+pub fn namespace(alloc: Global, part: &Sexpr) -> Result<Option<InternalName>, CallError> {
+    match part.word()? {
+        "-" => Ok(None),
+        _ => Ok(Some(internal_name(alloc, part)?)),
+    }
+}
+
+/// The plain name of an internal one.
+pub fn plain(name: InternalName) -> Result<Name, CallError> {
+    match Name::try_from(name) {
+        Ok(name) => Ok(name),
+        Err(_) => Err(CallError::BadArguments),
+    }
+}
+
+/// What was read from a text, where it could be.
+pub fn parsed<T: Drop>(read: Result<T, ParseErrors>) -> Result<T, CallError> {
+    match read {
+        Ok(name) => Ok(name),
+        Err(ParseErrors::Memory) => Err(CallError::Memory),
+        Err(_) => Err(CallError::BadArguments),
+    }
+}
+
+/// The literal that a part stands for, if it does.
+pub fn literal(alloc: Global, part: &Sexpr) -> Result<Option<Literal>, CallError> {
+    match part {
+        Sexpr::Word(word) => Ok(word_literal(word)),
+        Sexpr::Text(escaped) => Ok(Some(Literal::from_string(alloc, unescaped(alloc, escaped)?)?)),
+        Sexpr::Entity(ty, escaped) => {
+            let ty = EntityType::from(name(alloc, ty)?);
+            let uid = EntityUID::new(ty, RcStr::from_string(unescaped(alloc, escaped)?)?);
+            Ok(Some(Literal::from_uid(alloc, uid)?))
+        }
+        Sexpr::List(_) => Ok(None),
+    }
+}
+
+/// The Boolean or the number that a word spells, if it does.
+pub fn word_literal(word: &str) -> Option<Literal> {
+    match word {
+        "true" => Some(Literal::Bool(true)),
+        "false" => Some(Literal::Bool(false)),
+        _ => {
+            if word.starts_with('+') {
+                return None;
+            }
+            match word.parse() {
+                Ok(number) => Some(Literal::Long(number)),
+                Err(_) => None,
+            }
+        }
+    }
+}
+
+/// The text that a part in quotes stands for.
+pub fn shared_text(alloc: Global, part: &Sexpr) -> Result<RcStr, CallError> {
+    Ok(RcStr::from_string(unescaped(alloc, part.escaped_text()?)?)?)
+}
+
+/// The type that a part stands for: a word, `(entity N)` or `(extension N)`.
+pub fn term_type(alloc: Global, part: &Sexpr) -> Result<Type, CallError> {
+    match part {
+        Sexpr::Word(word) => plain_type(word),
+        Sexpr::List(parts) => match parts.as_slice() {
+            [head, ty] => named_type(head.word()?, name(alloc, ty.word()?)?),
+            _ => Err(CallError::BadArguments),
+        },
+        _ => Err(CallError::BadArguments),
+    }
+}
+
+fn plain_type(word: &str) -> Result<Type, CallError> {
+    match word {
+        "bool" => Ok(Type::Bool),
+        "long" => Ok(Type::Long),
+        "string" => Ok(Type::String),
+        "set" => Ok(Type::Set),
+        "record" => Ok(Type::Record),
+        _ => Err(CallError::BadArguments),
+    }
+}
+
+fn named_type(head: &str, name: Name) -> Result<Type, CallError> {
+    match head {
+        "entity" => Ok(Type::entity_type(name)),
+        "extension" => Ok(Type::Extension { name }),
+        _ => Err(CallError::BadArguments),
+    }
+}

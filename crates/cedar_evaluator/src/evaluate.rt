@@ -1,0 +1,45 @@
+//! The outcome of an expression.
+ghost use Rattle.std.specs.Prelude.{◌≢◌, Err, IfOk, IsTrue};
+ghost use Rattle.cedar_names.specs.PlainNames.{bare_name};
+ghost use Rattle.cedar_builders.specs.Answers.{Gives};
+ghost use Rattle.cedar_builders.specs.Environment.{fold};
+ghost use Rattle.cedar_exprs.specs.BareExpr.{bare_expr};
+ghost use Rattle.cedar_values.specs.Holders.{plain_env};
+ghost use Rattle.semantics_eval.specs.Evaluator.{evaluator_ops};
+ghost use Rattle.semantics_eval.specs.Laws.{is_closed};
+ghost use Rattle.semantics_eval.specs.Outcomes.{Open};
+ghost use Rattle.cedar_evaluator.specs.Outcomes.{meaning_of};
+
+use crate::evaluator::Evaluator;
+use crate::fault::CallRefused;
+use crate::outcome::Outcome;
+use cedar_builders::BuildFault;
+use cedar_exprs::Expr;
+use cedar_values::laws::{maps_bind_plain_values, no_extension_values};
+use cedar_values::{NoExtension, Value, try_into_expr_with_values};
+use semantics_eval::laws::never_open;
+use std::alloc::Global;
+use std::collections::HashMap;
+use std::rc::RcStr;
+
+/// The outcome of an expression, where the unknowns that `values` binds are these values.
+///
+/// The error is the first call of an extension function, children before parents and each in field
+/// order, or memory ran out.
+pub fn evaluate(
+    alloc: Global,
+    expr: &Expr,
+    values: &HashMap<RcStr, Value<NoExtension>>,
+) -> Result<Outcome, BuildFault<CallRefused>>
+    ensures outcome { Gives meaning_of (λ (refused : CallRefused). bare_name refused.name)
+        (fold (evaluator_ops ⟦<NoExtension as Ord>⟧.cmp ⟦<NoExtension as PartialEq>⟧.eq)
+        (plain_env values.now) (bare_expr expr.now))
+        result }
+    ensures decided { IsTrue (is_closed (plain_env values.now) (bare_expr expr.now))
+        → IfOk result (λ m. meaning_of m ≢ Err Open) }
+{
+    maps_bind_plain_values::<NoExtension>();
+    never_open::<NoExtension>();
+    no_extension_values();
+    try_into_expr_with_values::<Evaluator, NoExtension>(alloc, expr, values)
+}

@@ -1,0 +1,12 @@
+pub mod Blanks
+pub mod Escapes
+pub mod Excerpts
+pub mod FirstPieces
+pub mod FirstTokens
+pub mod Grammar
+pub mod TokenKinds
+pub mod Pieces
+pub mod Places
+pub mod Readings
+pub mod Told
+pub mod TokenPlaces

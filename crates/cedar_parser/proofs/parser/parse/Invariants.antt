@@ -1,0 +1,14 @@
+use Rattle.std.proofs.Common.{◌≤◌, length, max}
+use Rattle.cedar_lexer.specs.Pieces.{tokens_left}
+use Rattle.cedar_parser.specs.Refused.{IsBefore, operand_start, open_start, stop_of}
+use Rattle.cedar_parser.proofs.parser.parse.Given as goal
+
+-- the tokens that are left stand behind what is open, and within the text
+abbrev pub invariant-tokens : goal.invariant-tokens
+invariant-tokens l = record {
+  before : IsBefore (max (open_start l.parser) (operand_start l.operand)) l.tokens;
+  fits : stop_of l.tokens ≤ length l.text;
+}
+
+abbrev pub decreases-tokens : goal.decreases-tokens
+decreases-tokens l = tokens_left l.tokens

@@ -1,0 +1,237 @@
+//! Brackets, conditionals, sets, records and calls.
+ghost use Rattle.std.specs.Prelude.{◌≡◌, ◌≤◌, IfErr, MatchResult, max};
+ghost use Rattle.cedar_lexer.specs.Pieces.{tokens_left};
+ghost use Rattle.cedar_lexer.specs.declared.parse_failure.ParseFailure.TheVariants.{Memory};
+ghost use Rattle.cedar_parser.specs.Refused.{
+  GoesOn,
+  IsAbout,
+  IsBefore,
+  IsFirst,
+  IsUpTo,
+  IsWithin,
+  group_start,
+  open_start,
+  stop_of,
+};
+
+use crate::leaves::key;
+use crate::operand::{Operand, Operation, Step};
+use crate::parser::Parser;
+use cedar_exprs::Expr;
+use cedar_lexer::{ParseFailure, Span, Token, TokenKind, TokenStream};
+use cedar_names::Name;
+use std::rc::RcStr;
+
+/// What is open around an operand.
+#[derive(Drop)]
+pub(crate) struct Group {
+    pub(crate) kind: GroupKind,
+    /// Where it begins.
+    pub(crate) start: usize,
+    /// The operations that wait for what it gives.
+    pub(crate) operations: Vec<Operation>,
+}
+
+/// The groups.
+#[derive(Drop)]
+pub(crate) enum GroupKind {
+    /// `(`
+    Round,
+    /// `if`
+    If,
+    /// `if TEST then`
+    Then(Expr),
+    /// A row and its items.
+    Row(RowKind, Vec<Expr>),
+    /// `{`, fields, and the key of the next.
+    Record(Vec<(RcStr, Expr)>, RcStr),
+}
+
+/// The rows.
+#[derive(Drop)]
+pub(crate) enum RowKind {
+    /// `[` and members.
+    Set,
+    /// `NAME(` and arguments.
+    Function(Name),
+    /// `EXPR.NAME(` and arguments, of which the expression is the first.
+    Method(RcStr),
+}
+
+impl RowKind {
+    // The bracket at the end.
+    fn closing(&self) -> TokenKind {
+        match self {
+            RowKind::Set => TokenKind::CloseSquare,
+            RowKind::Function(_) => TokenKind::CloseRound,
+            RowKind::Method(_) => TokenKind::CloseRound,
+        }
+    }
+}
+
+impl Group {
+    // Whether a token of this kind may follow an operand in it, beside operators.
+    fn takes(&self, kind: TokenKind) -> bool {
+        match &self.kind {
+            GroupKind::Round => kind == TokenKind::CloseRound,
+            GroupKind::If => kind == TokenKind::Then,
+            GroupKind::Then(_) => kind == TokenKind::Else,
+            GroupKind::Row(row, _) => kind == TokenKind::Comma || kind == row.closing(),
+            GroupKind::Record(_, _) => kind == TokenKind::Comma || kind == TokenKind::CloseCurly,
+        }
+    }
+
+    /// The same in words.
+    pub(crate) fn wanted(&self) -> &'static str {
+        match &self.kind {
+            GroupKind::Round => "an operator or `)` is wanted here",
+            GroupKind::If => "an operator or `then` is wanted here",
+            GroupKind::Then(_) => "an operator or `else` is wanted here",
+            GroupKind::Row(RowKind::Set, _) => "an operator, `,` or `]` is wanted here",
+            GroupKind::Row(_, _) => "an operator, `,` or `)` is wanted here",
+            GroupKind::Record(_, _) => "an operator, `,` or `}` is wanted here",
+        }
+    }
+}
+
+impl Parser<'_> {
+    /// An operand in a group, and the token behind it.
+    pub(crate) fn resume_group(
+        &mut self,
+        group: Group,
+        expr: Expr,
+        token: Token<'_>,
+        tokens: &mut TokenStream<'_>,
+    ) -> Step
+        requires opened { open_start self.old ≤ token.span.start }
+        requires first { IsFirst (group_start group) token tokens.old }
+        ensures left { tokens_left tokens.new ≤ tokens_left tokens.old }
+        ensures goes_on { MatchResult result
+            (GoesOn tokens.old tokens.new self.new)
+            (IsWithin (stop_of tokens.old)) }
+    {
+        if !group.takes(token.kind) {
+            return Err(ParseFailure::Syntax(token.span, group.wanted()));
+        }
+        let Group {
+            kind,
+            start,
+            operations,
+        } = group;
+        self.operations = operations;
+        let span = Span {
+            start,
+            stop: token.span.stop,
+        };
+        let goes_on = token.kind == TokenKind::Comma;
+        match kind {
+            GroupKind::Round => Ok(Some(Operand::member(expr, span))),
+            GroupKind::If => self.open(GroupKind::Then(expr), start),
+            GroupKind::Then(test) => self.otherwise(start, test, expr),
+            GroupKind::Row(kind, items) => {
+                let items = pushed(items, expr)?;
+                if goes_on {
+                    self.item(kind, items, start, tokens)
+                } else {
+                    self.row(kind, items, span)
+                }
+            }
+            GroupKind::Record(pairs, key) => {
+                let pairs = pushed(pairs, (key, expr))?;
+                if goes_on {
+                    self.field(pairs, start, tokens)
+                } else {
+                    self.record(pairs, span)
+                }
+            }
+        }
+    }
+
+    // What stands behind `else` ends with what is around it, so it is no group.
+    #[tactic(auto, using(crate::proofs::Greatest::greatest_push))]
+    fn otherwise(&mut self, start: usize, test: Expr, then: Expr) -> Step
+        ensures { MatchResult result
+            (IsUpTo (max (open_start self.old) start) self.new)
+            (λ e. e ≡ Memory) }
+    {
+        self.operations.push(Operation::Else(start, test, then))?;
+        Ok(None)
+    }
+
+    /// The next item of a row, or the end of the row.
+    pub(crate) fn item(
+        &mut self,
+        kind: RowKind,
+        items: Vec<Expr>,
+        start: usize,
+        tokens: &mut TokenStream<'_>,
+    ) -> Step
+        requires { IsBefore (max (open_start self.old) start) tokens.old }
+        ensures left { tokens_left tokens.new ≤ tokens_left tokens.old }
+        ensures goes_on { MatchResult result
+            (GoesOn tokens.old tokens.new self.new)
+            (IsWithin (stop_of tokens.old)) }
+    {
+        match tokens.take_if(kind.closing()) {
+            Some(Token { span, .. }) => {
+                let stop = span.stop;
+                self.row(kind, items, Span { start, stop })
+            }
+            None => self.open(GroupKind::Row(kind, items), start),
+        }
+    }
+
+    // A whole row.
+    fn row(&mut self, kind: RowKind, items: Vec<Expr>, span: Span) -> Step
+        ensures { MatchResult result
+            (IsUpTo (max (open_start self.old) span.start) self.new)
+            (IsAbout span) }
+    {
+        let expr = match kind {
+            RowKind::Set => self.nodes.set(items, span)?,
+            RowKind::Function(name) => self.nodes.function_call(name, items, span)?,
+            RowKind::Method(name) => self.nodes.method_call(&name, items, span)?,
+        };
+        Ok(Some(Operand::member(expr, span)))
+    }
+
+    /// The next field of a record, or the end of the record.
+    pub(crate) fn field(
+        &mut self,
+        pairs: Vec<(RcStr, Expr)>,
+        start: usize,
+        tokens: &mut TokenStream<'_>,
+    ) -> Step
+        requires { IsBefore (max (open_start self.old) start) tokens.old }
+        ensures left { tokens_left tokens.new ≤ tokens_left tokens.old }
+        ensures goes_on { MatchResult result
+            (GoesOn tokens.old tokens.new self.new)
+            (IsWithin (stop_of tokens.old)) }
+    {
+        if let Some(Token { span, .. }) = tokens.take_if(TokenKind::CloseCurly) {
+            let stop = span.stop;
+            return self.record(pairs, Span { start, stop });
+        }
+        let (key, _) = key(self.nodes.alloc, tokens)?;
+        let _colon = tokens.expect(TokenKind::Colon, "`:` is wanted here")?;
+        self.open(GroupKind::Record(pairs, key), start)
+    }
+
+    // A whole record.
+    fn record(&mut self, pairs: Vec<(RcStr, Expr)>, span: Span) -> Step
+        ensures { MatchResult result
+            (IsUpTo (max (open_start self.old) span.start) self.new)
+            (IsAbout span) }
+    {
+        let expr = self.nodes.record(pairs, span)?;
+        Ok(Some(Operand::member(expr, span)))
+    }
+}
+
+// The items with one more.
+fn pushed<T: Drop>(mut items: Vec<T>, item: T) -> Result<Vec<T>, ParseFailure>
+    ensures { IfErr result (λ e. e ≡ Memory) }
+{
+    items.push(item)?;
+    Ok(items)
+}

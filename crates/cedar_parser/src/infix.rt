@@ -1,0 +1,48 @@
+//! Operators between two operands.
+use cedar_lexer::TokenKind;
+use cedar_printer::Precedence;
+use cedar_terms::BinaryOp;
+
+/// An operator between two operands.
+#[derive(Clone, Copy)]
+pub(crate) enum Infix {
+    Or,
+    And,
+    /// An operator of expressions.
+    Plain(BinaryOp),
+    /// `a != b`, which is `!(a == b)`, and likewise `a > b` and `a >= b` of `<=` and `<`.
+    Negated(BinaryOp),
+}
+
+impl Infix {
+    /// The operator that a token is.
+    pub(crate) fn of(kind: TokenKind) -> Option<Infix> {
+        match kind {
+            TokenKind::OrSign => Some(Infix::Or),
+            TokenKind::AndSign => Some(Infix::And),
+            TokenKind::Equal => Some(Infix::Plain(BinaryOp::Eq)),
+            TokenKind::NotEqual => Some(Infix::Negated(BinaryOp::Eq)),
+            TokenKind::Less => Some(Infix::Plain(BinaryOp::Less)),
+            TokenKind::LessEqual => Some(Infix::Plain(BinaryOp::LessEq)),
+            TokenKind::Greater => Some(Infix::Negated(BinaryOp::LessEq)),
+            TokenKind::GreaterEqual => Some(Infix::Negated(BinaryOp::Less)),
+            TokenKind::In => Some(Infix::Plain(BinaryOp::In)),
+            TokenKind::Plus => Some(Infix::Plain(BinaryOp::Add)),
+            TokenKind::Minus => Some(Infix::Plain(BinaryOp::Sub)),
+            TokenKind::Times => Some(Infix::Plain(BinaryOp::Mul)),
+            _ => None,
+        }
+    }
+
+    /// Its own precedence, and the least of its left operand.
+    pub(crate) fn precedences(self) -> (Precedence, Precedence) {
+        match self {
+            Infix::Or => (Precedence::Or, Precedence::Or),
+            Infix::And => (Precedence::And, Precedence::And),
+            Infix::Plain(op) | Infix::Negated(op) => match Precedence::of_infix(op) {
+                Some((own, left, _)) => (own, left),
+                None => (Precedence::Relation, Precedence::Sum),
+            },
+        }
+    }
+}

@@ -1,0 +1,215 @@
+//! Expressions with their places in a text.
+ghost use Rattle.std.specs.Prelude.{◌≡◌, IfErr, IfOk};
+ghost use Rattle.std.specs.Rc.{rc_str_bytes};
+ghost use Rattle.cedar_builders.specs.BareExpr.{And, BinaryApp, GetAttr, HasAttr, Is, Like, Or, Set};
+ghost use Rattle.cedar_exprs.specs.BareExpr.{bare_expr, bare_expr_kind, bare_exprs, further};
+ghost use Rattle.cedar_terms.specs.Entities.{bare_entity_type};
+ghost use Rattle.cedar_parser.specs.Operations.{infix_tree, operation_tree};
+ghost use Rattle.cedar_parser.specs.Refused.{IsAbout, start_of};
+
+use crate::infix::Infix;
+use crate::operand::{Operand, Operation};
+use cedar_builders::{ExprBuilder as _, ExpressionConstructionError};
+use cedar_exprs::{Expr, ExprBuilder, ExprKind};
+use cedar_lexer::{ParseFailure, Span};
+use cedar_names::{Loc, NonEmpty};
+use cedar_terms::{BinaryOp, EntityType, Pattern, UnaryOp};
+use std::alloc::{AllocError, Global};
+use std::collections::HashMap;
+use std::rc::{Rc, RcStr};
+
+/// Makes expressions with their places in a text.
+#[derive(Drop)]
+pub(crate) struct Nodes<'a> {
+    pub(crate) alloc: Global,
+    pub(crate) source: RcStr,
+    /// What unknowns and variables are read as.
+    pub(crate) values: &'a HashMap<RcStr, Expr>,
+}
+
+impl Nodes<'_> {
+    // A place.
+    fn place(&self, span: Span) -> Result<Loc, AllocError> {
+        Ok(Loc::new(span.start, span.stop, self.source.clone()?))
+    }
+
+    /// The builder of a node at a place.
+    pub(crate) fn at(&self, span: Span) -> Result<ExprBuilder<()>, AllocError> {
+        Ok(ExprBuilder::new().with_maybe_source_loc(Some(self.place(span)?)))
+    }
+
+    /// The node of this kind.
+    pub(crate) fn node(&self, kind: ExprKind<()>, span: Span) -> Result<Expr, AllocError>
+        ensures { IfOk result (λ e. bare_expr e ≡ bare_expr_kind kind) }
+    {
+        Ok(self.at(span)?.with_expr_kind(kind))
+    }
+
+    /// The expression that an unknown or a variable is read as, if it has a value.
+    pub(crate) fn value(&self, name: &str, span: Span) -> Result<Option<Expr>, AllocError> {
+        match self.values.get(name) {
+            Some(expr) => {
+                let place = self.place(span)?;
+                let expr = expr.clone(self.alloc)?;
+                Ok(Some(expr.with_maybe_source_loc(Some(place))))
+            }
+            None => Ok(None),
+        }
+    }
+
+    /// The operation with its last operand.
+    pub(crate) fn apply(&self, operation: Operation, last: Operand) -> Result<Operand, AllocError>
+        ensures tree { IfOk result (λ h.
+            bare_expr h.expr ≡ operation_tree operation (bare_expr last.expr)) }
+        ensures start { IfOk result (λ h. h.span.start ≡ start_of operation) }
+    {
+        let precedence = operation.precedence();
+        let span = Span {
+            start: operation.start(),
+            stop: last.span.stop,
+        };
+        let expr = self.applied(operation, last.expr, span)?;
+        Ok(Operand {
+            expr,
+            precedence,
+            span,
+        })
+    }
+
+    fn applied(&self, operation: Operation, last: Expr, span: Span) -> Result<Expr, AllocError>
+        ensures { IfOk result (λ e. bare_expr e ≡ operation_tree operation (bare_expr last)) }
+    {
+        match operation {
+            Operation::Prefix(op, _, _) => self.at(span)?.unary_app(self.alloc, op, last),
+            Operation::Infix(sign, first) => self.infix(sign, first.expr, last, span),
+            Operation::IsIn(is, first) => {
+                let within = self.binary(BinaryOp::In, first, last, span)?;
+                self.and(is.expr, within, span)
+            }
+            Operation::Else(_, test, then) => self.at(span)?.ite(self.alloc, test, then, last),
+        }
+    }
+
+    fn infix(&self, sign: Infix, first: Expr, last: Expr, span: Span) -> Result<Expr, AllocError>
+        ensures { IfOk result (λ e.
+            bare_expr e ≡ infix_tree sign (bare_expr first) (bare_expr last)) }
+    {
+        match sign {
+            Infix::Or => self.or(first, last, span),
+            Infix::And => self.and(first, last, span),
+            Infix::Plain(op) => self.binary(op, first, last, span),
+            Infix::Negated(op) => {
+                let inner = self.binary(op, first, last, span)?;
+                self.at(span)?.unary_app(self.alloc, UnaryOp::Not, inner)
+            }
+        }
+    }
+
+    // The conjunction as it stands, also of two literals, of which the builder would make one.
+    fn and(&self, first: Expr, last: Expr, span: Span) -> Result<Expr, AllocError>
+        ensures { IfOk result (λ e. bare_expr e ≡ And (bare_expr first) (bare_expr last)) }
+    {
+        let left = Rc::new(self.alloc, first)?;
+        let right = Rc::new(self.alloc, last)?;
+        self.node(ExprKind::And { left, right }, span)
+    }
+
+    // The disjunction as it stands.
+    fn or(&self, first: Expr, last: Expr, span: Span) -> Result<Expr, AllocError>
+        ensures { IfOk result (λ e. bare_expr e ≡ Or (bare_expr first) (bare_expr last)) }
+    {
+        let left = Rc::new(self.alloc, first)?;
+        let right = Rc::new(self.alloc, last)?;
+        self.node(ExprKind::Or { left, right }, span)
+    }
+
+    fn binary(&self, op: BinaryOp, first: Expr, last: Expr, span: Span) -> Result<Expr, AllocError>
+        ensures { IfOk result (λ e. bare_expr e ≡ BinaryApp op (bare_expr first) (bare_expr last)) }
+    {
+        self.at(span)?.binary_app(self.alloc, op, first, last)
+    }
+
+    /// An attribute of an operand, which ends here.
+    pub(crate) fn get(
+        &self,
+        operand: Operand,
+        attr: RcStr,
+        stop: usize,
+    ) -> Result<Operand, AllocError>
+        ensures tree { IfOk result (λ h.
+            bare_expr h.expr ≡ GetAttr (bare_expr operand.expr) (rc_str_bytes attr)) }
+        ensures start { IfOk result (λ h. h.span.start ≡ operand.span.start) }
+    {
+        let span = operand.span.up_to(stop);
+        let expr = self.at(span)?.get_attr(self.alloc, operand.expr, attr)?;
+        Ok(Operand::member(expr, span))
+    }
+
+    /// The test for attributes, which end here.
+    pub(crate) fn has(
+        &self,
+        operand: Operand,
+        attrs: NonEmpty<RcStr>,
+        stop: usize,
+    ) -> Result<Operand, AllocError>
+        ensures tree { IfOk result (λ h. bare_expr h.expr
+            ≡ HasAttr (bare_expr operand.expr) (rc_str_bytes attrs.head) (further attrs)) }
+        ensures start { IfOk result (λ h. h.span.start ≡ operand.span.start) }
+    {
+        let span = operand.span.up_to(stop);
+        let expr = self
+            .at(span)?
+            .extended_has_attr(self.alloc, operand.expr, attrs)?;
+        Ok(Operand::relation(expr, span))
+    }
+
+    /// The test by a pattern, which ends here.
+    pub(crate) fn like(
+        &self,
+        operand: Operand,
+        pattern: Pattern,
+        stop: usize,
+    ) -> Result<Operand, AllocError>
+        ensures tree { IfOk result (λ h. bare_expr h.expr ≡ Like (bare_expr operand.expr) pattern) }
+        ensures start { IfOk result (λ h. h.span.start ≡ operand.span.start) }
+    {
+        let span = operand.span.up_to(stop);
+        let expr = self.at(span)?.like(self.alloc, operand.expr, pattern)?;
+        Ok(Operand::relation(expr, span))
+    }
+
+    /// The test for a type of entities, which ends here.
+    pub(crate) fn is(
+        &self,
+        operand: Operand,
+        ty: EntityType,
+        stop: usize,
+    ) -> Result<Operand, AllocError>
+        ensures tree { IfOk result (λ h.
+            bare_expr h.expr ≡ Is (bare_expr operand.expr) (bare_entity_type ty)) }
+        ensures start { IfOk result (λ h. h.span.start ≡ operand.span.start) }
+    {
+        let span = operand.span.up_to(stop);
+        let expr = self.at(span)?.is_entity_type(self.alloc, operand.expr, ty)?;
+        Ok(Operand::relation(expr, span))
+    }
+
+    /// A set.
+    pub(crate) fn set(&self, members: Vec<Expr>, span: Span) -> Result<Expr, ParseFailure>
+        ensures tree { IfOk result (λ e. bare_expr e ≡ Set (bare_exprs members.items)) }
+        ensures refused { IfErr result (IsAbout span) }
+    {
+        Ok(self.at(span)?.set(self.alloc, members)?)
+    }
+
+    /// A record, which has each key once.
+    pub(crate) fn record(&self, pairs: Vec<(RcStr, Expr)>, span: Span) -> Result<Expr, ParseFailure>
+        ensures { IfErr result (IsAbout span) }
+    {
+        match self.at(span)?.record(self.alloc, pairs) {
+            Ok(expr) => Ok(expr),
+            Err(ExpressionConstructionError::Memory) => Err(ParseFailure::Memory),
+            Err(_) => Err(ParseFailure::Syntax(span, "a key stands twice in this record")),
+        }
+    }
+}

@@ -1,0 +1,401 @@
+//! From tokens to expressions.
+ghost use Rattle.std.specs.Prelude.{◌≡◌, ◌<◌, ◌≤◌, IfErr, IfSome, MatchResult, Some, length, max};
+ghost use Rattle.cedar_lexer.specs.Pieces.{tokens_left};
+ghost use Rattle.cedar_lexer.specs.declared.parse_failure.ParseFailure.TheVariants.{Memory};
+ghost use Rattle.cedar_parser.specs.Refused.{
+  GoesOn,
+  IsAbout,
+  IsFirst,
+  IsToldIn,
+  IsUpTo,
+  IsWithin,
+  operand_start,
+  open_start,
+  start_of,
+  stop_of,
+};
+
+use crate::groups::{Group, GroupKind, RowKind};
+use crate::infix::Infix;
+use crate::leaves::{Path, integer, text_of};
+use crate::nodes::Nodes;
+use crate::operand::{Operand, Operation, Step};
+use cedar_exprs::{Expr, ExprKind};
+use cedar_lexer::{ParseError, ParseFailure, Span, Token, TokenKind, TokenStream, tokenize};
+use cedar_printer::Precedence;
+use cedar_terms::{Literal, UnaryOp};
+use std::alloc::Global;
+use std::collections::HashMap;
+use std::mem;
+use std::rc::RcStr;
+
+/// Reads an expression of Cedar's own syntax. Each node has its place in the text.
+///
+/// ```rust
+/// fn is_owner(alloc: Global) -> Result<Expr, ParseError> {
+///     parse_expr(alloc, "resource.owner == principal && !resource.locked")
+/// }
+/// ```
+///
+/// It takes any name for that of a function or a method, `unknown("x")` for an unknown, and refuses
+/// only what is no expression: what is outside the grammar, an integer outside 64 bits, a key that
+/// stands twice in a record, and a method of sets or tags with another number of arguments. Beyond
+/// the grammar it takes texts in quotes in a path behind `has`. `true && false` stays as it stands;
+/// `a is T in b` shares `a` between two tests. No depth of the text ends it.
+pub fn parse_expr(alloc: Global, text: &str) -> Result<Expr, ParseError>
+    ensures { IfErr result (IsToldIn text.now) }
+{
+    parse_with_values(alloc, text, &HashMap::new(alloc))
+}
+
+/// As `parse_expr`, but `unknown("x")` and the variable `x` are read as `values["x"]`; slots never are.
+/// The root of what is put in gets the place of what it replaces; its other nodes keep theirs.
+pub fn parse_with_values(
+    alloc: Global,
+    text: &str,
+    values: &HashMap<RcStr, Expr>,
+) -> Result<Expr, ParseError>
+    ensures { IfErr result (IsToldIn text.now) }
+{
+    match parse(alloc, text, values) {
+        Ok(expr) => Ok(expr),
+        Err(failure) => Err(failure.in_text(text)),
+    }
+}
+
+fn parse(alloc: Global, text: &str, values: &HashMap<RcStr, Expr>) -> Result<Expr, ParseFailure>
+    ensures { IfErr result (IsWithin (length text.now)) }
+{
+    let found = tokenize(alloc, text)?;
+    let mut tokens = TokenStream::new(&found);
+    let mut parser = Parser {
+        nodes: Nodes {
+            alloc,
+            source: RcStr::from_str(alloc, text)?,
+            values,
+        },
+        operations: Vec::new(alloc),
+        groups: Vec::new(alloc),
+    };
+    let mut operand = None;
+    'tokens: while let Some(token) = tokens.next() {
+        operand = parser.step(operand, token, &mut tokens)?;
+    }
+    parser.end(operand, tokens.first())
+}
+
+/// What is open so far: the operations that wait for the operand which comes next, and the groups
+/// around it.
+#[derive(Drop)]
+pub(crate) struct Parser<'a> {
+    pub(crate) nodes: Nodes<'a>,
+    pub(crate) operations: Vec<Operation>,
+    pub(crate) groups: Vec<Group>,
+}
+
+impl Parser<'_> {
+    // Goes on with a token, and maybe more. What stands before them is an operand, or nothing where
+    // one is wanted; so is the answer.
+    fn step(
+        &mut self,
+        operand: Option<Operand>,
+        token: Token<'_>,
+        tokens: &mut TokenStream<'_>,
+    ) -> Step
+        requires { IsFirst (max (open_start self.old) (operand_start operand)) token tokens.old }
+        ensures left { tokens_left tokens.new ≤ tokens_left tokens.old }
+        ensures goes_on { MatchResult result
+            (GoesOn tokens.old tokens.new self.new)
+            (IsWithin (stop_of tokens.old)) }
+    {
+        match operand {
+            Some(operand) => self.follow(operand, token, tokens),
+            None => self.operand(token, tokens),
+        }
+    }
+
+    // The first token of an operand.
+    fn operand(&mut self, token: Token<'_>, tokens: &mut TokenStream<'_>) -> Step
+        requires { IsFirst (open_start self.old) token tokens.old }
+        ensures left { tokens_left tokens.new ≤ tokens_left tokens.old }
+        ensures goes_on { MatchResult result
+            (GoesOn tokens.old tokens.new self.new)
+            (IsWithin (stop_of tokens.old)) }
+    {
+        let Token { kind, span, .. } = token;
+        let alloc = self.nodes.alloc;
+        match kind {
+            TokenKind::Word => self.name(token, tokens),
+            TokenKind::Digits => self.number(token, tokens.first().kind),
+            TokenKind::Quoted => self.literal(Literal::String(text_of(alloc, token)?), token),
+            TokenKind::Slot => Ok(Some(Operand::member(self.nodes.slot(token)?, span))),
+            TokenKind::True => self.literal(Literal::Bool(true), token),
+            TokenKind::False => self.literal(Literal::Bool(false), token),
+            TokenKind::Not => self.prefix(UnaryOp::Not, token),
+            TokenKind::Minus => self.prefix(UnaryOp::Neg, token),
+            TokenKind::If => self.conditional(token),
+            TokenKind::OpenRound => self.open(GroupKind::Round, span.start),
+            TokenKind::OpenSquare => self.item(RowKind::Set, Vec::new(alloc), span.start, tokens),
+            TokenKind::OpenCurly => self.field(Vec::new(alloc), span.start, tokens),
+            _ => Err(ParseFailure::Syntax(span, "an expression is wanted here")),
+        }
+    }
+
+    fn literal(&mut self, literal: Literal, token: Token<'_>) -> Step
+        ensures { MatchResult result
+            (IsUpTo (max (open_start self.old) token.entry.span.start) self.new)
+            (λ e. e ≡ Memory) }
+    {
+        let expr = self.nodes.node(ExprKind::Lit(literal), token.span)?;
+        Ok(Some(Operand::member(expr, token.span)))
+    }
+
+    // An integer. A minus before its digits is part of it, unless they are a part of what the minus
+    // stands before.
+    fn number(&mut self, digits: Token<'_>, next: TokenKind) -> Step
+        ensures { MatchResult result
+            (IsUpTo (max (open_start self.old) digits.entry.span.start) self.new)
+            (IsAbout digits.entry.span) }
+    {
+        let sign = match next {
+            TokenKind::Dot | TokenKind::OpenSquare => None,
+            _ => self.pop_minus(),
+        };
+        let literal = integer(digits, sign.is_some())?;
+        let mut span = digits.span;
+        span.start = sign.unwrap_or(span.start);
+        let expr = self.nodes.node(ExprKind::Lit(literal), span)?;
+        Ok(Some(Operand::member(expr, span)))
+    }
+
+    // Takes the last operation, if it is a minus, and says where that stands.
+    #[tactic(auto, using(crate::proofs::Greatest::greatest_push))]
+    fn pop_minus(&mut self) -> Option<usize>
+        ensures opened { open_start self.new ≤ open_start self.old }
+        ensures start { IfSome result (λ start. start ≤ open_start self.old) }
+    {
+        match self.operations.last() {
+            Some(Operation::Prefix(UnaryOp::Neg, start, _)) => {
+                let start = *start;
+                drop(self.operations.pop());
+                Some(start)
+            }
+            _ => None,
+        }
+    }
+
+    // An entity, the call of a function, or a variable.
+    fn name(&mut self, first: Token<'_>, tokens: &mut TokenStream<'_>) -> Step
+        requires { IsFirst (open_start self.old) first tokens.old }
+        ensures left { tokens_left tokens.new ≤ tokens_left tokens.old }
+        ensures goes_on { MatchResult result
+            (GoesOn tokens.old tokens.new self.new)
+            (IsWithin (stop_of tokens.old)) }
+    {
+        let alloc = self.nodes.alloc;
+        let path = Path::read(alloc, first, tokens)?;
+        if tokens.take_if(TokenKind::Colons).is_some() {
+            let (expr, span) = self.nodes.entity(path, tokens)?;
+            return Ok(Some(Operand::member(expr, span)));
+        }
+        if tokens.take_if(TokenKind::OpenRound).is_some() {
+            let function = RowKind::Function(path.name(alloc)?);
+            return self.item(function, Vec::new(alloc), path.span.start, tokens);
+        }
+        Ok(Some(Operand::member(self.nodes.variable(&path)?, path.span)))
+    }
+
+    // A sign before its operand. The grammar has four at most in a row, and all of them alike.
+    #[tactic(auto, using(crate::proofs::Greatest::greatest_push))]
+    fn prefix(&mut self, op: UnaryOp, token: Token<'_>) -> Step
+        ensures { MatchResult result
+            (IsUpTo (max (open_start self.old) token.entry.span.start) self.new)
+            (IsAbout token.entry.span) }
+    {
+        let before = self.signs(op, token.span)?;
+        if before > 3 {
+            return Err(ParseFailure::Syntax(token.span, "this is the fifth sign in a row"));
+        }
+        self.operations
+            .push(Operation::Prefix(op, token.span.start, before))?;
+        Ok(None)
+    }
+
+    // How many of this sign stand right before the operand, where no other sign does.
+    fn signs(&self, op: UnaryOp, span: Span) -> Result<u8, ParseFailure>
+        ensures { IfErr result (IsAbout span) }
+    {
+        match self.operations.last() {
+            Some(Operation::Prefix(other, _, before)) if *other == op => {
+                Ok(before.saturating_add(1))
+            }
+            Some(Operation::Prefix(_, _, _)) => {
+                Err(ParseFailure::Syntax(span, "a sign behind another sign needs brackets"))
+            }
+            _ => Ok(0),
+        }
+    }
+
+    // `if`, which is no operand of an operator.
+    fn conditional(&mut self, token: Token<'_>) -> Step
+        ensures { MatchResult result
+            (IsUpTo (max (open_start self.old) token.entry.span.start) self.new)
+            (IsAbout token.entry.span) }
+    {
+        match self.operations.last() {
+            None | Some(Operation::Else(_, _, _)) => self.open(GroupKind::If, token.span.start),
+            _ => Err(ParseFailure::Syntax(token.span, "an `if` behind an operator needs brackets")),
+        }
+    }
+
+    // A token behind an operand.
+    fn follow(&mut self, operand: Operand, token: Token<'_>, tokens: &mut TokenStream<'_>) -> Step
+        requires { IsFirst (max (open_start self.old) operand.span.start) token tokens.old }
+        ensures left { tokens_left tokens.new ≤ tokens_left tokens.old }
+        ensures goes_on { MatchResult result
+            (GoesOn tokens.old tokens.new self.new)
+            (IsWithin (stop_of tokens.old)) }
+    {
+        match token.kind {
+            TokenKind::Dot => self.dot(member(operand, token)?, tokens),
+            TokenKind::OpenSquare => self.bracket(member(operand, token)?, tokens),
+            TokenKind::Has | TokenKind::Like | TokenKind::Is => self.test(operand, token, tokens),
+            kind => match Infix::of(kind) {
+                Some(infix) => self.infix(infix, operand, token),
+                None => self.close(operand, token, tokens),
+            },
+        }
+    }
+
+    // `has`, `like` or `is` behind an operand.
+    fn test(&mut self, operand: Operand, token: Token<'_>, tokens: &mut TokenStream<'_>) -> Step
+        requires { IsFirst (max (open_start self.old) operand.span.start) token tokens.old }
+        ensures left { tokens_left tokens.new ≤ tokens_left tokens.old }
+        ensures goes_on { MatchResult result
+            (GoesOn tokens.old tokens.new self.new)
+            (IsWithin (stop_of tokens.old)) }
+    {
+        let left = self.left(operand, Precedence::Relation, Precedence::Sum, token)?;
+        match token.kind {
+            TokenKind::Has => self.has(left, tokens),
+            TokenKind::Like => self.like(left, tokens),
+            _ => self.is(left, tokens),
+        }
+    }
+
+    // An operator behind an operand.
+    #[tactic(auto, using(crate::proofs::Greatest::greatest_push))]
+    fn infix(&mut self, infix: Infix, operand: Operand, token: Token<'_>) -> Step
+        ensures { MatchResult result
+            (IsUpTo (max (open_start self.old) operand.span.start) self.new)
+            (IsAbout token.entry.span) }
+    {
+        let (own, least) = infix.precedences();
+        let left = self.left(operand, own, least, token)?;
+        self.operations.push(Operation::Infix(infix, left))?;
+        Ok(None)
+    }
+
+    // The left operand of an operator of a precedence: what binds as tightly is applied first. It has to
+    // bind at least as tightly as the operator asks.
+    fn left(
+        &mut self,
+        operand: Operand,
+        own: Precedence,
+        least: Precedence,
+        token: Token<'_>,
+    ) -> Result<Operand, ParseFailure>
+        ensures { MatchResult result
+            (λ h. IsUpTo (max (open_start self.old) operand.span.start) self.new (Some h))
+            (IsAbout token.entry.span) }
+    {
+        let operand = self.apply_down_to(own, operand)?;
+        if operand.precedence.number() < least.number() {
+            return Err(ParseFailure::Syntax(token.span, "what stands before this needs brackets"));
+        }
+        Ok(operand)
+    }
+
+    // Applies the operations that bind at least this tightly.
+    fn apply_down_to(&mut self, least: Precedence, last: Operand) -> Result<Operand, ParseFailure>
+        ensures { MatchResult result
+            (λ h. IsUpTo (max (open_start self.old) last.span.start) self.new (Some h))
+            (λ e. e ≡ Memory) }
+    {
+        let mut operand = last;
+        'operations: while let Some(operation) = self.pop_operation(least) {
+            operand = self.nodes.apply(operation, operand)?;
+        }
+        Ok(operand)
+    }
+
+    // Takes the last operation, if it binds at least this tightly.
+    #[tactic(auto, using(crate::proofs::Greatest::greatest_push))]
+    fn pop_operation(&mut self, least: Precedence) -> Option<Operation>
+        ensures fewer { IfSome result (λ _.
+            length self.new.operations.items < length self.old.operations.items) }
+        ensures opened { open_start self.new ≤ open_start self.old }
+        ensures start { IfSome result (λ o. start_of o ≤ open_start self.old) }
+    {
+        let precedence = self.operations.last()?.precedence();
+        if precedence.number() < least.number() {
+            return None;
+        }
+        self.operations.pop()
+    }
+
+    // A token that goes on with no operand: it goes on with the group around it, or ends that.
+    fn close(&mut self, last: Operand, token: Token<'_>, tokens: &mut TokenStream<'_>) -> Step
+        requires { IsFirst (max (open_start self.old) last.span.start) token tokens.old }
+        ensures left { tokens_left tokens.new ≤ tokens_left tokens.old }
+        ensures goes_on { MatchResult result
+            (GoesOn tokens.old tokens.new self.new)
+            (IsWithin (stop_of tokens.old)) }
+    {
+        let operand = self.apply_down_to(Precedence::Conditional, last)?;
+        match self.groups.pop() {
+            Some(group) => self.resume_group(group, operand.expr, token, tokens),
+            None => Err(ParseFailure::Syntax(token.span, "an operator or the end is wanted here")),
+        }
+    }
+
+    // The end of the text.
+    fn end(&mut self, operand: Option<Operand>, end: Token<'_>) -> Result<Expr, ParseFailure>
+        ensures { IfErr result (IsAbout end.entry.span) }
+    {
+        let Some(last) = operand else {
+            return Err(ParseFailure::Syntax(end.span, "an expression is wanted here"));
+        };
+        let operand = self.apply_down_to(Precedence::Conditional, last)?;
+        match self.groups.last() {
+            Some(group) => Err(ParseFailure::Syntax(end.span, group.wanted())),
+            None => Ok(operand.expr),
+        }
+    }
+
+    /// Opens a group with an operand. Within it none of the operations waits that are there.
+    #[tactic(auto, using(crate::proofs::Greatest::greatest_push))]
+    pub(crate) fn open(&mut self, kind: GroupKind, start: usize) -> Step
+        ensures { MatchResult result
+            (IsUpTo (max (open_start self.old) start) self.new)
+            (λ e. e ≡ Memory) }
+    {
+        let operations = mem::replace(&mut self.operations, Vec::new(self.nodes.alloc));
+        self.groups.push(Group {
+            kind,
+            start,
+            operations,
+        })?;
+        Ok(None)
+    }
+}
+
+// What `.` or `[` stands behind.
+fn member(operand: Operand, token: Token<'_>) -> Result<Operand, ParseFailure>
+    ensures { MatchResult result (λ h. h.span ≡ operand.span) (IsAbout token.entry.span) }
+{
+    match operand.precedence {
+        Precedence::Member => Ok(operand),
+        _ => Err(ParseFailure::Syntax(token.span, "what stands before this needs brackets")),
+    }
+}

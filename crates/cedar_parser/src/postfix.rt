@@ -1,0 +1,106 @@
+//! What follows an operand: attributes, methods, `has`, `like` and `is`.
+ghost use Rattle.std.specs.Prelude.{◌≤◌, MatchResult, max};
+ghost use Rattle.cedar_lexer.specs.Pieces.{tokens_left};
+ghost use Rattle.cedar_parser.specs.Refused.{GoesOn, IsBefore, IsWithin, open_start, stop_of};
+
+use crate::groups::RowKind;
+use crate::leaves::{Path, inside, key, text_of};
+use crate::operand::{Operand, Operation, Step};
+use crate::parser::Parser;
+use cedar_lexer::{ParseFailure, TokenKind, TokenStream, read_pattern};
+use cedar_names::NonEmpty;
+use cedar_terms::EntityType;
+use std::rc::RcStr;
+
+impl Parser<'_> {
+    /// An attribute behind a dot, or a method.
+    pub(crate) fn dot(&mut self, operand: Operand, tokens: &mut TokenStream<'_>) -> Step
+        requires { IsBefore (max (open_start self.old) operand.span.start) tokens.old }
+        ensures left { tokens_left tokens.new ≤ tokens_left tokens.old }
+        ensures goes_on { MatchResult result
+            (GoesOn tokens.old tokens.new self.new)
+            (IsWithin (stop_of tokens.old)) }
+    {
+        let alloc = self.nodes.alloc;
+        let name = tokens.expect(TokenKind::Word, "an identifier is wanted here")?;
+        let attr = RcStr::from_str(alloc, name.text)?;
+        if tokens.take_if(TokenKind::OpenRound).is_some() {
+            let start = operand.span.start;
+            let args = vec![in alloc; operand.expr]?;
+            return self.item(RowKind::Method(attr), args, start, tokens);
+        }
+        Ok(Some(self.nodes.get(operand, attr, name.span.stop)?))
+    }
+
+    /// An attribute in square brackets.
+    pub(crate) fn bracket(&mut self, operand: Operand, tokens: &mut TokenStream<'_>) -> Step
+        requires { IsBefore (max (open_start self.old) operand.span.start) tokens.old }
+        ensures left { tokens_left tokens.new ≤ tokens_left tokens.old }
+        ensures goes_on { MatchResult result
+            (GoesOn tokens.old tokens.new self.new)
+            (IsWithin (stop_of tokens.old)) }
+    {
+        let token = tokens.expect(TokenKind::Quoted, "an attribute in quotes is wanted here")?;
+        let attr = text_of(self.nodes.alloc, token)?;
+        let last = tokens.expect(TokenKind::CloseSquare, "`]` is wanted here")?;
+        Ok(Some(self.nodes.get(operand, attr, last.span.stop)?))
+    }
+
+    /// The attributes behind `has`, with dots between.
+    pub(crate) fn has(&mut self, left: Operand, tokens: &mut TokenStream<'_>) -> Step
+        requires { IsBefore (max (open_start self.old) left.span.start) tokens.old }
+        ensures left { tokens_left tokens.new ≤ tokens_left tokens.old }
+        ensures goes_on { MatchResult result
+            (GoesOn tokens.old tokens.new self.new)
+            (IsWithin (stop_of tokens.old)) }
+    {
+        let alloc = self.nodes.alloc;
+        let (head, mut stop) = key(alloc, tokens)?;
+        let mut tail = Vec::new(alloc);
+        'attributes: while tokens.take_if(TokenKind::Dot).is_some() {
+            let (attr, end) = key(alloc, tokens)?;
+            tail.push(attr)?;
+            stop = end;
+        }
+        Ok(Some(self.nodes.has(left, NonEmpty::new(head, tail), stop)?))
+    }
+
+    /// The pattern behind `like`.
+    pub(crate) fn like(&mut self, left: Operand, tokens: &mut TokenStream<'_>) -> Step
+        requires { IsBefore (max (open_start self.old) left.span.start) tokens.old }
+        ensures left { tokens_left tokens.new ≤ tokens_left tokens.old }
+        ensures goes_on { MatchResult result
+            (GoesOn tokens.old tokens.new self.new)
+            (IsWithin (stop_of tokens.old)) }
+    {
+        let token = tokens.expect(TokenKind::Quoted, "a pattern in quotes is wanted here")?;
+        match read_pattern(self.nodes.alloc, inside(token))? {
+            Some(pattern) => Ok(Some(self.nodes.like(left, pattern, token.span.stop)?)),
+            None => Err(ParseFailure::Syntax(
+                token.span,
+                "this pattern has an unknown escape, or a bare carriage return",
+            )),
+        }
+    }
+
+    /// The type behind `is`, and maybe `in`.
+    pub(crate) fn is(&mut self, left: Operand, tokens: &mut TokenStream<'_>) -> Step
+        requires { IsBefore (max (open_start self.old) left.span.start) tokens.old }
+        ensures left { tokens_left tokens.new ≤ tokens_left tokens.old }
+        ensures goes_on { MatchResult result
+            (GoesOn tokens.old tokens.new self.new)
+            (IsWithin (stop_of tokens.old)) }
+    {
+        let alloc = self.nodes.alloc;
+        let first = tokens.expect(TokenKind::Word, "the type of an entity is wanted here")?;
+        let path = Path::read(alloc, first, tokens)?;
+        let ty = EntityType::from(path.name(alloc)?);
+        if tokens.take_if(TokenKind::In).is_none() {
+            return Ok(Some(self.nodes.is(left, ty, path.span.stop)?));
+        }
+        let again = left.expr.clone(alloc)?;
+        let is = self.nodes.is(left, ty, path.span.stop)?;
+        self.operations.push(Operation::IsIn(is, again))?;
+        Ok(None)
+    }
+}

@@ -1,0 +1,62 @@
+-- The meaning of a part.
+use Rattle.std.specs.Prelude.{Bool, Option, Some, None, is_some, option_map, Ok, Err}
+use Rattle.std.specs.Global.{Global}
+use Rattle.std.specs.declared.rc.RcStr.{RcStr}
+use Rattle.cedar_terms.specs.Literals.{bare_literal}
+use Rattle.cedar_terms.specs.declared.literal.Literal.{Literal}
+use Rattle.cedar_builders.specs.BareExpr.{BareExpr}
+use Rattle.cedar_exprs.specs.BareExpr.{bare_expr}
+use Rattle.semantics_values.specs.BareValue.{BareValue, LitValue}
+use Rattle.cedar_values.specs.BareValues.{bare_value}
+use Rattle.cedar_values.specs.Holders.{NoExtension}
+use Rattle.cedar_values.specs.declared.value.Value.{Value}
+use Rattle.semantics_eval.specs.Outcomes.{Outcome}
+use Rattle.semantics_simplify.specs.Simplified as meant
+use Rattle.cedar_simplifier.specs.declared.kind.Kind.{Kind}
+use Rattle.cedar_simplifier.specs.declared.kind.Kind.TheVariants.{Known, Residual}
+use Rattle.cedar_simplifier.specs.declared.simplified.Simplified.{Simplified}
+use Rattle.cedar_simplifier.specs.declared.tree.Tree.{Tree}
+
+-- the bare tree of what is left
+abbrev pub bare_tree : Tree → BareExpr
+bare_tree t = bare_expr t.expr
+
+-- what a kind of part means
+abbrev pub bare_kind : Kind → meant.Simplified NoExtension
+bare_kind (Known v) = meant.Known (bare_value v)
+bare_kind (Residual t) = meant.Residual (bare_tree t)
+
+-- what a part means: the tree of its value, or the tree that is left
+abbrev pub meaning_of : Simplified → meant.Simplified NoExtension
+meaning_of p = bare_kind p.kind
+
+-- the value that is known, if any
+abbrev pub known_value : {X : Type 0} → meant.Simplified X → Option (BareValue X)
+known_value (meant.Known t) = Some t
+known_value (meant.Residual e) = None
+
+-- whether there is one
+abbrev pub is_known : {X : Type 0} → meant.Simplified X → Bool
+is_known p = is_some (known_value p)
+
+-- the value that a kind of part holds, if any
+abbrev pub value_in_kind : Kind → Option (Value NoExtension)
+value_in_kind (Known v) = Some v
+value_in_kind (Residual t) = None
+
+-- the value that a part holds, if any
+abbrev pub held_value : Simplified → Option (Value NoExtension)
+held_value p = value_in_kind p.kind
+
+-- the value that a part holds, with its key, if any
+abbrev pub held_pair : RcStr Global × Simplified → Option (RcStr Global × Value NoExtension)
+held_pair p = option_map (λ v. (p.0, v)) (held_value p.1)
+
+-- the value of an outcome, if it is one
+abbrev pub value_in : {X : Type 0} → Outcome X → Option (BareValue X)
+value_in (Ok t) = Some t
+value_in (Err m) = None
+
+-- a literal as a value, if there is one
+abbrev pub literal_value : {X : Type 0} → Option Literal → Option (BareValue X)
+literal_value = option_map (λ l. LitValue (bare_literal l))

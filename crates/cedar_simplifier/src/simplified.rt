@@ -1,0 +1,154 @@
+//! What the simplifier makes of an expression.
+ghost use Rattle.std.specs.Prelude.{◌≡◌, IsTrue, is_some};
+ghost use Rattle.cedar_terms.specs.Literals.{bare_literal};
+ghost use Rattle.cedar_exprs.specs.BareExpr.{bare_expr};
+ghost use Rattle.cedar_simplifier.specs.Kept.{is_kept};
+
+use crate::boolean::is_boolean_kind;
+use crate::kind::Kind;
+use crate::tree::Tree;
+use cedar_evaluator::operations::{as_bool, literal_value};
+use cedar_exprs::Expr;
+use cedar_terms::Literal;
+use cedar_values::{NoExtension, Value};
+use std::alloc::{AllocError, Global};
+
+/// What an expression is made: a well formed value that is known, whatever unknowns are bound to,
+/// or an expression that is left.
+///
+/// ```rust
+/// fn is_allowed(part: &Simplified) -> bool {
+///     match part.as_value() {
+///         Some(value) => matches!(value.try_as_lit(), Some(Literal::Bool(true))),
+///         None => false,
+///     }
+/// }
+/// ```
+#[derive(Debug, Drop)]
+pub struct Simplified {
+    kind: Kind,
+    ghost kept: { IsTrue (is_kept ⟦<NoExtension as Ord>⟧.cmp kind) },
+}
+
+impl Simplified {
+    ghost use Rattle.std.specs.Prelude.{IfOk, IfSome, option_map};
+    ghost use Rattle.cedar_values.specs.BareValues.{bare_value};
+    ghost use Rattle.cedar_values.specs.Holders.{held_call};
+    ghost use Rattle.cedar_values.specs.WellFormed.{well_formed};
+    ghost use Rattle.semantics_values.specs.BareValue.{LitValue};
+    ghost use Rattle.semantics_simplify.specs.Simplified as meant;
+    ghost use Rattle.cedar_simplifier.specs.Simplified.{bare_tree, held_value, known_value, meaning_of};
+
+    /// The value, if it is known.
+    pub fn as_value(&self) -> Option<&Value<NoExtension>>
+        ensures value { option_map (λ v. bare_value v.now) result
+            ≡ known_value (meaning_of self.now) }
+        ensures well_formed { IfSome result
+            (λ v. IsTrue (well_formed ⟦<NoExtension as Ord>⟧.cmp v.now)) }
+    {
+        match &self.kind {
+            Kind::Known(value) => Some(value),
+            Kind::Residual(_) => None,
+        }
+    }
+
+    /// The value, if it is known, of a consumed part.
+    pub fn into_value(self) -> Option<Value<NoExtension>>
+        ensures same { result ≡ held_value self }
+        ensures value { option_map bare_value result ≡ known_value (meaning_of self) }
+        ensures well_formed { IfSome result
+            (λ v. IsTrue (well_formed ⟦<NoExtension as Ord>⟧.cmp v)) }
+    {
+        let kind = self.kind;
+        match kind {
+            Kind::Known(value) => Some(value),
+            Kind::Residual(_) => None,
+        }
+    }
+
+    /// Whether the value is known.
+    pub fn is_known(&self) -> bool
+        ensures { result ≡ is_some (known_value (meaning_of self.now)) }
+    {
+        match &self.kind {
+            Kind::Known(_) => true,
+            Kind::Residual(_) => false,
+        }
+    }
+
+    /// The expression that is left, or that of the value.
+    pub fn into_expr(self, alloc: Global) -> Result<Expr, AllocError>
+        ensures { IfOk result (λ e. bare_expr e ≡ meant.tree_of held_call (meaning_of self)) }
+    {
+        Ok(self.into_tree(alloc)?.into_expr())
+    }
+
+    // The same, with whether it holds a call.
+    pub(crate) fn into_tree(self, alloc: Global) -> Result<Tree, AllocError>
+        ensures { IfOk result (λ t. bare_tree t ≡ meant.tree_of held_call (meaning_of self)) }
+    {
+        let kind = self.kind;
+        match kind {
+            Kind::Known(value) => Tree::of_value(alloc, &value),
+            Kind::Residual(tree) => Ok(tree),
+        }
+    }
+
+    // A well formed value.
+    pub(crate) fn known(value: Value<NoExtension>) -> Simplified
+        requires { IsTrue (well_formed ⟦<NoExtension as Ord>⟧.cmp value) }
+        ensures { meaning_of result ≡ meant.Known (bare_value value) }
+    {
+        Simplified {
+            kind: Kind::Known(value),
+        }
+    }
+
+    // A literal.
+    pub(crate) fn lit(literal: Literal) -> Simplified
+        ensures { meaning_of result ≡ meant.Known (LitValue (bare_literal literal)) }
+    {
+        Simplified {
+            kind: Kind::Known(literal_value(literal)),
+        }
+    }
+
+    // A tree that is left.
+    pub(crate) fn residual(tree: Tree) -> Simplified
+        ensures { meaning_of result ≡ meant.Residual (bare_tree tree) }
+    {
+        Simplified {
+            kind: Kind::Residual(tree),
+        }
+    }
+
+    // The Boolean that is known, if any.
+    pub(crate) fn truth(&self) -> Option<bool>
+        ensures { result ≡ meant.known_truth (meaning_of self.now) }
+    {
+        match &self.kind {
+            Kind::Known(value) => as_bool(value),
+            Kind::Residual(_) => None,
+        }
+    }
+
+    // Whether it is known, or holds no call.
+    pub(crate) fn calls_nothing(&self) -> bool
+        ensures { result ≡ meant.calls_nothing (meaning_of self.now) }
+    {
+        match &self.kind {
+            Kind::Known(_) => true,
+            Kind::Residual(tree) => tree.calls_nothing(),
+        }
+    }
+
+    // Whether it can only be a Boolean or a fault.
+    pub(crate) fn is_boolean(&self) -> bool
+        ensures { result ≡ meant.is_boolean (meaning_of self.now) }
+    {
+        match &self.kind {
+            Kind::Known(value) => as_bool(value).is_some(),
+            Kind::Residual(tree) => is_boolean_kind(tree.expr()),
+        }
+    }
+}

@@ -1,0 +1,5 @@
+pub mod Classes
+pub mod Ascending
+pub mod Unique
+pub mod Images
+pub mod Items

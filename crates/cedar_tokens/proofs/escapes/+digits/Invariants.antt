@@ -1,4 +1,0 @@
-use Rattle.cedar_tokens.proofs.escapes.+digits.Given as goal
-
-abbrev pub decreases-digits : goal.decreases-digits
-decreases-digits l = l.left

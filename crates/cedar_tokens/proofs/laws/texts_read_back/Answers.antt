@@ -1,8 +1,0 @@
-use Rattle.cedar_tokens.proofs.laws.texts_read_back.Goals as goal
-use Rattle.cedar_tokens.proofs.EscapeTexts.{pattern_written, text_written}
-
-pub returns-clause-texts : goal.returns-clause-texts
-returns-clause-texts c = text_written
-
-pub returns-clause-patterns : goal.returns-clause-patterns
-returns-clause-patterns c = pattern_written

@@ -1,8 +1,0 @@
-pub mod BareValue
-pub mod ValueOrder
-pub mod WellFormed
-pub mod RisingKeys
-pub mod ValueTypes
-pub mod ValueExpr
-pub mod Reading
-pub mod Laws

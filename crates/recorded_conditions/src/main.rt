@@ -1,0 +1,41 @@
+//! Answers, prints and reads conditions in Cedar's own syntax; those stored here were worked by
+//! hand, or are trees of recorded calls.
+//!
+//! The first argument names a file of conditions, one a line: each is shown with its answer. Each
+//! line of standard input is a tree, written as `docs/CALLS.md` says: it is printed, what was
+//! printed is read, and the two trees are compared. The second argument names a file of texts with
+//! blank lines between them: each is read, and the program shows its tree, and how it is printed
+//! again, or why it is not read. At last it reads a text as many levels deep as the third argument
+//! says.
+#![tactic(auto)]
+
+mod conditions;
+mod deep;
+mod texts;
+mod trees;
+
+use anyhow::{Result, bail};
+use std::{env, fs};
+
+fn main(rt: HostRuntime) -> Result<()> {
+    let (conditions_file, texts_file, levels) = arguments(&rt)?;
+    conditions::show(&rt, &fs::read_to_string(&rt, &conditions_file)?)?;
+    println!(rt)?;
+    trees::read_back(&rt)?;
+    texts::show(&rt, &fs::read_to_string(&rt, &texts_file)?)?;
+    deep::show(&rt, levels)?;
+    Ok(())
+}
+
+// The file of conditions, the file of texts, and the number of levels.
+fn arguments(rt: &HostRuntime) -> Result<(String, String, usize)> {
+    let mut words = env::args(rt)?.skip(1);
+    match (
+        words.next(),
+        words.next(),
+        words.next().and_then(|word| word.parse().ok()),
+    ) {
+        (Some(conditions), Some(texts), Some(levels)) => Ok((conditions, texts, levels)),
+        _ => bail!("usage: recorded_conditions CONDITIONS TEXTS LEVELS"),
+    }
+}

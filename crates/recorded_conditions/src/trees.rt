@@ -1,0 +1,62 @@
+//! Trees that are printed and read again.
+use calls_decode::expr;
+use calls_syntax::{CallError, parts};
+use cedar_exprs::Expr;
+use cedar_parser::{ParseError, SyntaxError, parse_expr};
+use cedar_printer::policy_text;
+use std::alloc::{AllocError, Global};
+use std::io::{self, BufRead as _, BufReader};
+use thiserror::Error;
+
+/// Compares each tree of standard input with what is read of its text, and shows those that differ.
+pub fn read_back(rt: &HostRuntime) -> io::Result<()> {
+    let mut trees = 0_u64;
+    let mut failed = 0_u64;
+    for row in BufReader::new(rt.alloc(), rt.reader())?.lines(rt.alloc()) {
+        let row = row?;
+        trees = trees.saturating_add(1);
+        if let Some(failure) = compare(rt.alloc(), &row)? {
+            failed = failed.saturating_add(1);
+            println!(rt; "{failure}: {row}")?;
+        }
+    }
+    println!(rt; "{trees} trees, {failed} failed")
+}
+
+// What may become of a row.
+#[derive(Debug, Drop, Error)]
+enum Failure {
+    #[error("another tree is read")]
+    Differs,
+    #[error("what is printed is not read, {0}")]
+    Refused(SyntaxError),
+    #[error("this is no tree")]
+    NoTree,
+}
+
+// Prints the tree of a row, reads that and compares.
+fn compare(alloc: Global, row: &str) -> Result<Option<Failure>, AllocError> {
+    match tree(alloc, row) {
+        Ok(tree) => compare_tree(alloc, &tree),
+        Err(CallError::Memory) => Err(AllocError),
+        Err(_) => Ok(Some(Failure::NoTree)),
+    }
+}
+
+fn compare_tree(alloc: Global, tree: &Expr) -> Result<Option<Failure>, AllocError> {
+    let text = policy_text(alloc, tree)?.text;
+    match parse_expr(alloc, &text) {
+        Ok(read) if tree.eq_shape(&read) => Ok(None),
+        Ok(_) => Ok(Some(Failure::Differs)),
+        Err(ParseError::Syntax(error)) => Ok(Some(Failure::Refused(error))),
+        Err(ParseError::Memory) => Err(AllocError),
+    }
+}
+
+// The tree of a row.
+fn tree(alloc: Global, row: &str) -> Result<Expr, CallError> {
+    match parts(alloc, row)?.as_slice() {
+        [part] => expr(alloc, part),
+        _ => Err(CallError::BadArguments),
+    }
+}

@@ -1,9 +1,0 @@
-//! Scripts with their records: each script of a corpus is worked, and what it shows and how it ends
-//! is compared with its record.
-#![tactic(auto)]
-
-mod comparison;
-mod corpus;
-
-pub use comparison::{CompareFault, Tally, compare, status};
-pub use corpus::{Fault, Malformed};

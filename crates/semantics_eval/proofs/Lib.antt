@@ -1,0 +1,9 @@
+pub mod Longs
+pub mod Kept
+pub mod Steady
+pub mod Folds
+pub mod Decided
+pub mod Closed
+pub mod Exact
+pub mod AscendingLists
+pub mod OneList

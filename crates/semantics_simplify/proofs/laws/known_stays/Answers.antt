@@ -1,0 +1,9 @@
+use Rattle.semantics_simplify.proofs.Values.{evaluator_laws}
+use Rattle.semantics_simplify.proofs.Sound as laws
+use Rattle.semantics_simplify.proofs.laws.known_stays.Goals as goal
+
+pub returns : goal.returns
+returns g c =
+    laws.known_stays
+    (evaluator_laws g.X.Ord.cmp g.X.PartialEq.eq c.value_kept.ensures c.ascending_lists.ensures)
+    c.substituted_by_fold.ensures

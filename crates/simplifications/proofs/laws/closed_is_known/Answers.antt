@@ -1,8 +1,0 @@
-use Rattle.simplifications.proofs.Values.{evaluator_laws}
-use Rattle.simplifications.proofs.Known as laws
-use Rattle.simplifications.proofs.laws.closed_is_known.Goals as goal
-
-pub returns : goal.returns
-returns g c =
-    laws.closed_is_known
-    (evaluator_laws g.X.Ord.cmp g.X.PartialEq.eq c.value_kept.ensures c.rising_lists.ensures)

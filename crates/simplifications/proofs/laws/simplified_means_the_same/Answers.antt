@@ -1,8 +1,0 @@
-use Rattle.simplifications.proofs.Values.{evaluator_laws}
-use Rattle.simplifications.proofs.Sound as laws
-use Rattle.simplifications.proofs.laws.simplified_means_the_same.Goals as goal
-
-pub returns : goal.returns
-returns g c =
-    laws.means_the_same
-    (evaluator_laws g.X.Ord.cmp g.X.PartialEq.eq c.value_kept.ensures c.rising_lists.ensures)

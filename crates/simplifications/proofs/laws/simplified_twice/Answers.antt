@@ -1,8 +1,0 @@
-use Rattle.simplifications.proofs.Values.{evaluator_laws}
-use Rattle.simplifications.proofs.Stages as laws
-use Rattle.simplifications.proofs.laws.simplified_twice.Goals as goal
-
-pub returns : goal.returns
-returns g c =
-    laws.simplified_twice
-    (evaluator_laws g.X.Ord.cmp g.X.PartialEq.eq c.value_kept.ensures c.rising_lists.ensures)

@@ -1,8 +1,0 @@
-use Rattle.simplifications.proofs.Values.{evaluator_laws}
-use Rattle.simplifications.proofs.Stages as laws
-use Rattle.simplifications.proofs.laws.stages_are_one.Goals as goal
-
-pub returns : goal.returns
-returns g c =
-    laws.stages_are_one
-    (evaluator_laws g.X.Ord.cmp g.X.PartialEq.eq c.value_kept.ensures c.rising_lists.ensures)

@@ -1,5 +1,0 @@
-use Rattle.sorted_slices.specs.Items.{none_by_items}
-use Rattle.sorted_slices.proofs.laws.none_is_any.Goals as goal
-
-pub returns : goal.returns
-returns g c = none_by_items g.met.T.Ord.total
