@@ -10,3 +10,4 @@ pub mod Types
 pub mod TypeOrder
 pub mod Unknowns
 pub mod SchemaTypes
+pub mod Precedences
