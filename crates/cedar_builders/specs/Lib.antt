@@ -23,3 +23,4 @@ pub mod ShapeFeed
 pub mod NestedKeys
 pub mod ShapeOrder
 pub mod Queries
+pub mod Ropes
