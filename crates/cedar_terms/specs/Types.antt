@@ -1,5 +1,5 @@
 -- Types without places, and their texts (Cedar's file `types.rs`).
-use Rattle.std.specs.Prelude.{ℕ, List, ◌++◌, Option, None, codes}
+use Rattle.std.specs.Prelude.{ℕ, Bool, true, false, List, ◌++◌, Option, None, codes}
 use Rattle.cedar_names.specs.Names.{BareName, name_text}
 use Rattle.cedar_names.specs.Place.{Place}
 use Rattle.cedar_names.specs.PlainNames.{bare_name, name_place}
@@ -43,6 +43,12 @@ type_text SetType = codes "set"
 type_text RecordType = codes "record"
 type_text (EntityOfType n) = codes "(entity of type `" ++ (name_text n ++ codes "`)")
 type_text (ExtensionType n) = name_text n
+
+-- whether a type has no name of its own
+abbrev pub is_plain_type : BareType → Bool
+is_plain_type (EntityOfType n) = false
+is_plain_type (ExtensionType n) = false
+is_plain_type other = true
 
 -- the type of an entity, and of a literal
 abbrev pub entity_uid_type : BareEntityUID → BareType

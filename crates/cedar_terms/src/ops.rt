@@ -1,6 +1,8 @@
 //! Built-in operators (Cedar's file `ops.rs`).
-ghost use Rattle.std.specs.Prelude.{Some};
+ghost use Rattle.std.specs.Prelude.{◌≡◌, ◌≢◌, IfNone, IfSome, Some};
 ghost use Rattle.cedar_terms.specs.Ops.{unary_op_text, binary_op_text};
+ghost use Rattle.cedar_terms.specs.declared.ops.BinaryOp.{BinaryOp};
+ghost use Rattle.cedar_terms.specs.declared.ops.UnaryOp.{UnaryOp};
 
 use std::fmt;
 
@@ -13,6 +15,21 @@ pub enum UnaryOp {
     Neg,
     /// Whether a set is empty, `isEmpty`.
     IsEmpty,
+}
+
+impl UnaryOp {
+    /// The operator that has this text, which is the one that it is shown by.
+    pub fn from_text(text: &str) -> Option<UnaryOp>
+        ensures found { IfSome result (λ op. text.now ≡ unary_op_text op) }
+        ensures every { IfNone result ((op : UnaryOp) → text.now ≢ unary_op_text op) }
+    {
+        match text {
+            "!" => Some(UnaryOp::Not),
+            "-" => Some(UnaryOp::Neg),
+            "isEmpty" => Some(UnaryOp::IsEmpty),
+            _ => None,
+        }
+    }
 }
 
 impl fmt::Display for UnaryOp {
@@ -54,6 +71,30 @@ pub enum BinaryOp {
     GetTag,
     /// Whether an entity has a tag, `hasTag`.
     HasTag,
+}
+
+impl BinaryOp {
+    /// The operator that has this text, which is the one that it is shown by.
+    pub fn from_text(text: &str) -> Option<BinaryOp>
+        ensures found { IfSome result (λ op. text.now ≡ binary_op_text op) }
+        ensures every { IfNone result ((op : BinaryOp) → text.now ≢ binary_op_text op) }
+    {
+        match text {
+            "==" => Some(BinaryOp::Eq),
+            "<" => Some(BinaryOp::Less),
+            "<=" => Some(BinaryOp::LessEq),
+            "+" => Some(BinaryOp::Add),
+            "-" => Some(BinaryOp::Sub),
+            "*" => Some(BinaryOp::Mul),
+            "in" => Some(BinaryOp::In),
+            "contains" => Some(BinaryOp::Contains),
+            "containsAll" => Some(BinaryOp::ContainsAll),
+            "containsAny" => Some(BinaryOp::ContainsAny),
+            "getTag" => Some(BinaryOp::GetTag),
+            "hasTag" => Some(BinaryOp::HasTag),
+            _ => None,
+        }
+    }
 }
 
 impl fmt::Display for BinaryOp {

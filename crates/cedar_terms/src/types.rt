@@ -1,5 +1,5 @@
 //! Types of values (Cedar's file `types.rs`).
-ghost use Rattle.std.specs.Prelude.{◌≡◌, IfOk, Some, refl};
+ghost use Rattle.std.specs.Prelude.{◌≡◌, ◌≢◌, IfNone, IfOk, IfSome, IsTrue, None, Some, refl};
 ghost use Rattle.std.specs.Cmp.{partial_equiv_from_equiv, on_equiv, on_po, on_total};
 ghost use Rattle.std.specs.Ordering.{as_partial_cmp, on};
 ghost use Rattle.cedar_names.specs.PlainNames.{bare_name, name_place};
@@ -10,6 +10,7 @@ ghost use Rattle.cedar_terms.specs.Types.{
   EntityOfType,
   bare_type,
   entity_uid_type,
+  is_plain_type,
   literal_type,
   type_place,
   type_text,
@@ -70,6 +71,24 @@ impl Type {
     {
         let ty = EntityType::from(name);
         Type::Entity { ty }
+    }
+
+    /// The type that has this text, of those without a name of their own: `bool`, `long`, `string`,
+    /// `set` or `record`.
+    pub fn from_text(text: &str) -> Option<Type>
+        ensures found { IfSome result (λ ty. text.now ≡ type_text (bare_type ty)) }
+        ensures plain { IfSome result (λ ty. IsTrue (is_plain_type (bare_type ty))) }
+        ensures every { IfNone result
+            ((ty : BareType) → IsTrue (is_plain_type ty) → text.now ≢ type_text ty) }
+    {
+        match text {
+            "bool" => Some(Type::Bool),
+            "long" => Some(Type::Long),
+            "string" => Some(Type::String),
+            "set" => Some(Type::Set),
+            "record" => Some(Type::Record),
+            _ => None,
+        }
     }
 
     /// A copy, with the place of its name.

@@ -1,6 +1,7 @@
 //! The variables of a request (Cedar's file `expr.rs`).
-ghost use Rattle.std.specs.Prelude.{◌≡◌, IfOk, Some};
+ghost use Rattle.std.specs.Prelude.{◌≡◌, ◌≢◌, IfNone, IfOk, IfSome, Some};
 ghost use Rattle.cedar_terms.specs.Ops.{var_of, var_text};
+ghost use Rattle.cedar_terms.specs.declared.var.Var.{Var};
 
 use crate::known::{known_id, known_unreserved_id};
 use cedar_names::{Id, PrincipalOrResource, UnreservedId};
@@ -21,6 +22,20 @@ pub enum Var {
 }
 
 impl Var {
+    /// The variable that has this text, which is the one that it is shown by.
+    pub fn from_text(text: &str) -> Option<Var>
+        ensures found { IfSome result (λ var. text.now ≡ var_text var) }
+        ensures every { IfNone result ((var : Var) → text.now ≢ var_text var) }
+    {
+        match text {
+            "principal" => Some(Var::Principal),
+            "action" => Some(Var::Action),
+            "resource" => Some(Var::Resource),
+            "context" => Some(Var::Context),
+            _ => None,
+        }
+    }
+
     /// The variable's text as an identifier.
     pub fn to_id(self, alloc: Global) -> Result<Id, AllocError>
         ensures { IfOk result (λ id. id ≡ var_text self) }
