@@ -1,7 +1,10 @@
 //! Errors of making expressions (Cedar's `expr.rs`).
 ghost use Rattle.std.specs.Prelude.{◌≡◌, codes, IfOk};
 ghost use Rattle.std.specs.Rc.{rc_str_bytes};
-ghost use Rattle.cedar_builders.specs.declared.expression_construction_errors.ExpressionConstructionError.TheVariants.{DuplicateKey, Memory};
+ghost use Rattle.cedar_builders.specs.declared.expression_construction_errors.ExpressionConstructionError.TheVariants.{
+  DuplicateKey,
+  Memory,
+};
 ghost use Rattle.cedar_builders.specs.Errors.{key_of, context_of, SaysTheSame};
 
 use std::alloc::{AllocError, AllocFailed, Global};

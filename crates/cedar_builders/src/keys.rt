@@ -1,6 +1,14 @@
 //! Maps of pairs that come in any order.
 ghost use Rattle.std.specs.Prelude.{◌≡◌, IfOk, IfErr, OnOk, IsTrue, codes};
-ghost use Rattle.cedar_builders.specs.Keys.{keys_of, are_distinct, keyed, in_key_order, IsFirstRepeat, IsAscending, HasRepeat};
+ghost use Rattle.cedar_builders.specs.Keys.{
+  keys_of,
+  are_distinct,
+  keyed,
+  in_key_order,
+  IsFirstRepeat,
+  IsAscending,
+  HasRepeat,
+};
 ghost use Rattle.cedar_builders.specs.Errors.{key_of, context_of, OnDuplicateKey};
 ghost use Rattle.cedar_builders.specs.declared.expression_construction_errors.ExpressionConstructionError.TheVariants as error;
 

@@ -6,8 +6,22 @@ ghost use Rattle.std.specs.Cmp.{IsTotalOrder};
 ghost use Rattle.std.specs.declared.cmp.Ordering.TheVariants.{Equal};
 ghost use Rattle.cedar_terms.specs.Literals.{BareLiteral};
 ghost use Rattle.cedar_builders.specs.BareExpr.{BareExpr, Lit, If, Set, no_trees, tree};
-ghost use Rattle.cedar_builders.specs.Keys.{keys_of, keyed, are_distinct, in_key_order, IsInKeyOrder};
-ghost use Rattle.cedar_builders.specs.Laws.{BuiltAfter, RebuiltTwice, SubstitutedTwice, ThenIsBoth, ThenIsNotAlwaysBoth, SubstitutedByFold, RestrictedRebuilt};
+ghost use Rattle.cedar_builders.specs.Keys.{
+  keys_of,
+  keyed,
+  are_distinct,
+  in_key_order,
+  IsInKeyOrder,
+};
+ghost use Rattle.cedar_builders.specs.Laws.{
+  BuiltAfter,
+  RebuiltTwice,
+  SubstitutedTwice,
+  ThenIsBoth,
+  ThenIsNotAlwaysBoth,
+  SubstitutedByFold,
+  RestrictedRebuilt,
+};
 ghost use Rattle.cedar_builders.specs.Shapes.{shape_cmp};
 ghost use Rattle.cedar_builders.specs.TypeClash.{ClashByChildren};
 ghost use Rattle.cedar_builders.specs.Walks.{need};
@@ -62,7 +76,8 @@ pub fn clash_by_children()
     ensures { ClashByChildren }
 {}
 
-/// Pairs with distinct keys, in the order of their keys: the same pairs, whose keys strictly ascend.
+/// Pairs with distinct keys, in the order of their keys: the same pairs, whose keys strictly
+/// ascend.
 pub fn pairs_in_key_order<A>(pairs: &[(RcStr, A)])
     ensures { IsTrue (are_distinct (keys_of pairs.now))
         → IsInKeyOrder (keyed pairs.now) (in_key_order (keyed pairs.now)) }

@@ -34,7 +34,9 @@ impl SubstitutionError {
 }
 
 impl From<AllocError> for SubstitutionError {
-    ghost use Rattle.cedar_builders.specs.declared.substitution_error.SubstitutionError.TheVariants.{Memory};
+    ghost use Rattle.cedar_builders.specs.declared.substitution_error.SubstitutionError.TheVariants.{
+      Memory,
+    };
 
     ghost from_gives = { λ _ e. e ≡ Memory };
 

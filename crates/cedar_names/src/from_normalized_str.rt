@@ -7,8 +7,8 @@ use crate::err::ParseErrors;
 use std::alloc::Global;
 
 /// What can be read from a text in its normalized form: with no spaces and no comments
-/// (Cedar's file `from_normalized_str.rs`). `Id`, `UnreservedId`, `AnyId`, `InternalName` and `Name`
-/// have it; the trait has to be in scope.
+/// (Cedar's file `from_normalized_str.rs`). `Id`, `UnreservedId`, `AnyId`, `InternalName` and
+/// `Name` have it; the trait has to be in scope.
 ///
 /// ```rust
 /// let name = Name::from_normalized_str(alloc, "A::b")?;

@@ -1,15 +1,52 @@
 //! Identifiers.
-ghost use Rattle.std.specs.Prelude.{◌≡◌, IsTrue, IfOk, IfErr, MatchResult, Some, None, true, false, codes, List, ℕ, nat_eq, refl};
+ghost use Rattle.std.specs.Prelude.{
+  ◌≡◌,
+  IsTrue,
+  IfOk,
+  IfErr,
+  MatchResult,
+  Some,
+  None,
+  true,
+  false,
+  codes,
+  List,
+  ℕ,
+  nat_eq,
+  refl,
+};
 ghost use Rattle.std.specs.List.{list_all};
 ghost use Rattle.std.specs.Rc.{rc_str_bytes};
 ghost use Rattle.std.specs.Ordering.{nat_cmp};
 ghost use Rattle.std.specs.Hash as fed;
 ghost use Rattle.std.specs.Cmp.{partial_equiv_from_equiv};
-ghost use Rattle.std.specs.Cmp.Lexicographic.{pointwise, slice_cmp, nat_list_eq_equiv, nat_list_cmp_total, texts_ties, texts_po, bytes_decides};
+ghost use Rattle.std.specs.Cmp.Lexicographic.{
+  pointwise,
+  slice_cmp,
+  nat_list_eq_equiv,
+  nat_list_cmp_total,
+  texts_ties,
+  texts_po,
+  bytes_decides,
+};
 ghost use Rattle.std.proofs.Common.{ap};
-ghost use Rattle.cedar_names.specs.Grammar.{is_start, is_part, is_any_id, is_keyword, is_id, is_reserved, is_unreserved_id};
+ghost use Rattle.cedar_names.specs.Grammar.{
+  is_start,
+  is_part,
+  is_any_id,
+  is_keyword,
+  is_id,
+  is_reserved,
+  is_unreserved_id,
+};
 ghost use Rattle.cedar_names.specs.Names.{unqualified};
-ghost use Rattle.cedar_names.specs.Readers.{OnReadError, IsNeverReserved, IsReservedId, refused_name, refused_place};
+ghost use Rattle.cedar_names.specs.Readers.{
+  OnReadError,
+  IsNeverReserved,
+  IsReservedId,
+  refused_name,
+  refused_place,
+};
 
 use crate::err::{ParseErrors, ReservedNameError};
 use crate::from_normalized_str::FromNormalizedStr;

@@ -1,5 +1,21 @@
 //! Names with namespaces.
-ghost use Rattle.std.specs.Prelude.{◌≡◌, ◌≢◌, ℕ, [], MatchResult, Some, None, refl, IfOk, IfErr, codes, false, IsTrue, ◌↔◌, ◌∷◌};
+ghost use Rattle.std.specs.Prelude.{
+  ◌≡◌,
+  ◌≢◌,
+  ℕ,
+  [],
+  MatchResult,
+  Some,
+  None,
+  refl,
+  IfOk,
+  IfErr,
+  codes,
+  false,
+  IsTrue,
+  ◌↔◌,
+  ◌∷◌,
+};
 ghost use Rattle.std.specs.List.{list_any};
 ghost use Rattle.std.specs.Option.{option_copied, option_map};
 ghost use Rattle.std.specs.Slice.Iter.{iter_rest};
@@ -7,9 +23,31 @@ ghost use Rattle.std.specs.String.{string_bytes};
 ghost use Rattle.std.specs.Ordering.{on, as_partial_cmp};
 ghost use Rattle.std.specs.Cmp.{partial_equiv_from_equiv, on_equiv, on_po, on_total};
 ghost use Rattle.cedar_names.specs.Grammar.{is_id, is_reserved};
-ghost use Rattle.cedar_names.specs.Names.{has_reserved, qualified, unqualified, within, joined_text, name_text, IsNameOf, IsNameText};
-ghost use Rattle.cedar_names.specs.NameOrder.{name_eq, name_eq_equiv, name_cmp, name_cmp_total, name_ties, name_po, name_fed, name_fed-alike};
-ghost use Rattle.cedar_names.specs.InternalNames.{bare_internal_name, internal_name_place, IsWholeOf};
+ghost use Rattle.cedar_names.specs.Names.{
+  has_reserved,
+  qualified,
+  unqualified,
+  within,
+  joined_text,
+  name_text,
+  IsNameOf,
+  IsNameText,
+};
+ghost use Rattle.cedar_names.specs.NameOrder.{
+  name_eq,
+  name_eq_equiv,
+  name_cmp,
+  name_cmp_total,
+  name_ties,
+  name_po,
+  name_fed,
+  name_fed-alike,
+};
+ghost use Rattle.cedar_names.specs.InternalNames.{
+  bare_internal_name,
+  internal_name_place,
+  IsWholeOf,
+};
 ghost use Rattle.cedar_names.specs.PlainNames.{bare_name};
 ghost use Rattle.cedar_names.specs.Readers.{OnReadError, IsNeverReserved};
 

@@ -4,7 +4,16 @@ ghost use Rattle.std.specs.Option.{option_copied};
 ghost use Rattle.std.specs.Rc.{rc_str_bytes};
 ghost use Rattle.std.specs.Ordering.{as_partial_cmp};
 ghost use Rattle.std.specs.Cmp.{partial_equiv_from_equiv};
-ghost use Rattle.cedar_names.specs.Place.{place_eq, place_eq_equiv, place_cmp, place_cmp_total, place_ties, place_po, place_fed, place_fed-alike};
+ghost use Rattle.cedar_names.specs.Place.{
+  place_eq,
+  place_eq_equiv,
+  place_cmp,
+  place_cmp_total,
+  place_ties,
+  place_po,
+  place_fed,
+  place_fed-alike,
+};
 
 use std::alloc::{AllocError, Global};
 use std::cmp::Ordering;

@@ -1,9 +1,34 @@
 //! Names without the component `__cedar`.
-ghost use Rattle.std.specs.Prelude.{◌≡◌, ◌≢◌, ◌↔◌, [], IfOk, IfErr, IsTrue, MatchResult, Some, None, true, false, codes};
+ghost use Rattle.std.specs.Prelude.{
+  ◌≡◌,
+  ◌≢◌,
+  ◌↔◌,
+  [],
+  IfOk,
+  IfErr,
+  IsTrue,
+  MatchResult,
+  Some,
+  None,
+  true,
+  false,
+  codes,
+};
 ghost use Rattle.std.specs.Option.{option_copied, option_map};
 ghost use Rattle.cedar_names.specs.Grammar.{is_id};
-ghost use Rattle.cedar_names.specs.Names.{has_reserved, qualified, unqualified, name_text, IsNameOf, IsNameText};
-ghost use Rattle.cedar_names.specs.InternalNames.{bare_internal_name, internal_name_place, IsWholeOf};
+ghost use Rattle.cedar_names.specs.Names.{
+  has_reserved,
+  qualified,
+  unqualified,
+  name_text,
+  IsNameOf,
+  IsNameText,
+};
+ghost use Rattle.cedar_names.specs.InternalNames.{
+  bare_internal_name,
+  internal_name_place,
+  IsWholeOf,
+};
 
 use crate::err::{ParseErrors, ReservedNameError};
 use crate::from_normalized_str::FromNormalizedStr;

@@ -1,12 +1,40 @@
 //! Names that are not yet qualified, and what they may stand for.
-ghost use Rattle.std.specs.Prelude.{◌≡◌, ◌↔◌, [], ◌∷◌, All, IsTrue, IfOk, IfErr, MatchResult, None, Some, codes, false, map, position};
+ghost use Rattle.std.specs.Prelude.{
+  ◌≡◌,
+  ◌↔◌,
+  [],
+  ◌∷◌,
+  All,
+  IsTrue,
+  IfOk,
+  IfErr,
+  MatchResult,
+  None,
+  Some,
+  codes,
+  false,
+  map,
+  position,
+};
 ghost use Rattle.std.specs.Option.{option_copied, option_map};
 ghost use Rattle.cedar_names.specs.Grammar.{is_id};
 ghost use Rattle.cedar_names.specs.Names.{unqualified, qualified, name_text, IsNameOf, IsNameText};
-ghost use Rattle.cedar_names.specs.InternalNames.{bare_internal_name, internal_name_place, IsWholeOf};
+ghost use Rattle.cedar_names.specs.InternalNames.{
+  bare_internal_name,
+  internal_name_place,
+  IsWholeOf,
+};
 ghost use Rattle.cedar_names.specs.PlainNames.{bare_name};
 ghost use Rattle.cedar_names.specs.Readers.{OnReadError, IsNeverReserved};
-ghost use Rattle.cedar_names.specs.RawNames.{written, bare_raw_name, raw_name_place, possible_names, raw_of, possibilities_of, kind_of};
+ghost use Rattle.cedar_names.specs.RawNames.{
+  written,
+  bare_raw_name,
+  raw_name_place,
+  possible_names,
+  raw_of,
+  possibilities_of,
+  kind_of,
+};
 ghost use Rattle.cedar_names.specs.Resolution.{is_declared, resolved};
 
 use crate::all_defs::AllDefs;

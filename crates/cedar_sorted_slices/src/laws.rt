@@ -1,11 +1,11 @@
-//! What a strictly ascending list is, among the lists of its classes, and what is asked of two lists
-//! by their classes.
+//! What a strictly ascending list is, among the lists of its classes, and what is asked of two
+//! lists by their classes.
 //!
 //! Each function here does nothing: its contract is the law, for each ordered type.
 ghost use Rattle.cedar_sorted_slices.specs.Classes.{AreAsLong, NoneIsAny, PartIsAll, TieWhereSame};
 
-/// Two strictly ascending lists have the same classes just where they tie item by item; and then they
-/// are equally long, so the length of one is the number of its classes.
+/// Two strictly ascending lists have the same classes just where they tie item by item; and then
+/// they are equally long, so the length of one is the number of its classes.
 pub fn ascending_lists_are_unique<T: Ord>()
     ensures ties { TieWhereSame T.cmp }
     ensures lengths { AreAsLong T.cmp }

@@ -8,7 +8,13 @@ ghost use Rattle.std.specs.Prelude.{◌≡◌, ◌↔◌, IsTrue};
 ghost use Rattle.std.specs.List.{IsDistinct};
 ghost use Rattle.std.specs.List.Sorted.{IsStrictlySortedBy};
 ghost use Rattle.std.specs.Ordering.{eq_by_cmp};
-ghost use Rattle.cedar_sorted_slices.specs.Classes.{HaveNoneInCommon, IsClassesOf, IsPartOf, has_class, ascends};
+ghost use Rattle.cedar_sorted_slices.specs.Classes.{
+  HaveNoneInCommon,
+  IsClassesOf,
+  IsPartOf,
+  has_class,
+  ascends,
+};
 
 pub mod laws;
 mod merging;
@@ -22,8 +28,8 @@ use searching::{are_all_found, is_none_found};
 // count of comparisons they meet at the binary logarithm of the length, which is 17 there.
 const SEARCHED: usize = 32;
 
-/// One item of each class, strictly ascending. Each is one of those handed in; of several in one class
-/// it is not said which. No memory is taken but what the vector has.
+/// One item of each class, strictly ascending. Each is one of those handed in; of several in one
+/// class it is not said which. No memory is taken but what the vector has.
 pub fn into_ascending<T: Ord + Drop>(mut items: Vec<T>) -> Vec<T>
     ensures { IsClassesOf T.cmp result.items items.items }
 {

@@ -1,7 +1,11 @@
 //! How tightly the texts of expressions bind.
 ghost use Rattle.std.specs.Prelude.{◌≡◌};
 ghost use Rattle.cedar_terms.specs.Literals.{bare_literal};
-ghost use Rattle.cedar_terms.specs.Precedences.{infix_precedences, literal_precedence, precedence_number};
+ghost use Rattle.cedar_terms.specs.Precedences.{
+  infix_precedences,
+  literal_precedence,
+  precedence_number,
+};
 
 use crate::literal::Literal;
 use crate::ops::BinaryOp;
@@ -54,8 +58,8 @@ impl Precedence {
         }
     }
 
-    /// Those of an operator that stands between its operands: its own, and the least ones of the left
-    /// and of the right operand. None of an operator that is written as a method.
+    /// Those of an operator that stands between its operands: its own, and the least ones of the
+    /// left and of the right operand. None of an operator that is written as a method.
     pub fn of_infix(op: BinaryOp) -> Option<(Precedence, Precedence, Precedence)>
         ensures { result ≡ infix_precedences op }
     {

@@ -41,8 +41,8 @@ impl Unknown {
         }
     }
 
-    /// The unknown of this name, annotated with a type. Typed substitution refuses a value of another
-    /// type; substitution and evaluation look at no type.
+    /// The unknown of this name, annotated with a type. Typed substitution refuses a value of
+    /// another type; substitution and evaluation look at no type.
     pub fn new_with_type(name: RcStr, ty: Type) -> Unknown
         ensures bare { bare_unknown result ≡
             record { name = rc_str_bytes name; annotation = Some (bare_type ty) } }

@@ -49,7 +49,9 @@ impl ExprValidationError {
 }
 
 impl From<AllocError> for ExprValidationError {
-    ghost use Rattle.cedar_validation.specs.declared.expr_validation_error.ExprValidationError.TheVariants.{Memory};
+    ghost use Rattle.cedar_validation.specs.declared.expr_validation_error.ExprValidationError.TheVariants.{
+      Memory,
+    };
 
     ghost from_gives = { λ _ e. e ≡ Memory };
 
