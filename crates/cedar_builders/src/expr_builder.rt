@@ -55,6 +55,16 @@ impl<E, T: Drop> From<AllocFailed<T>> for BuildFault<E> {
     }
 }
 
+// Where the builder has no error of its own, only memory is left to be refused.
+impl From<BuildFault<Infallible>> for AllocError {
+    fn from(fault: BuildFault<Infallible>) -> AllocError {
+        match fault {
+            BuildFault::Build(never) => match never {},
+            BuildFault::Memory => AllocError,
+        }
+    }
+}
+
 impl<E: fmt::Display> fmt::Display for BuildFault<E> {
     ghost output = { build_fault_text E.output };
 
