@@ -1,5 +1,6 @@
 -- Two strictly ascending lists of which one is shorter, or ends before the other begins.
 use Rattle.std.proofs.Common.{◌≡◌, ℕ, zero, suc, ◌+◌, ◌-◌, ◌≤◌, ◌||◌, false, List, [], ◌∷◌, length, slice_get, Some, refl, sym, ap, subst, ◌∙◌, arith}
+use Rattle.std.proofs.lemmas.Bool.{both_ways}
 use Rattle.std.proofs.lemmas.Map.Keys.{sorted_tail}
 use Rattle.std.specs.Cmp.{IsTotalOrder, alike_right}
 use Rattle.std.specs.List.{AllByRecursion}
@@ -8,14 +9,14 @@ use Rattle.std.specs.Ordering.{is_eq, ordering_reverse}
 use Rattle.std.specs.declared.cmp.Ordering.{Ordering}
 use Rattle.std.specs.declared.cmp.Ordering.TheVariants.{Less, Greater}
 use Rattle.cedar_sorted_slices.specs.Classes.{has_class, IsPartOf, HaveNoneInCommon}
-use Rattle.cedar_sorted_slices.specs.Unique.{false≢, by_order, has_first}
+use Rattle.cedar_sorted_slices.specs.Unique.{by_order, has_first}
 use Rattle.cedar_sorted_slices.proofs.FirstItems.{before_first, not_part, part_of_both, part_of_rest, swapped}
 
 module _ {K : Type 0} {R : K → K → Ordering} (o : IsTotalOrder R) where
   -- what is part of a list is no longer
   pub no_longer : (xs ys : List K) → IsStrictlySortedBy R xs → IsStrictlySortedBy R ys → IsPartOf R xs ys → length xs ≤ length ys
   no_longer [] ys s t h = omega arith
-  no_longer (x ∷ xs) [] s t h = absurd (false≢ false refl (h x (has_first o x xs)))
+  no_longer (x ∷ xs) [] s t h = absurd (both_ways false refl (h x (has_first o x xs)))
   no_longer (x ∷ xs) (y ∷ ys) s t h =
       by_order (R x y)
       (λ l. absurd (not_part o x xs y ys l t h))
@@ -45,8 +46,8 @@ module _ {K : Type 0} {R : K → K → Ordering} (o : IsTotalOrder R) where
   apart xs (y ∷ ys) last first s t at_last at_first l q h g =
       let same : first ≡ y = cc in
       let before : R last y ≡ Less = subst (λ v. R last v ≡ Less) same l in
-      let none : R last q ≡ Less → ⊥ = λ l. false≢ _ (not_below q xs (below_last xs (length xs - 1) last q s at_last (omega arith) l)) h in
+      let none : R last q ≡ Less → ⊥ = λ l. both_ways _ (not_below q xs (below_last xs (length xs - 1) last q s at_last (omega arith) l)) h in
       by_order (R y q)
       (λ l. none (o.trans last y q before l))
       (λ e. none (sym (alike_right o y q last e) ∙ before))
-      (λ g'. false≢ _ (before_first o q y ys (swapped o y q g') t) g)
+      (λ g'. both_ways _ (before_first o q y ys (swapped o y q g') t) g)

@@ -1,5 +1,6 @@
 -- The first items of two strictly ascending lists are compared: what is left says what the whole says.
 use Rattle.std.proofs.Common.{◌≡◌, Bool, true, false, ◌||◌, ◌↔◌, List, [], ◌∷◌, length, refl, sym, ap, subst, ◌∙◌, arith}
+use Rattle.std.proofs.lemmas.Bool.{both_ways, or_right}
 use Rattle.std.proofs.lemmas.Map.Keys.{sorted_tail}
 use Rattle.std.specs.Cmp.{IsTotalOrder, Equal-is}
 use Rattle.std.specs.List.Sorted.{IsStrictlySortedBy}
@@ -7,16 +8,12 @@ use Rattle.std.specs.Ordering.{eq_by_cmp, is_eq, ordering_reverse}
 use Rattle.std.specs.declared.cmp.Ordering.{Ordering}
 use Rattle.std.specs.declared.cmp.Ordering.TheVariants.{Less, Equal, Greater}
 use Rattle.cedar_sorted_slices.specs.Classes.{has_class, IsPartOf, HaveNoneInCommon}
-use Rattle.cedar_sorted_slices.specs.Unique.{false≢, has_alike, not_above, lower, level, has_first}
+use Rattle.cedar_sorted_slices.specs.Unique.{has_alike, not_above, lower, level, has_first}
 
 -- a class of a list is that of the first item, or in the rest
 first_or_rest : {P : Type 0} (a b : Bool) → (a || b) ≡ true → (a ≡ true → P) → (b ≡ true → P) → P
 first_or_rest true b h f r = f refl
 first_or_rest false b h f r = r h
-
-or_rest : (a b : Bool) → b ≡ true → (a || b) ≡ true
-or_rest true b h = refl
-or_rest false b h = h
 
 module _ {K : Type 0} {R : K → K → Ordering} (o : IsTotalOrder R) where
   -- what is before the first item has no class in the list
@@ -38,26 +35,26 @@ module _ {K : Type 0} {R : K → K → Ordering} (o : IsTotalOrder R) where
 
   -- the first list's first item is below all of the second: it is not in there
   pub not_part : (x : K) (xs : List K) (y : K) (ys : List K) → R x y ≡ Less → IsStrictlySortedBy R (y ∷ ys) → IsPartOf R (x ∷ xs) (y ∷ ys) → ⊥
-  not_part x xs y ys l s h = false≢ _ (before_first x y ys l s) (h x (has_first o x xs))
+  not_part x xs y ys l s h = both_ways _ (before_first x y ys l s) (h x (has_first o x xs))
 
   -- the first items tie
   pub part_of_both : (x : K) (xs : List K) (y : K) (ys : List K) → R x y ≡ Equal → IsStrictlySortedBy R (x ∷ xs) → IsPartOf R (x ∷ xs) (y ∷ ys) ↔ IsPartOf R xs ys
   part_of_both x xs y ys e s = (
-    λ h q t. first_or_rest (eq_by_cmp R q y) (has_class R ys q) (h q (or_rest (eq_by_cmp R q x) (has_class R xs q) t))
-        (λ tied. absurd (false≢ _ (not_in_rest q x xs ((Equal-is (R q x)).0 (same_class q x y e ∙ tied)) s) t))
+    λ h q t. first_or_rest (eq_by_cmp R q y) (has_class R ys q) (h q (or_right (eq_by_cmp R q x) (has_class R xs q) t))
+        (λ tied. absurd (both_ways _ (not_in_rest q x xs ((Equal-is (R q x)).0 (same_class q x y e ∙ tied)) s) t))
         (λ rest. rest),
     λ h q t. first_or_rest (eq_by_cmp R q x) (has_class R xs q) t
         (λ tied. ap (λ b. b || has_class R ys q) (sym (same_class q x y e) ∙ tied))
-        (λ rest. or_rest (eq_by_cmp R q y) (has_class R ys q) (h q rest)),
+        (λ rest. or_right (eq_by_cmp R q y) (has_class R ys q) (h q rest)),
   )
 
   -- the second list's first item is below all of the first
   pub part_of_rest : (x : K) (xs : List K) (y : K) (ys : List K) → R x y ≡ Greater → IsStrictlySortedBy R (x ∷ xs) → IsPartOf R (x ∷ xs) (y ∷ ys) ↔ IsPartOf R (x ∷ xs) ys
   part_of_rest x xs y ys g s = (
     λ h q t. first_or_rest (eq_by_cmp R q y) (has_class R ys q) (h q t)
-        (λ tied. absurd (false≢ _ (has_alike o (x ∷ xs) q y tied ∙ before_first y x xs (swapped x y g) s) t))
+        (λ tied. absurd (both_ways _ (has_alike o (x ∷ xs) q y tied ∙ before_first y x xs (swapped x y g) s) t))
         (λ rest. rest),
-    λ h q t. or_rest (eq_by_cmp R q y) (has_class R ys q) (h q t),
+    λ h q t. or_right (eq_by_cmp R q y) (has_class R ys q) (h q t),
   )
 
   -- the first items tie: their class is in both
@@ -67,9 +64,9 @@ module _ {K : Type 0} {R : K → K → Ordering} (o : IsTotalOrder R) where
   -- the first list's first item is below all of the second
   pub none_but_rest : (x : K) (xs : List K) (y : K) (ys : List K) → R x y ≡ Less → IsStrictlySortedBy R (y ∷ ys) → HaveNoneInCommon R (x ∷ xs) (y ∷ ys) ↔ HaveNoneInCommon R xs (y ∷ ys)
   none_but_rest x xs y ys l s = (
-    λ h q t u. h q (or_rest (eq_by_cmp R q x) (has_class R xs q) t) u,
+    λ h q t u. h q (or_right (eq_by_cmp R q x) (has_class R xs q) t) u,
     λ h q t u. first_or_rest (eq_by_cmp R q x) (has_class R xs q) t
-        (λ tied. false≢ _ (has_alike o (y ∷ ys) q x tied ∙ before_first x y ys l s) u)
+        (λ tied. both_ways _ (has_alike o (y ∷ ys) q x tied ∙ before_first x y ys l s) u)
         (λ rest. h q rest u),
   )
 
@@ -134,7 +131,7 @@ module _ {K : Type 0} {R : K → K → Ordering} {whole : Type 0} where
   nothing_to_find (x ∷ xs) ys e h = absurd (omega arith)
 
   pub nothing_to_find_in : IsTotalOrder R → (x : K) (xs xs' ys : List K) → xs ≡ x ∷ xs' → length ys ≡ 0 → IsLeft R (IsPartOf R) whole xs ys → whole → ⊥
-  nothing_to_find_in o x xs xs' [] first e h w = false≢ false refl (h.same.1 w x (ap (λ l. has_class R l x) first ∙ has_first o x xs'))
+  nothing_to_find_in o x xs xs' [] first e h w = both_ways false refl (h.same.1 w x (ap (λ l. has_class R l x) first ∙ has_first o x xs'))
   nothing_to_find_in o x xs xs' (y ∷ ys) first e h w = absurd (omega arith)
 
   pub none_left : (xs ys : List K) → length xs ≡ 0 → IsLeft R (HaveNoneInCommon R) whole xs ys → whole

@@ -3,3 +3,4 @@ pub mod FirstItems
 pub mod Neighbours
 pub mod Ends
 pub mod Distinct
+pub mod Items

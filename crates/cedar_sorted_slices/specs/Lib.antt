@@ -2,4 +2,3 @@ pub mod Classes
 pub mod Ascending
 pub mod Unique
 pub mod Images
-pub mod Items

@@ -1,5 +1,5 @@
 -- Lists that ascend and have the same classes tie, item by item.
-use Rattle.std.proofs.Common.{◌≡◌, Bool, true, false, ◌||◌, suc, List, [], ◌∷◌, length, refl, sym, ap, ◌∙◌}
+use Rattle.std.proofs.Common.{◌≡◌, true, false, ◌||◌, suc, List, [], ◌∷◌, length, refl, sym, ap, ◌∙◌}
 use Rattle.std.specs.List.{AllByRecursion}
 use Rattle.std.specs.List.Sorted.{IsStrictlySortedBy}
 use Rattle.std.specs.Cmp.{IsTotalOrder, tied_itself, Equal-is}
@@ -7,11 +7,8 @@ use Rattle.std.specs.Cmp.Lexicographic.{slice_cmp}
 use Rattle.std.specs.Ordering.{eq_by_cmp, is_eq, ordering_then, ordering_reverse}
 use Rattle.std.specs.declared.cmp.Ordering.{Ordering}
 use Rattle.std.specs.declared.cmp.Ordering.TheVariants.{Less, Equal, Greater}
-use Rattle.std.proofs.lemmas.Bool.{true≢false}
+use Rattle.std.proofs.lemmas.Bool.{both_ways}
 use Rattle.cedar_sorted_slices.specs.Classes.{has_class}
-
-pub false≢ : (b : Bool) → b ≡ false → b ≡ true → ⊥
-false≢ b p q = true≢false (sym q ∙ p)
 
 no_less : Less ≡ Equal → ⊥
 no_less h = cc
@@ -62,13 +59,13 @@ module _ {K : Type 0} {R : K → K → Ordering} (o : IsTotalOrder R) where
   pub same_classes_tie : (xs ys : List K) → IsStrictlySortedBy R xs → IsStrictlySortedBy R ys → ((q : K) → has_class R xs q ≡ has_class R ys q) → slice_cmp R xs ys ≡ Equal
   unfolding IsStrictlySortedBy
   same_classes_tie [] [] s t h = refl
-  same_classes_tie [] (y ∷ ys) s t h = absurd (false≢ _ (sym (h y)) (has_first y ys))
-  same_classes_tie (x ∷ xs) [] s t h = absurd (false≢ _ (h x) (has_first x xs))
+  same_classes_tie [] (y ∷ ys) s t h = absurd (both_ways _ (sym (h y)) (has_first y ys))
+  same_classes_tie (x ∷ xs) [] s t h = absurd (both_ways _ (h x) (has_first x xs))
   same_classes_tie (x ∷ xs) (y ∷ ys) s t h =
       by_order (R x y)
-      (λ l. absurd (false≢ _ (h x ∙ below_absent x y ys l t) (has_first x xs)))
+      (λ l. absurd (both_ways _ (h x ∙ below_absent x y ys l t) (has_first x xs)))
       (λ e. ap (λ r. ordering_then r (slice_cmp R xs ys)) e ∙ same_classes_tie xs ys s.1 t.1 (rest_alike x y xs ys e s t h))
-      (λ g. absurd (false≢ _ (sym (h y) ∙ below_absent y x xs (o.antisymm y x ∙ ap ordering_reverse g) s) (has_first y ys)))
+      (λ g. absurd (both_ways _ (sym (h y) ∙ below_absent y x xs (o.antisymm y x ∙ ap ordering_reverse g) s) (has_first y ys)))
 
   -- and those that tie have the same classes
   pub tied_has : (xs ys : List K) → slice_cmp R xs ys ≡ Equal → (q : K) → has_class R xs q ≡ has_class R ys q

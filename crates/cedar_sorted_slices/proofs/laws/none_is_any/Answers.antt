@@ -1,4 +1,4 @@
-use Rattle.cedar_sorted_slices.specs.Items.{none_by_items}
+use Rattle.cedar_sorted_slices.proofs.Items.{none_by_items}
 use Rattle.cedar_sorted_slices.proofs.laws.none_is_any.Goals as goal
 
 pub returns : goal.returns
