@@ -91,15 +91,10 @@ fn is_any_id_text(s: &str) -> bool
 fn is_keyword_text(s: &str) -> bool
     ensures { result ≡ is_keyword s.now }
 {
-    s == "true"
-        || s == "false"
-        || s == "if"
-        || s == "then"
-        || s == "else"
-        || s == "in"
-        || s == "is"
-        || s == "like"
-        || s == "has"
+    matches!(
+        s,
+        "true" | "false" | "if" | "then" | "else" | "in" | "is" | "like" | "has"
+    )
 }
 
 fn is_id_text(s: &str) -> bool
