@@ -11,7 +11,7 @@ use Rattle.cedar_exprs.specs.Walks.{kind_children, children, walk, preorder, pos
 use Rattle.cedar_exprs.specs.declared.expr.Expr.{Expr}
 use Rattle.cedar_exprs.specs.declared.expr.KindOf.{KindOf}
 use Rattle.cedar_exprs.proofs.Records.{bare_kind_of}
-use Rattle.cedar_exprs.proofs.Walks.{walk_is, by_children}
+use Rattle.cedar_exprs.proofs.WalkSteps.{walk_is, by_children}
 
 pub members_of-trees_of : (es : List BareExpr) → bare.members_of (trees_of es) ≡ es
 members_of-trees_of [] = refl

@@ -9,7 +9,7 @@ use Rattle.cedar_builders.specs.Ops.{Ops}
 use Rattle.cedar_builders.specs.Walks.{children}
 use Rattle.cedar_exprs.specs.PostOrder.{IsPut}
 use Rattle.cedar_exprs.specs.RestrictedExprs.{binding_of}
-use Rattle.cedar_exprs.specs.declared.post_order.PostOrderFault.{PostOrderFault}
+use Rattle.cedar_exprs.specs.declared.walks.post_order.PostOrderFault.{PostOrderFault}
 
 -- what is made of a reference's value
 pub of_copied : {A C : Type 0} (f : A → C) (r : Option (Bor A)) → option_map (λ v. f v.now) r ≡ option_map f (option_copied r)

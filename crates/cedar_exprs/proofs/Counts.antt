@@ -8,7 +8,7 @@ use Rattle.cedar_exprs.specs.BareExpr.{bare_expr}
 use Rattle.cedar_exprs.specs.Entries.{entries_at, entries_left, all_entries, nodes_left, IsAdded}
 use Rattle.cedar_exprs.specs.Steps.{nodes, item_nodes}
 use Rattle.cedar_exprs.specs.Walks.{children, needs}
-use Rattle.cedar_exprs.specs.declared.entries.Count.{Count}
+use Rattle.cedar_exprs.specs.declared.walks.entries.Count.{Count}
 use Rattle.cedar_exprs.specs.declared.expr.Expr.{Expr}
 use Rattle.cedar_exprs.proofs.BareWalks.{children_bare}
 use Rattle.cedar_exprs.proofs.Stacks.{need_is, needs_one, placed}

@@ -7,7 +7,7 @@ pub mod Leaves
 pub mod Levels
 pub mod Derived
 pub mod KeyOrder
-pub mod Walks
+pub mod WalkSteps
 pub mod BareWalks
 pub mod DataTrees
 pub mod NotRestrictedLemmas

@@ -14,7 +14,7 @@ use Rattle.cedar_exprs.specs.Walks.{children, preorder, referents}
 use Rattle.cedar_exprs.specs.FirstNodes.{InPreorder, fails, at_node, decided, first_of_all}
 use Rattle.cedar_exprs.specs.NotRestricted.{first_not_restricted, first_not_restricted_of}
 use Rattle.cedar_exprs.specs.declared.expr.Expr.{Expr}
-use Rattle.cedar_exprs.proofs.Walks.{walk_is, counted, fewer_below}
+use Rattle.cedar_exprs.proofs.WalkSteps.{walk_is, counted, fewer_below}
 use Rattle.cedar_exprs.proofs.BareWalks.{preorder_bare}
 use denote.Ref.{Bor}
 

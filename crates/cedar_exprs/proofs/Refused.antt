@@ -6,8 +6,8 @@ use Rattle.cedar_builders.specs.Rebuilding.{renewed, unless_refused, refused_is}
 use Rattle.cedar_builders.specs.TypeClash.{TwoTypes, Refusals, first_refusal}
 use Rattle.cedar_exprs.specs.PostOrder.{IsAnswer}
 use Rattle.cedar_exprs.specs.Refusals.{Refuses}
-use Rattle.cedar_exprs.specs.declared.post_order.PostOrderFault.{PostOrderFault}
-use Rattle.cedar_exprs.specs.declared.post_order.PostOrderFault.TheVariants.{Refused, Memory}
+use Rattle.cedar_exprs.specs.declared.walks.post_order.PostOrderFault.{PostOrderFault}
+use Rattle.cedar_exprs.specs.declared.walks.post_order.PostOrderFault.TheVariants.{Refused, Memory}
 
 pub passed_on : {X E D : Type 0} (refuse : Refusals) (env : Env) (e : BareExpr) (meaning_of : X → Option BareExpr) (types_of : D → TwoTypes) (fault : PostOrderFault D) (answer : Result E (PostOrderFault D))
     → answer ≡ Err fault → IsAnswer {X = X} meaning_of types_of (renewed refuse env e) (Err fault) → Refuses types_of (first_refusal refuse env e) answer

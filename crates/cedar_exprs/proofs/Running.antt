@@ -10,9 +10,9 @@ use Rattle.cedar_builders.specs.Walks.{children}
 use Rattle.cedar_exprs.specs.PostOrder.{BareTask, to_visit, to_make, visits, bare_tasks, bare_task, children_of, last_first, Takes, IsPut, IsAnswer, IsBegun}
 use Rattle.cedar_exprs.specs.BareExpr.{bare_expr}
 use Rattle.cedar_exprs.specs.declared.expr.Expr.{Expr}
-use Rattle.cedar_exprs.specs.declared.post_order.Task.{Task}
-use Rattle.cedar_exprs.specs.declared.post_order.PostOrderFault.{PostOrderFault}
-use Rattle.cedar_exprs.specs.declared.post_order.PostOrderFault.TheVariants.{Refused, Memory}
+use Rattle.cedar_exprs.specs.declared.walks.post_order.Task.{Task}
+use Rattle.cedar_exprs.specs.declared.walks.post_order.PostOrderFault.{PostOrderFault}
+use Rattle.cedar_exprs.specs.declared.walks.post_order.PostOrderFault.TheVariants.{Refused, Memory}
 use Rattle.cedar_exprs.proofs.BareWalks.{children_bare}
 
 -- the steps that tasks still take

@@ -7,7 +7,7 @@ use Rattle.cedar_exprs.specs.BareExpr.{bare_expr}
 use Rattle.cedar_exprs.specs.Walks.{children, positions, referents, given_by, needs, need_of}
 use Rattle.cedar_exprs.specs.declared.expr.Expr.{Expr}
 use Rattle.cedar_exprs.proofs.BareWalks.{children_bare}
-use Rattle.cedar_exprs.proofs.Walks.{walk_is}
+use Rattle.cedar_exprs.proofs.WalkSteps.{walk_is}
 use denote.Ref.{Bor}
 
 -- ---- needs

@@ -3,9 +3,9 @@ use Rattle.std.specs.Prelude.{List, ◌++◌, Option, option_to_list}
 use Rattle.std.specs.Option.{option_copied}
 use Rattle.std.specs.Slice.Iter.{iter_rest}
 use Rattle.cedar_exprs.specs.declared.expr.Expr.{Expr}
-use Rattle.cedar_exprs.specs.declared.children.Children.{Children}
-use Rattle.cedar_exprs.specs.declared.children.Children.TheVariants.{Few as AtMostThree, Row, Values}
-use Rattle.cedar_exprs.specs.declared.children.Few.{Few}
+use Rattle.cedar_exprs.specs.declared.walks.children.Children.{Children}
+use Rattle.cedar_exprs.specs.declared.walks.children.Children.TheVariants.{Few as AtMostThree, Row, Values}
+use Rattle.cedar_exprs.specs.declared.walks.children.Few.{Few}
 use denote.Ref.{Bor}
 
 -- what a reference shows, if there is one

@@ -4,7 +4,7 @@ use Rattle.cedar_builders.specs.Walks.{need, need_from}
 use Rattle.cedar_exprs.specs.BareExpr.{bare_expr}
 use Rattle.cedar_exprs.specs.Steps.{nodes, item_nodes}
 use Rattle.cedar_exprs.specs.Walks.{needs}
-use Rattle.cedar_exprs.specs.declared.entries.Count.{Count}
+use Rattle.cedar_exprs.specs.declared.walks.entries.Count.{Count}
 use Rattle.cedar_exprs.specs.declared.expr.Expr.{Expr}
 use denote.Ref.{Bor}
 

@@ -10,10 +10,10 @@ use Rattle.cedar_exprs.specs.BareExpr.{kind_of, expr_place}
 use Rattle.cedar_exprs.specs.Walks.{given_by, referents}
 use Rattle.cedar_exprs.specs.declared.expr.Expr.{Expr}
 use Rattle.cedar_exprs.specs.declared.expr.KindOf.{KindOf}
-use Rattle.cedar_exprs.specs.declared.expr_iterator.ExprIterator.{ExprIterator}
-use Rattle.cedar_exprs.specs.declared.expr_iterator.SlotRef.{SlotRef}
-use Rattle.cedar_exprs.specs.declared.expr_iterator.Slots.{Slots}
-use Rattle.cedar_exprs.specs.declared.expr_iterator.Unknowns.{Unknowns}
+use Rattle.cedar_exprs.specs.declared.walks.expr_iterator.ExprIterator.{ExprIterator}
+use Rattle.cedar_exprs.specs.declared.walks.expr_iterator.SlotRef.{SlotRef}
+use Rattle.cedar_exprs.specs.declared.walks.expr_iterator.Slots.{Slots}
+use Rattle.cedar_exprs.specs.declared.walks.expr_iterator.Unknowns.{Unknowns}
 
 -- the unknown that a kind is
 abbrev pub unknown_of_kind : {E : Type 0} → KindOf E → Option Unknown

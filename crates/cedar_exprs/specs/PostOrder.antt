@@ -5,10 +5,10 @@ use Rattle.cedar_builders.specs.NodeByNode.{gathered}
 use Rattle.cedar_exprs.specs.BareExpr.{bare_expr}
 use Rattle.cedar_exprs.specs.Walks.{children}
 use Rattle.cedar_exprs.specs.declared.expr.Expr.{Expr}
-use Rattle.cedar_exprs.specs.declared.post_order.Task.{Task}
-use Rattle.cedar_exprs.specs.declared.post_order.Task.TheVariants.{Visit, Make}
-use Rattle.cedar_exprs.specs.declared.post_order.PostOrderFault.{PostOrderFault}
-use Rattle.cedar_exprs.specs.declared.post_order.PostOrderFault.TheVariants.{Refused, Memory}
+use Rattle.cedar_exprs.specs.declared.walks.post_order.Task.{Task}
+use Rattle.cedar_exprs.specs.declared.walks.post_order.Task.TheVariants.{Visit, Make}
+use Rattle.cedar_exprs.specs.declared.walks.post_order.PostOrderFault.{PostOrderFault}
+use Rattle.cedar_exprs.specs.declared.walks.post_order.PostOrderFault.TheVariants.{Refused, Memory}
 
 -- to walk over a tree, or to make what its root gives when its children are done
 pub data BareTask : Type 0 where

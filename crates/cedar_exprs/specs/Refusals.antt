@@ -4,9 +4,9 @@ use Rattle.std.specs.Global.{Global}
 use Rattle.std.specs.declared.convert.Infallible.{Infallible}
 use Rattle.cedar_terms.specs.Types.{bare_type}
 use Rattle.cedar_builders.specs.TypeClash.{TwoTypes}
-use Rattle.cedar_exprs.specs.declared.post_order.PostOrderFault.{PostOrderFault}
-use Rattle.cedar_exprs.specs.declared.post_order.PostOrderFault.TheVariants.{Refused, Memory}
-use Rattle.cedar_exprs.specs.declared.substitution_function.Clash.{Clash}
+use Rattle.cedar_exprs.specs.declared.walks.post_order.PostOrderFault.{PostOrderFault}
+use Rattle.cedar_exprs.specs.declared.walks.post_order.PostOrderFault.TheVariants.{Refused, Memory}
+use Rattle.cedar_exprs.specs.declared.substitution.function.Clash.{Clash}
 
 -- the types of a clash
 abbrev pub clash_types : Box Clash Global → TwoTypes

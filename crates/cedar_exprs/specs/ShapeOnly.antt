@@ -1,9 +1,9 @@
 -- What an expression is that compares by its shape alone.
 use Rattle.cedar_builders.specs.BareExpr.{BareExpr}
 use Rattle.cedar_exprs.specs.BareExpr.{bare_expr}
-use Rattle.cedar_exprs.specs.declared.expr_shape_only.ExprShapeOnly.{ExprShapeOnly}
-use Rattle.cedar_exprs.specs.declared.expr_shape_only.Held.{Held}
-use Rattle.cedar_exprs.specs.declared.expr_shape_only.Held.TheVariants.{Borrowed, Owned}
+use Rattle.cedar_exprs.specs.declared.shapes.expr_shape_only.ExprShapeOnly.{ExprShapeOnly}
+use Rattle.cedar_exprs.specs.declared.shapes.expr_shape_only.Held.{Held}
+use Rattle.cedar_exprs.specs.declared.shapes.expr_shape_only.Held.TheVariants.{Borrowed, Owned}
 
 abbrev pub held_tree : {T : Type 0} → Held T → BareExpr
 held_tree (Borrowed e) = bare_expr e.now

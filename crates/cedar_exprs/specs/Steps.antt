@@ -8,13 +8,13 @@ use Rattle.cedar_builders.specs.Count.{count, count_is}
 use Rattle.cedar_iterative_drop.specs.Rows as rows
 use Rattle.cedar_exprs.specs.BareExpr.{ExprKind, bare_expr, bare_expr_kind}
 use Rattle.cedar_exprs.specs.declared.expr.Expr.{Expr}
-use Rattle.cedar_exprs.specs.declared.subtrees.Subtrees.{Subtrees}
-use Rattle.cedar_exprs.specs.declared.subtrees.Row as below
-use Rattle.cedar_exprs.specs.declared.subtrees.Row.TheVariants as row
+use Rattle.cedar_exprs.specs.declared.drop.subtrees.Subtrees.{Subtrees}
+use Rattle.cedar_exprs.specs.declared.drop.subtrees.Row as below
+use Rattle.cedar_exprs.specs.declared.drop.subtrees.Row.TheVariants as row
 use Rattle.cedar_exprs.specs.declared.expr.KindOf.{KindOf}
-use Rattle.cedar_exprs.specs.declared.dropping.Remaining.{Remaining}
-use Rattle.cedar_exprs.specs.declared.dropping.Step.{Step}
-use Rattle.cedar_exprs.specs.declared.dropping.Step.TheVariants.{Into, On, Watched, Row, End}
+use Rattle.cedar_exprs.specs.declared.drop.dropping.Remaining.{Remaining}
+use Rattle.cedar_exprs.specs.declared.drop.dropping.Step.{Step}
+use Rattle.cedar_exprs.specs.declared.drop.dropping.Step.TheVariants.{Into, On, Watched, Row, End}
 
 -- the nodes of an expression, of a kind, of a node that may wait, of the items of a row, of the values of a record
 abbrev pub nodes : {T : Type 0} → Expr T → ℕ

@@ -10,8 +10,8 @@ use Rattle.cedar_builders.specs.TypeClash.{TwoTypes}
 use Rattle.cedar_exprs.specs.BareExpr.{bare_expr}
 use Rattle.cedar_exprs.specs.PostOrder.{Takes}
 use Rattle.cedar_exprs.specs.declared.expr.Expr.{Expr}
-use Rattle.cedar_exprs.specs.declared.substitution.Substituted.{Substituted}
-use Rattle.cedar_exprs.specs.declared.substitution.Substituted.TheVariants.{Same, Value, New}
+use Rattle.cedar_exprs.specs.declared.substitution.substitute.Substituted.{Substituted}
+use Rattle.cedar_exprs.specs.declared.substitution.substitute.Substituted.TheVariants.{Same, Value, New}
 
 -- the tree that a node becomes, if it does not stay as it is: of a value that of its expression
 abbrev pub new_tree : {V : Type 0} → (V → BareExpr) → Substituted V → Option BareExpr

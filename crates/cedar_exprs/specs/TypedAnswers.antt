@@ -6,8 +6,8 @@ use Rattle.cedar_builders.specs.declared.expr_builder.BuildFault.{BuildFault}
 use Rattle.cedar_builders.specs.declared.expr_builder.BuildFault.TheVariants as build_fault
 use Rattle.cedar_builders.specs.declared.substitution_error.SubstitutionError.{SubstitutionError}
 use Rattle.cedar_builders.specs.declared.substitution_error.SubstitutionError.TheVariants as substitution_error
-use Rattle.cedar_exprs.specs.declared.typed_build.TypedBuildFault.{TypedBuildFault}
-use Rattle.cedar_exprs.specs.declared.typed_build.TypedBuildFault.TheVariants.{TypeError, Build, Memory}
+use Rattle.cedar_exprs.specs.declared.building.typed_build.TypedBuildFault.{TypedBuildFault}
+use Rattle.cedar_exprs.specs.declared.building.typed_build.TypedBuildFault.TheVariants.{TypeError, Build, Memory}
 
 -- the clash, if there is one, else what is wanted, its meaning or its error's, unless memory runs out
 abbrev pub GivesTyped : {E D M F : Type 0} → (E → M) → (D → F) → Option TwoTypes → Result M F → Result E (TypedBuildFault D) → Type 0

@@ -2,8 +2,8 @@
 use Rattle.std.specs.Prelude.{◌++◌, Option, Some, codes}
 use Rattle.cedar_terms.specs.Types.{bare_type, type_text}
 use Rattle.cedar_builders.specs.BareExpr.{Text}
-use Rattle.cedar_exprs.specs.declared.typed_build.TypedBuildFault.{TypedBuildFault}
-use Rattle.cedar_exprs.specs.declared.typed_build.TypedBuildFault.TheVariants.{TypeError, Build, Memory}
+use Rattle.cedar_exprs.specs.declared.building.typed_build.TypedBuildFault.{TypedBuildFault}
+use Rattle.cedar_exprs.specs.declared.building.typed_build.TypedBuildFault.TheVariants.{TypeError, Build, Memory}
 
 -- the text of a fault, where T says the text of the builder's own error, if anything says it
 abbrev pub typed_fault_text : {E : Type 0} → (E → Option Text) → TypedBuildFault E → Option Text

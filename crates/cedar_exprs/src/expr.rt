@@ -9,7 +9,7 @@ ghost use Rattle.cedar_exprs.specs.ExprData.{data_tree, kind_data};
 ghost use Rattle.cedar_exprs.specs.Steps.{is_leaf};
 ghost use Rattle.cedar_exprs.specs.Walks.{children, kind_children};
 
-use crate::dropping::drop_kind;
+use crate::drop::dropping::drop_kind;
 use cedar_names::{Loc, Name, NonEmpty, SlotId};
 use cedar_terms::{BinaryOp, EntityType, Literal, Pattern, UnaryOp, Unknown, Var};
 use std::alloc::{AllocError, Global};

@@ -11,7 +11,7 @@ ghost use Rattle.cedar_exprs.specs.FirstNodes.{InPreorder};
 ghost use Rattle.cedar_exprs.specs.Walks.{children, positions};
 ghost use Rattle.cedar_exprs.specs.declared.expr.Expr.{Expr};
 
-use crate::children::Children;
+use crate::walks::children::Children;
 use crate::expr::Expr;
 pub use cedar_builders::laws::{
     built_after, clash_by_children, rebuilt_twice, restricted_rebuilt, shapes_are_ordered,

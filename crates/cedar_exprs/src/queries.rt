@@ -5,7 +5,7 @@ ghost use Rattle.cedar_builders.specs.Queries.{is_ref, is_slot, is_unknown, is_r
 ghost use Rattle.cedar_exprs.specs.BareExpr.{bare_expr};
 
 use crate::expr::{Expr, ExprKind};
-use crate::positions::Positions;
+use crate::walks::positions::Positions;
 use std::alloc::{AllocError, Global};
 
 impl<T> Expr<T> {

@@ -9,7 +9,7 @@ ghost use Rattle.cedar_builders.specs.Restricted.{IsRestricted};
 ghost use Rattle.cedar_exprs.specs.BareExpr.{bare_expr};
 
 use crate::expr::Expr;
-use crate::not_restricted::first_not_restricted;
+use crate::walks::not_restricted::first_not_restricted;
 use cedar_names::{Loc, Name};
 use cedar_terms::{Literal, StaticallyTyped, Type};
 use std::alloc::{AllocError, Global};

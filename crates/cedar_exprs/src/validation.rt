@@ -5,7 +5,7 @@ ghost use Rattle.cedar_validation.specs.ValidationErrors.{IsErrorOf};
 ghost use Rattle.cedar_exprs.specs.BareExpr.{bare_expr};
 
 use crate::expr::{Expr, ExprKind};
-use crate::positions::Positions;
+use crate::walks::positions::Positions;
 use cedar_validation::{ExprValidationError, FunctionTable, check_call, check_path};
 use std::alloc::Global;
 

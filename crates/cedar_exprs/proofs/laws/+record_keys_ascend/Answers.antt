@@ -1,7 +1,7 @@
 use Rattle.std.proofs.Common.{◌≡◌, ap, sym, ◌∙◌, subst, ◌<◌, length}
 use Rattle.cedar_exprs.specs.Children.{children_left}
 use Rattle.cedar_exprs.specs.Walks.{children, preorder}
-use Rattle.cedar_exprs.proofs.Walks.{counted, fewer_below, fewer_rest}
+use Rattle.cedar_exprs.proofs.WalkSteps.{counted, fewer_below, fewer_rest}
 use Rattle.cedar_exprs.proofs.RecordKeys.{AscendIn, ascends, ascends_with}
 use Rattle.cedar_exprs.proofs.laws.+record_keys_ascend.Goals as goal
 

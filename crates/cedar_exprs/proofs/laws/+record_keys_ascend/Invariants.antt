@@ -3,7 +3,7 @@ use Rattle.cedar_builders.specs.AscendingKeys.{KeysAscend}
 use Rattle.cedar_exprs.specs.BareExpr.{bare_expr}
 use Rattle.cedar_exprs.specs.Children.{children_left}
 use Rattle.cedar_exprs.specs.Walks.{preorder}
-use Rattle.cedar_exprs.proofs.Walks.{counted}
+use Rattle.cedar_exprs.proofs.WalkSteps.{counted}
 use Rattle.cedar_exprs.proofs.RecordKeys.{AscendIn}
 use Rattle.cedar_exprs.proofs.laws.+record_keys_ascend.Given as goal
 

@@ -1,7 +1,7 @@
 use Rattle.std.proofs.Common.{◌∷◌}
 use Rattle.cedar_builders.specs.Walks.{forward}
 use Rattle.cedar_exprs.proofs.BareWalks.{preorder_bare}
-use Rattle.cedar_exprs.proofs.Walks.{walk_is}
+use Rattle.cedar_exprs.proofs.WalkSteps.{walk_is}
 use Rattle.cedar_exprs.proofs.laws.nodes_in_preorder.Goals as goal
 
 pub returns : goal.returns

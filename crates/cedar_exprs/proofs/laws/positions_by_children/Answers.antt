@@ -1,6 +1,6 @@
 use Rattle.std.proofs.Common.{◌∷◌}
 use Rattle.cedar_builders.specs.Walks.{backward}
-use Rattle.cedar_exprs.proofs.Walks.{walk_is}
+use Rattle.cedar_exprs.proofs.WalkSteps.{walk_is}
 use Rattle.cedar_exprs.proofs.laws.positions_by_children.Goals as goal
 
 pub returns : goal.returns

@@ -1,9 +1,0 @@
-use Rattle.std.proofs.Common.{[], ◌∷◌}
-use Rattle.cedar_exprs.proofs.Counts.{then_added, room_added}
-use Rattle.cedar_exprs.proofs.entries.Count.add_two.Goals as goal
-
-pub returns : goal.returns
-returns g c =
-    let a = c.args in
-    room_added a.self.now c.record_height.new.self c.add-2.new.self a.below (a.first.now ∷ a.second.now ∷ []) c.requires c.in_ok-record_height.ensures.most c.in_ok-record_height.ensures.left
-    (then_added c.record_height.new.self c.add.new.self c.add-2.new.self a.below a.first.now (a.second.now ∷ []) c.in_ok-add.ensures.added c.in_ok-add-2.ensures.added)

@@ -1,0 +1,10 @@
+use Rattle.std.proofs.Common.{◌≡◌, length}
+use Rattle.cedar_exprs.specs.Iterators.{positions_left, unknowns_left}
+use Rattle.cedar_exprs.proofs.walks.expr_iterator.UnknownsIterator.next.Given as goal
+
+-- no unknown was passed over
+abbrev pub invariant-loop-expr : goal.invariant-loop-expr
+invariant-loop-expr g l = unknowns_left l.self ≡ unknowns_left l.initial.self
+
+abbrev pub decreases-loop-expr : goal.decreases-loop-expr
+decreases-loop-expr g l = length (positions_left l.self.walk)
