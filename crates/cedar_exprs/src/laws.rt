@@ -2,7 +2,7 @@
 //!
 //! A function here does nothing but carry its contract, which is the law.
 ghost use Rattle.std.specs.Prelude.{◌≡◌, ◌↔◌, ◌∷◌, IsTrue, map};
-ghost use Rattle.cedar_builders.specs.AscendingKeys.{KeysAscend};
+ghost use Rattle.cedar_builders.specs.AscendingKeys.{KeysAscend, NodeKeysAscend};
 ghost use Rattle.cedar_builders.specs.Walks as bare;
 ghost use Rattle.cedar_builders.specs.Walks.{backward};
 ghost use Rattle.cedar_exprs.specs.ExprData.{SameData, data_tree, data_trees, holds};
@@ -11,8 +11,8 @@ ghost use Rattle.cedar_exprs.specs.FirstNodes.{InPreorder};
 ghost use Rattle.cedar_exprs.specs.Walks.{children, positions};
 ghost use Rattle.cedar_exprs.specs.declared.expr.Expr.{Expr};
 
+use crate::expr::{Expr, ExprKind};
 use crate::walks::children::Children;
-use crate::expr::Expr;
 pub use cedar_builders::laws::{
     built_after, clash_by_children, rebuilt_twice, restricted_rebuilt, shapes_are_ordered,
     stack_needs, substituted_by_fold, substituted_twice, then_is_both, then_is_not_always_both,
@@ -56,8 +56,18 @@ pub fn bare_positions<T>(expr: &Expr<T>)
 pub fn record_keys_ascend<T>(expr: &Expr<T>)
     ensures { KeysAscend (bare_expr expr.now) }
 {
+    node_keys_ascend(expr);
     for child in Children::of(expr) {
         record_keys_ascend(child);
+    }
+}
+
+// The keys of a record ascend, as those of its map do.
+fn node_keys_ascend<T>(expr: &Expr<T>)
+    ensures { NodeKeysAscend (bare_expr expr.now) }
+{
+    if let ExprKind::Record(pairs) = expr.expr_kind() {
+        pairs.values();
     }
 }
 

@@ -1,17 +1,59 @@
 //! The children of an expression.
 ghost use Rattle.std.specs.Prelude.{◌≡◌, ◌++◌};
 ghost use Rattle.std.specs.Iterator.{YieldsFirstRef, item_count};
-ghost use Rattle.cedar_builders.specs.AscendingKeys.{NodeKeysAscend};
-ghost use Rattle.cedar_exprs.specs.BareExpr.{bare_expr};
 ghost use Rattle.cedar_exprs.specs.Walks.{children};
-ghost use Rattle.cedar_exprs.specs.Children.{children_left, few_left, shown};
+ghost use Rattle.cedar_exprs.specs.Children.{children_left, children_shown, few_left, shown};
 
 use crate::expr::{Expr, ExprKind};
-use std::collections::btree_map;
+use std::collections::{BTreeMap, btree_map};
 use std::rc::RcStr;
 use std::slice;
 
-// The children of an expression in field order, the values of a record by key.
+// The children of a node, borrowed as they stand in it: in field order, the values of a record by key.
+#[derive(Drop)]
+pub(crate) enum NodeChildren<'a, T> {
+    Nothing,
+    One(&'a Expr<T>),
+    Two(&'a Expr<T>, &'a Expr<T>),
+    Three(&'a Expr<T>, &'a Expr<T>, &'a Expr<T>),
+    // The arguments of a call or the members of a set.
+    Row(&'a [Expr<T>]),
+    // The values of a record.
+    Values(&'a BTreeMap<RcStr, Expr<T>>),
+}
+
+impl<'a, T> NodeChildren<'a, T> {
+    #[inline(always)]
+    pub(crate) fn of(expr: &'a Expr<T>) -> NodeChildren<'a, T>
+        ensures { children_shown result ≡ children expr.now }
+    {
+        match expr.expr_kind() {
+            ExprKind::Lit(_) | ExprKind::Var(_) | ExprKind::Slot(_) | ExprKind::Unknown(_) => {
+                NodeChildren::Nothing
+            }
+            ExprKind::If {
+                test_expr,
+                then_expr,
+                else_expr,
+            } => NodeChildren::Three(test_expr, then_expr, else_expr),
+            ExprKind::And { left, right } | ExprKind::Or { left, right } => {
+                NodeChildren::Two(left, right)
+            }
+            ExprKind::BinaryApp { arg1, arg2, .. } => NodeChildren::Two(arg1, arg2),
+            ExprKind::UnaryApp { arg: child, .. }
+            | ExprKind::GetAttr { expr: child, .. }
+            | ExprKind::HasAttr { expr: child, .. }
+            | ExprKind::Like { expr: child, .. }
+            | ExprKind::Is { expr: child, .. } => NodeChildren::One(child),
+            ExprKind::ExtensionFunctionApp { args: row, .. } | ExprKind::Set(row) => {
+                NodeChildren::Row(row)
+            }
+            ExprKind::Record(pairs) => NodeChildren::Values(pairs),
+        }
+    }
+}
+
+// What is left of the children of a node.
 #[derive(Drop)]
 pub(crate) enum Children<'a, T> {
     // Those of a node with a fixed number of them.
@@ -33,32 +75,16 @@ pub(crate) struct Few<'a, T> {
 impl<'a, T> Children<'a, T> {
     pub(crate) fn of(expr: &'a Expr<T>) -> Children<'a, T>
         ensures all { children_left result ≡ children expr.now }
-        ensures keys_ascend { NodeKeysAscend (bare_expr expr.now) }
     {
-        match expr.expr_kind() {
-            ExprKind::Lit(_) | ExprKind::Var(_) | ExprKind::Slot(_) | ExprKind::Unknown(_) => {
-                Children::few(None, None, None)
+        match NodeChildren::of(expr) {
+            NodeChildren::Nothing => Children::few(None, None, None),
+            NodeChildren::One(child) => Children::few(Some(child), None, None),
+            NodeChildren::Two(first, second) => Children::few(Some(first), Some(second), None),
+            NodeChildren::Three(first, second, third) => {
+                Children::few(Some(first), Some(second), Some(third))
             }
-            ExprKind::If {
-                test_expr,
-                then_expr,
-                else_expr,
-            } => Children::few(Some(test_expr), Some(then_expr), Some(else_expr)),
-            ExprKind::And { left, right } | ExprKind::Or { left, right } => {
-                Children::few(Some(left), Some(right), None)
-            }
-            ExprKind::BinaryApp { arg1, arg2, .. } => {
-                Children::few(Some(arg1), Some(arg2), None)
-            }
-            ExprKind::UnaryApp { arg: child, .. }
-            | ExprKind::GetAttr { expr: child, .. }
-            | ExprKind::HasAttr { expr: child, .. }
-            | ExprKind::Like { expr: child, .. }
-            | ExprKind::Is { expr: child, .. } => Children::few(Some(child), None, None),
-            ExprKind::ExtensionFunctionApp { args: row, .. } | ExprKind::Set(row) => {
-                Children::Row(row.iter())
-            }
-            ExprKind::Record(pairs) => Children::Values(pairs.values()),
+            NodeChildren::Row(row) => Children::Row(row.iter()),
+            NodeChildren::Values(pairs) => Children::Values(pairs.values()),
         }
     }
 

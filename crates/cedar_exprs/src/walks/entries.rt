@@ -9,7 +9,8 @@ ghost use Rattle.cedar_exprs.specs.BareExpr.{bare_expr};
 ghost use Rattle.cedar_exprs.specs.Entries.{IsAdded};
 ghost use Rattle.cedar_exprs.specs.Walks.{children};
 
-use crate::expr::{Expr, ExprKind};
+use crate::expr::Expr;
+use crate::walks::children::NodeChildren;
 use std::alloc::{AllocError, Global};
 use std::collections::BTreeMap;
 use std::rc::RcStr;
@@ -62,28 +63,15 @@ impl<'a, T> Count<'a, T> {
         requires { below < self.old.most }
         ensures { IfOk result (λ _. IsAdded self.old below (children node.now) self.new) }
     {
-        match node.expr_kind() {
-            ExprKind::Lit(_) | ExprKind::Var(_) | ExprKind::Slot(_) | ExprKind::Unknown(_) => {
-                Ok(())
+        match NodeChildren::of(node) {
+            NodeChildren::Nothing => Ok(()),
+            NodeChildren::One(child) => self.add(child, below),
+            NodeChildren::Two(first, second) => self.add_two(first, second, below),
+            NodeChildren::Three(first, second, third) => {
+                self.add_three(first, second, third, below)
             }
-            ExprKind::If {
-                test_expr,
-                then_expr,
-                else_expr,
-            } => self.add_three(test_expr, then_expr, else_expr, below),
-            ExprKind::And { left, right } | ExprKind::Or { left, right } => {
-                self.add_two(left, right, below)
-            }
-            ExprKind::BinaryApp { arg1, arg2, .. } => self.add_two(arg1, arg2, below),
-            ExprKind::UnaryApp { arg: child, .. }
-            | ExprKind::GetAttr { expr: child, .. }
-            | ExprKind::HasAttr { expr: child, .. }
-            | ExprKind::Like { expr: child, .. }
-            | ExprKind::Is { expr: child, .. } => self.add(child, below),
-            ExprKind::ExtensionFunctionApp { args: row, .. } | ExprKind::Set(row) => {
-                self.add_row(row, below)
-            }
-            ExprKind::Record(pairs) => self.add_values(pairs, below),
+            NodeChildren::Row(row) => self.add_row(row, below),
+            NodeChildren::Values(pairs) => self.add_values(pairs, below),
         }
     }
 

@@ -8,6 +8,7 @@ ghost use Rattle.cedar_builders.specs.Walks.{need};
 ghost use Rattle.cedar_exprs.specs.BareExpr.{bare_expr};
 ghost use Rattle.cedar_exprs.specs.Walks.{children, positions, referents, need_of};
 
+use crate::walks::children::NodeChildren;
 use crate::walks::entries::entries;
 use crate::expr::{Expr, ExprKind};
 use cedar_names::{Loc, Slot, SlotId};
@@ -66,29 +67,16 @@ pub(crate) fn push_children<'a, T>(stack: &mut Vec<&'a Expr<T>>, expr: &'a Expr<
     ensures items { referents stack.new.items ≡ referents stack.old.items ++ children expr.now }
     ensures room { vec_capacity stack.new ≡ vec_capacity stack.old }
 {
-    match expr.expr_kind() {
-        ExprKind::Lit(_) | ExprKind::Var(_) | ExprKind::Slot(_) | ExprKind::Unknown(_) => {}
-        ExprKind::If {
-            test_expr,
-            then_expr,
-            else_expr,
-        } => {
-            stack.push_reserved(test_expr);
-            push_two(stack, then_expr, else_expr)
+    match NodeChildren::of(expr) {
+        NodeChildren::Nothing => {}
+        NodeChildren::One(child) => stack.push_reserved(child),
+        NodeChildren::Two(first, second) => push_two(stack, first, second),
+        NodeChildren::Three(first, second, third) => {
+            stack.push_reserved(first);
+            push_two(stack, second, third)
         }
-        ExprKind::And { left, right } | ExprKind::Or { left, right } => {
-            push_two(stack, left, right)
-        }
-        ExprKind::BinaryApp { arg1, arg2, .. } => push_two(stack, arg1, arg2),
-        ExprKind::UnaryApp { arg: child, .. }
-        | ExprKind::GetAttr { expr: child, .. }
-        | ExprKind::HasAttr { expr: child, .. }
-        | ExprKind::Like { expr: child, .. }
-        | ExprKind::Is { expr: child, .. } => stack.push_reserved(child),
-        ExprKind::ExtensionFunctionApp { args: row, .. } | ExprKind::Set(row) => {
-            push_row(stack, row)
-        }
-        ExprKind::Record(pairs) => push_values(stack, pairs),
+        NodeChildren::Row(row) => push_row(stack, row),
+        NodeChildren::Values(pairs) => push_values(stack, pairs),
     }
 }
 

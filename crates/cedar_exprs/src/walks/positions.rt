@@ -4,7 +4,8 @@ ghost use Rattle.std.specs.Iterator.{YieldsFirstRef};
 ghost use Rattle.cedar_exprs.specs.Positions.{still_given};
 ghost use Rattle.cedar_exprs.specs.Walks.{children, positions};
 
-use crate::expr::{Expr, ExprKind};
+use crate::expr::Expr;
+use crate::walks::children::NodeChildren;
 use crate::walks::expr_iterator::push_children;
 use std::alloc::{AllocError, Global};
 
@@ -42,16 +43,12 @@ impl<'a, T> Positions<'a, T> {
 fn child_count<T>(expr: &Expr<T>) -> usize
     ensures { result ≡ length (children expr.now) }
 {
-    match expr.expr_kind() {
-        ExprKind::Lit(_) | ExprKind::Var(_) | ExprKind::Slot(_) | ExprKind::Unknown(_) => 0,
-        ExprKind::If { .. } => 3,
-        ExprKind::And { .. } | ExprKind::Or { .. } | ExprKind::BinaryApp { .. } => 2,
-        ExprKind::UnaryApp { .. }
-        | ExprKind::GetAttr { .. }
-        | ExprKind::HasAttr { .. }
-        | ExprKind::Like { .. }
-        | ExprKind::Is { .. } => 1,
-        ExprKind::ExtensionFunctionApp { args: row, .. } | ExprKind::Set(row) => row.len(),
-        ExprKind::Record(pairs) => pairs.len(),
+    match NodeChildren::of(expr) {
+        NodeChildren::Nothing => 0,
+        NodeChildren::One(_) => 1,
+        NodeChildren::Two(..) => 2,
+        NodeChildren::Three(..) => 3,
+        NodeChildren::Row(row) => row.len(),
+        NodeChildren::Values(pairs) => pairs.len(),
     }
 }

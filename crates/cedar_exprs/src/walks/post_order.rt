@@ -8,6 +8,7 @@ ghost use Rattle.cedar_exprs.specs.PostOrder.{IsAnswer, IsBegun, IsPut, bare_tas
 ghost use Rattle.cedar_exprs.specs.declared.walks.post_order.PostOrderFault.TheVariants.{Memory};
 
 use crate::expr::{Expr, ExprKind};
+use crate::walks::children::NodeChildren;
 use crate::walks::results::push_item;
 use std::alloc::{AllocError, AllocFailed, Global};
 use std::collections::BTreeMap;
@@ -159,26 +160,13 @@ fn push_children<'a, T>(tasks: &mut Vec<Task<'a, T>>, node: &'a Expr<T>) -> Resu
         bare_tasks tasks.new.items
         ≡ bare_tasks tasks.old.items ++ last_first (children_of node.now)) }
 {
-    match node.expr_kind() {
-        ExprKind::Lit(_) | ExprKind::Var(_) | ExprKind::Slot(_) | ExprKind::Unknown(_) => Ok(()),
-        ExprKind::If {
-            test_expr,
-            then_expr,
-            else_expr,
-        } => push_three(tasks, test_expr, then_expr, else_expr),
-        ExprKind::And { left, right } | ExprKind::Or { left, right } => {
-            push_two(tasks, left, right)
-        }
-        ExprKind::BinaryApp { arg1, arg2, .. } => push_two(tasks, arg1, arg2),
-        ExprKind::UnaryApp { arg: child, .. }
-        | ExprKind::GetAttr { expr: child, .. }
-        | ExprKind::HasAttr { expr: child, .. }
-        | ExprKind::Like { expr: child, .. }
-        | ExprKind::Is { expr: child, .. } => push_item(tasks, Task::Visit(child)),
-        ExprKind::ExtensionFunctionApp { args: row, .. } | ExprKind::Set(row) => {
-            push_row(tasks, row)
-        }
-        ExprKind::Record(pairs) => push_values(tasks, pairs),
+    match NodeChildren::of(node) {
+        NodeChildren::Nothing => Ok(()),
+        NodeChildren::One(child) => push_item(tasks, Task::Visit(child)),
+        NodeChildren::Two(first, second) => push_two(tasks, first, second),
+        NodeChildren::Three(first, second, third) => push_three(tasks, first, second, third),
+        NodeChildren::Row(row) => push_row(tasks, row),
+        NodeChildren::Values(pairs) => push_values(tasks, pairs),
     }
 }
 
