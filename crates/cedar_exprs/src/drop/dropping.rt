@@ -14,9 +14,9 @@ ghost use Rattle.cedar_exprs.specs.Steps.{
   IsStep,
 };
 
-use crate::expr::{Expr, ExprKind};
 use crate::drop::row_items::{last_branch, last_branch_value, take_item, take_value};
 use crate::drop::subtrees::{Row, Subtrees, drop_leaf, take_subtrees};
+use crate::expr::{Expr, ExprKind};
 use cedar_iterative_drop::{LEVELS, Taken};
 use cedar_terms::UnaryOp;
 use std::collections::BTreeMap;
@@ -264,9 +264,9 @@ fn go_beside<T: Drop>(child: Rc<Expr<T>>, rest: ExprKind<T>, rows: Option<Subtre
     match Rc::into_inner(child) {
         Some(node) => Step::Watched(
             take_subtrees(rest),
-            remaining(take_subtrees(node.into_parts().0), rows),
+            remaining_of(take_subtrees(node.into_parts().0), rows),
         ),
-        None => Step::On(remaining(take_subtrees(rest), rows)),
+        None => Step::On(remaining_of(take_subtrees(rest), rows)),
     }
 }
 
@@ -289,11 +289,11 @@ fn resume_waiting<T: Drop>(
     ensures { IfSome result (λ left. all_nodes left ≤ if_node waiting + if_row rows) }
 {
     match next_of(waiting) {
-        Some(below) => Some(remaining(below, rows)),
+        Some(below) => Some(remaining_of(below, rows)),
         None => match rows {
             Some(Subtrees::Row(Row::Items(items))) => Some(resume_items(items)),
             Some(Subtrees::Row(Row::Fields(fields))) => Some(resume_fields(fields)),
-            Some(below) => Some(remaining(below, None)),
+            Some(below) => Some(remaining_of(below, None)),
             None => None,
         },
     }
@@ -313,7 +313,7 @@ fn next_of<T: Drop>(waiting: Option<Rc<Expr<T>>>) -> Option<Subtrees<T>>
 }
 
 // What comes next, and the rows that wait.
-fn remaining<T>(below: Subtrees<T>, rows: Option<Subtrees<T>>) -> Remaining<T>
+fn remaining_of<T>(below: Subtrees<T>, rows: Option<Subtrees<T>>) -> Remaining<T>
     ensures { all_nodes result ≡ below_nodes below + if_row rows }
 {
     Remaining {
@@ -391,7 +391,7 @@ fn resume_items<T: Drop>(items: Rc<Vec<Expr<T>>>) -> Remaining<T>
             let last = last_branch(row);
             resume_row(last, row.is_empty(), Row::Items(items))
         }
-        None => remaining(Subtrees::Row(Row::Items(items)), None),
+        None => remaining_of(Subtrees::Row(Row::Items(items)), None),
     }
 }
 
@@ -405,7 +405,7 @@ fn resume_fields<T: Drop>(fields: Rc<BTreeMap<RcStr, Expr<T>>>) -> Remaining<T>
             let last = last_branch_value(row);
             resume_row(last, row.is_empty(), Row::Fields(fields))
         }
-        None => remaining(Subtrees::Row(Row::Fields(fields)), None),
+        None => remaining_of(Subtrees::Row(Row::Fields(fields)), None),
     }
 }
 
@@ -417,12 +417,12 @@ fn resume_row<T>(last: Option<Subtrees<T>>, is_only: bool, row: Row<T>) -> Remai
     match last {
         Some(last) => {
             if is_only {
-                remaining(Subtrees::Row(row), Some(last))
+                remaining_of(Subtrees::Row(row), Some(last))
             } else {
-                remaining(last, Some(Subtrees::Row(row)))
+                remaining_of(last, Some(Subtrees::Row(row)))
             }
         }
-        None => remaining(Subtrees::Row(row), None),
+        None => remaining_of(Subtrees::Row(row), None),
     }
 }
 
