@@ -16,6 +16,7 @@ pub mod Running
 pub mod Stacks
 pub mod Counts
 pub mod ShapeWalks
+pub mod ShapeKinds
 pub mod RestrictedCalls
 pub mod Branches
 pub mod BoundNodes

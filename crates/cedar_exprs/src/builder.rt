@@ -33,8 +33,8 @@ use std::rc::{Rc, RcStr};
 /// Makes expressions, each with the builder's place and data on its outermost node.
 ///
 /// `and` and `or` of two Boolean literals make the literal of the result; `noteq`, `greater` and
-/// `greatereq` make two nodes; every other call makes one. Most of its calls are those of the trait of
-/// the same name: `use cedar_ast::expr_builder::ExprBuilder as _;`.
+/// `greatereq` make two nodes; every other call makes one. Most of its calls are those of the trait
+/// of the same name: `use cedar_ast::expr_builder::ExprBuilder as _;`.
 ///
 /// As the type argument of `into_expr` and its like it stands in a function that is generic in `T`:
 /// see there.

@@ -39,8 +39,8 @@ pub fn data_by_children<T>()
     ensures { (e : Expr T) → data_tree e ≡ holds (data_of e) (data_trees (children e)) }
 {}
 
-/// The positions of an expression are the expression itself and then those of its children, the last
-/// child first.
+/// The positions of an expression are the expression itself and then those of its children, the
+/// last child first.
 pub fn positions_by_children<T>()
     ensures { (e : Expr T) → positions e ≡ e ∷ backward (map positions (children e)) }
 {}
@@ -71,8 +71,8 @@ fn node_keys_ascend<T>(expr: &Expr<T>)
     }
 }
 
-/// In preorder a node stands before the nodes of its children, the first child first. The bare trees
-/// of these nodes are the nodes of the bare tree.
+/// In preorder a node stands before the nodes of its children, the first child first. The bare
+/// trees of these nodes are the nodes of the bare tree.
 pub fn nodes_in_preorder<T>()
     ensures { InPreorder T }
 {}

@@ -23,10 +23,7 @@ impl<T> Expr<T> {
     pub fn is_slot(&self) -> bool
         ensures { result ≡ is_slot (bare_expr self.now) }
     {
-        match self.expr_kind() {
-            ExprKind::Slot(_) => true,
-            _ => false,
-        }
+        matches!(self.expr_kind(), ExprKind::Slot(_))
     }
 
     /// Whether it is a set of literals of entities alone; the empty set is one.
@@ -77,22 +74,19 @@ fn are_refs<T>(members: &[Expr<T>]) -> bool
 fn is_projectable_node<T>(expr: &Expr<T>) -> bool
     ensures { result ≡ is_projectable_node (bare_expr expr.now) }
 {
-    match expr.expr_kind() {
+    matches!(
+        expr.expr_kind(),
         ExprKind::Lit(_)
-        | ExprKind::Unknown(_)
-        | ExprKind::Set(_)
-        | ExprKind::Var(_)
-        | ExprKind::Record(_) => true,
-        _ => false,
-    }
+            | ExprKind::Unknown(_)
+            | ExprKind::Set(_)
+            | ExprKind::Var(_)
+            | ExprKind::Record(_)
+    )
 }
 
 // Whether a node is an unknown.
 fn is_unknown<T>(expr: &Expr<T>) -> bool
     ensures { result ≡ is_unknown (bare_expr expr.now) }
 {
-    match expr.expr_kind() {
-        ExprKind::Unknown(_) => true,
-        _ => false,
-    }
+    matches!(expr.expr_kind(), ExprKind::Unknown(_))
 }

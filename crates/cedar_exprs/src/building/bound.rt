@@ -9,8 +9,8 @@ ghost use Rattle.cedar_exprs.specs.RestrictedExprs.{binding_of, env_of};
 
 use crate::building::build::{Building, build_by};
 use crate::expr::{Expr, ExprKind};
-use crate::walks::post_order::{PostOrder, PostOrderFault, run};
 use crate::restricted_expr::SubstituteValue;
+use crate::walks::post_order::{PostOrder, PostOrderFault, run};
 use crate::walks::results::push_item;
 use cedar_builders::{BuildFault, ExprBuilder};
 use std::alloc::Global;

@@ -4,8 +4,8 @@ ghost use Rattle.std.specs.Prelude.{◌+◌, ◌≤◌, IfSome};
 ghost use Rattle.cedar_iterative_drop.specs.Rows.{IsPut, IsTaken};
 ghost use Rattle.cedar_exprs.specs.Steps.{below_nodes, field_nodes, if_row, item_nodes};
 
-use crate::expr::Expr;
 use crate::drop::subtrees::Subtrees;
+use crate::expr::Expr;
 use cedar_iterative_drop::{Taken, after_leaf};
 use std::collections::BTreeMap;
 use std::rc::RcStr;

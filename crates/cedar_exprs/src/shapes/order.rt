@@ -37,151 +37,94 @@ impl<T> Expr<T> {
     }
 }
 
-// By the kinds, and within a kind by its fields.
+// The first of several comparisons that is not `Equal`; those behind it are not made.
+macro_rules! in_turn {
+    ($last:expr) => { $last };
+    ($first:expr, $($rest:expr),+) => {
+        match $first {
+            Ordering::Equal => in_turn!($($rest),+),
+            decided => decided,
+        }
+    };
+}
+
+// Like kinds by their fields, others by the numbers of the kinds.
 #[cycle(shape_order)]
 pub(crate) fn cmp_shape<T, U>(a: &Expr<T>, b: &Expr<U>) -> Ordering
     ensures { result ≡ shape_cmp (bare_expr a.now) (bare_expr b.now) }
 {
-    match &a.expr_kind {
-        ExprKind::Lit(literal) => match &b.expr_kind {
-            ExprKind::Lit(other_literal) => literal.cmp(other_literal),
-            _ => cmp_kinds(a, b),
-        },
-        ExprKind::Var(var) => match &b.expr_kind {
-            ExprKind::Var(other_var) => var.cmp(other_var),
-            _ => cmp_kinds(a, b),
-        },
-        ExprKind::Slot(slot) => match &b.expr_kind {
-            ExprKind::Slot(other_slot) => slot.cmp(other_slot),
-            _ => cmp_kinds(a, b),
-        },
-        ExprKind::Unknown(unknown) => match &b.expr_kind {
-            ExprKind::Unknown(other_unknown) => cmp_unknown(unknown, other_unknown),
-            _ => cmp_kinds(a, b),
-        },
-        ExprKind::If {
-            test_expr,
-            then_expr,
-            else_expr,
-        } => match &b.expr_kind {
+    match (&a.expr_kind, &b.expr_kind) {
+        (ExprKind::Lit(x), ExprKind::Lit(y)) => x.cmp(y),
+        (ExprKind::Var(x), ExprKind::Var(y)) => x.cmp(y),
+        (ExprKind::Slot(x), ExprKind::Slot(y)) => x.cmp(y),
+        (ExprKind::Unknown(x), ExprKind::Unknown(y)) => cmp_unknown(x, y),
+        (
             ExprKind::If {
-                test_expr: other_test_expr,
-                then_expr: other_then_expr,
-                else_expr: other_else_expr,
-            } => match cmp_shape(test_expr, other_test_expr) {
-                Ordering::Equal => match cmp_shape(then_expr, other_then_expr) {
-                    Ordering::Equal => cmp_shape(else_expr, other_else_expr),
-                    other => other,
-                },
-                other => other,
+                test_expr,
+                then_expr,
+                else_expr,
             },
-            _ => cmp_kinds(a, b),
-        },
-        ExprKind::And { left, right } => match &b.expr_kind {
-            ExprKind::And {
-                left: other_left,
-                right: other_right,
-            } => match cmp_shape(left, other_left) {
-                Ordering::Equal => cmp_shape(right, other_right),
-                other => other,
+            ExprKind::If {
+                test_expr: other_test,
+                then_expr: other_then,
+                else_expr: other_else,
             },
-            _ => cmp_kinds(a, b),
-        },
-        ExprKind::Or { left, right } => match &b.expr_kind {
-            ExprKind::Or {
-                left: other_left,
-                right: other_right,
-            } => match cmp_shape(left, other_left) {
-                Ordering::Equal => cmp_shape(right, other_right),
-                other => other,
-            },
-            _ => cmp_kinds(a, b),
-        },
-        ExprKind::UnaryApp { op, arg } => match &b.expr_kind {
-            ExprKind::UnaryApp {
-                op: other_op,
-                arg: other_arg,
-            } => match cmp_unary_ops(*op, *other_op) {
-                Ordering::Equal => cmp_shape(arg, other_arg),
-                other => other,
-            },
-            _ => cmp_kinds(a, b),
-        },
-        ExprKind::BinaryApp { op, arg1, arg2 } => match &b.expr_kind {
+        ) => in_turn!(
+            cmp_shape(test_expr, other_test),
+            cmp_shape(then_expr, other_then),
+            cmp_shape(else_expr, other_else)
+        ),
+        (ExprKind::And { left: e, right: f }, ExprKind::And { left: g, right: h }) => {
+            in_turn!(cmp_shape(e, g), cmp_shape(f, h))
+        }
+        (ExprKind::Or { left: e, right: f }, ExprKind::Or { left: g, right: h }) => {
+            in_turn!(cmp_shape(e, g), cmp_shape(f, h))
+        }
+        (ExprKind::UnaryApp { op: x, arg: e }, ExprKind::UnaryApp { op: y, arg: f }) => {
+            in_turn!(cmp_unary_ops(*x, *y), cmp_shape(e, f))
+        }
+        (
+            ExprKind::BinaryApp { op, arg1, arg2 },
             ExprKind::BinaryApp {
-                op: other_op,
-                arg1: other_arg1,
-                arg2: other_arg2,
-            } => match cmp_binary_ops(*op, *other_op) {
-                Ordering::Equal => match cmp_shape(arg1, other_arg1) {
-                    Ordering::Equal => cmp_shape(arg2, other_arg2),
-                    other => other,
-                },
-                other => other,
+                op: other,
+                arg1: other1,
+                arg2: other2,
             },
-            _ => cmp_kinds(a, b),
-        },
-        ExprKind::ExtensionFunctionApp { fn_name, args } => match &b.expr_kind {
+        ) => in_turn!(
+            cmp_binary_ops(*op, *other),
+            cmp_shape(arg1, other1),
+            cmp_shape(arg2, other2)
+        ),
+        (
+            ExprKind::ExtensionFunctionApp { fn_name, args },
             ExprKind::ExtensionFunctionApp {
-                fn_name: other_fn_name,
+                fn_name: other,
                 args: other_args,
-            } => match fn_name.cmp(other_fn_name) {
-                Ordering::Equal => cmp_members(args, other_args),
-                other => other,
             },
-            _ => cmp_kinds(a, b),
-        },
-        ExprKind::GetAttr { expr, attr } => match &b.expr_kind {
-            ExprKind::GetAttr {
-                expr: other_expr,
-                attr: other_attr,
-            } => match attr.cmp(other_attr) {
-                Ordering::Equal => cmp_shape(expr, other_expr),
-                other => other,
-            },
-            _ => cmp_kinds(a, b),
-        },
-        ExprKind::HasAttr { expr, attrs } => match &b.expr_kind {
-            ExprKind::HasAttr {
-                expr: other_expr,
-                attrs: other_attrs,
-            } => match cmp_has_numbers(attrs, other_attrs) {
-                Ordering::Equal => match cmp_paths(attrs, other_attrs) {
-                    Ordering::Equal => cmp_shape(expr, other_expr),
-                    other => other,
-                },
-                other => other,
-            },
-            _ => cmp_kinds(a, b),
-        },
-        ExprKind::Like { expr, pattern } => match &b.expr_kind {
+        ) => in_turn!(fn_name.cmp(other), cmp_members(args, other_args)),
+        (ExprKind::GetAttr { expr: e, attr: x }, ExprKind::GetAttr { expr: f, attr: y }) => {
+            in_turn!(x.cmp(y), cmp_shape(e, f))
+        }
+        (ExprKind::HasAttr { expr: e, attrs: x }, ExprKind::HasAttr { expr: f, attrs: y }) => {
+            in_turn!(cmp_has_numbers(x, y), cmp_paths(x, y), cmp_shape(e, f))
+        }
+        (
+            ExprKind::Like { expr, pattern },
             ExprKind::Like {
                 expr: other_expr,
-                pattern: other_pattern,
-            } => match pattern.cmp(other_pattern) {
-                Ordering::Equal => cmp_shape(expr, other_expr),
-                other => other,
+                pattern: other,
             },
-            _ => cmp_kinds(a, b),
-        },
-        ExprKind::Set(members) => match &b.expr_kind {
-            ExprKind::Set(other_members) => cmp_members(members, other_members),
-            _ => cmp_kinds(a, b),
-        },
-        ExprKind::Record(pairs) => match &b.expr_kind {
-            ExprKind::Record(other_pairs) => cmp_pairs(pairs, other_pairs),
-            _ => cmp_kinds(a, b),
-        },
-        ExprKind::Is { expr, entity_type } => match &b.expr_kind {
+        ) => in_turn!(pattern.cmp(other), cmp_shape(expr, other_expr)),
+        (ExprKind::Set(es), ExprKind::Set(fs)) => cmp_members(es, fs),
+        (ExprKind::Record(ps), ExprKind::Record(qs)) => cmp_pairs(ps, qs),
+        (
+            ExprKind::Is { expr, entity_type },
             ExprKind::Is {
                 expr: other_expr,
-                entity_type: other_entity_type,
-            } => match entity_type.cmp(other_entity_type) {
-                Ordering::Equal => cmp_shape(expr, other_expr),
-                other => other,
+                entity_type: other,
             },
-            _ => cmp_kinds(a, b),
-        },
+        ) => in_turn!(entity_type.cmp(other), cmp_shape(expr, other_expr)),
+        _ => cmp_kinds(a, b),
     }
 }
 

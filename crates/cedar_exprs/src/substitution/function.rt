@@ -5,8 +5,8 @@ ghost use Rattle.cedar_terms.specs.Unknowns.{bare_unknown};
 ghost use Rattle.cedar_builders.specs.TypeClash.{TwoTypes, Refusals, difference, mismatch};
 ghost use Rattle.cedar_exprs.specs.Refusals.{clash_types, no_clash, Refuses};
 
-use crate::walks::post_order::PostOrderFault;
 use crate::restricted_expr::SubstituteValue;
+use crate::walks::post_order::PostOrderFault;
 use cedar_terms::{Type, Unknown};
 use std::alloc::Global;
 use std::convert::Infallible;

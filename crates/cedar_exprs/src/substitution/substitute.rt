@@ -1,7 +1,7 @@
 //! Substitution of unknowns by values, as a walk.
 //!
-//! `substitute_node` has a small function for each kind: one function would keep room for the locals of all
-//! kinds.
+//! `substitute_node` has a small function for each kind: one function would keep room for the
+//! locals of all kinds.
 ghost use Rattle.std.specs.Prelude.{◌≡◌, ◌≤◌, Option, Some, Ok, IfOk, [], ◌∷◌, length, map, vec_len};
 ghost use Rattle.std.specs.Rc.{rc_str_bytes};
 ghost use Rattle.cedar_names.specs.PlainNames.{bare_name};
@@ -24,10 +24,10 @@ ghost use Rattle.cedar_exprs.specs.RestrictedExprs.{env_of};
 
 use crate::builder::ExprBuilder;
 use crate::expr::{Expr, ExprKind};
-use crate::walks::post_order::{PostOrder, PostOrderFault, run};
 use crate::restricted_expr::SubstituteValue;
-use crate::walks::results::{push_item, take_many, take_three, take_two};
 use crate::substitution::function::{SubstitutionFunction, UntypedSubstitution};
+use crate::walks::post_order::{PostOrder, PostOrderFault, run};
+use crate::walks::results::{push_item, take_many, take_three, take_two};
 use cedar_builders::laws::{built_after, restricted_rebuilt, substituted_by_fold};
 use cedar_builders::{
     BuildFault, ExprBuilder as _, ExpressionConstructionError, LawfulExprBuilder,
@@ -147,8 +147,8 @@ impl<'a, S: SubstitutionFunction, V: SubstituteValue> PostOrder<()> for Substitu
     ghost answer = { λ w e. renewed S.refuses (env_of V.bare_type_of V.bare_expr_of w.values.now)
         e };
 
-    ghost is_made_of = { λ w e. IsRenewedOf S.refuses (env_of V.bare_type_of V.bare_expr_of w.values.now)
-        e };
+    ghost is_made_of = { λ w e. IsRenewedOf S.refuses
+        (env_of V.bare_type_of V.bare_expr_of w.values.now) e };
 
     #[inline(always)]
     fn make(

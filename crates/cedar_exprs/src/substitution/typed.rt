@@ -9,10 +9,10 @@ ghost use Rattle.cedar_exprs.specs.BareExpr.{bare_expr};
 ghost use Rattle.cedar_exprs.specs.RestrictedExprs.{env_of};
 
 use crate::expr::Expr;
-use crate::walks::post_order::PostOrderFault;
 use crate::restricted_expr::SubstituteValue;
-use crate::substitution::substitute::substitute_general;
 use crate::substitution::function::{Clash, TypedSubstitution};
+use crate::substitution::substitute::substitute_general;
+use crate::walks::post_order::PostOrderFault;
 use cedar_builders::SubstitutionError;
 use cedar_builders::laws::{clash_by_children, substituted_by_fold};
 use std::alloc::Global;

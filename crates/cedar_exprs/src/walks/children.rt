@@ -9,7 +9,8 @@ use std::collections::{BTreeMap, btree_map};
 use std::rc::RcStr;
 use std::slice;
 
-// The children of a node, borrowed as they stand in it: in field order, the values of a record by key.
+// The children of a node, borrowed as they stand in it: in field order, the values of a record by
+// key.
 #[derive(Drop)]
 pub(crate) enum NodeChildren<'a, T> {
     Nothing,

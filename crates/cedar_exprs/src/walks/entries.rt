@@ -1,8 +1,8 @@
 //! How many entries the stack of a walk needs.
 //!
-//! Each node with children is counted by itself: by the entries that are below it on that stack when
-//! its turn comes, and the number of its children. Of the children the first has as many entries
-//! below it, and each other one more than the child before.
+//! Each node with children is counted by itself: by the entries that are below it on that stack
+//! when its turn comes, and the number of its children. Of the children the first has as many
+//! entries below it, and each other one more than the child before.
 ghost use Rattle.std.specs.Prelude.{◌≡◌, ◌+◌, ◌<◌, ◌≤◌, [], ◌∷◌, map, max, IfOk, OnOk};
 ghost use Rattle.cedar_builders.specs.Walks.{need};
 ghost use Rattle.cedar_exprs.specs.BareExpr.{bare_expr};

@@ -8,9 +8,9 @@ ghost use Rattle.cedar_builders.specs.Walks.{need};
 ghost use Rattle.cedar_exprs.specs.BareExpr.{bare_expr};
 ghost use Rattle.cedar_exprs.specs.Walks.{children, positions, referents, need_of};
 
+use crate::expr::{Expr, ExprKind};
 use crate::walks::children::NodeChildren;
 use crate::walks::entries::entries;
-use crate::expr::{Expr, ExprKind};
 use cedar_names::{Loc, Slot, SlotId};
 use cedar_terms::Unknown;
 use std::alloc::{AllocError, Global};

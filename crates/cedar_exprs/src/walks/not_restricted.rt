@@ -7,8 +7,8 @@ ghost use Rattle.cedar_exprs.specs.NotRestricted.{first_not_restricted};
 ghost use Rattle.cedar_exprs.specs.Waiting.{next_first};
 ghost use Rattle.cedar_exprs.specs.Walks.{children};
 
-use crate::walks::children::Children;
 use crate::expr::{Expr, ExprKind};
+use crate::walks::children::Children;
 use std::alloc::{AllocError, Global};
 use std::collections::BTreeMap;
 use std::rc::RcStr;
@@ -60,14 +60,14 @@ fn first_by_calls<T>(expr: &Expr<T>) -> Option<&Expr<T>>
 fn is_restricted_node<T>(expr: &Expr<T>) -> bool
     ensures { result ≡ is_restricted_node (bare_expr expr.now) }
 {
-    match expr.expr_kind() {
+    matches!(
+        expr.expr_kind(),
         ExprKind::Lit(_)
-        | ExprKind::Unknown(_)
-        | ExprKind::ExtensionFunctionApp { .. }
-        | ExprKind::Set(_)
-        | ExprKind::Record(_) => true,
-        _ => false,
-    }
+            | ExprKind::Unknown(_)
+            | ExprKind::ExtensionFunctionApp { .. }
+            | ExprKind::Set(_)
+            | ExprKind::Record(_)
+    )
 }
 
 // Puts the children of such a node onto what waits, the first on top.
