@@ -16,19 +16,19 @@ use std::fmt;
 pub enum Answer {
     /// Its value, as `policy_text` writes it.
     Value(String),
-    /// What is left of it: a condition again.
-    Left(String),
+    /// Its residual: a condition again.
+    Residual(String),
     /// The fault which it has whatever else is bound: `line L, column C: PROBLEM`, and the line with
     /// carets below the piece.
     Fault(String),
-    /// Why it can't be read, and where, in the same form.
+    /// Why it can't be parsed, and where, in the same form.
     NoCondition(String),
 }
 
 impl Answer {
-    /// Whether it is a value, or what is left.
+    /// Whether it is a value or a residual.
     pub fn is_well(&self) -> bool {
-        matches!(self, Answer::Value(_) | Answer::Left(_))
+        matches!(self, Answer::Value(_) | Answer::Residual(_))
     }
 }
 
@@ -36,7 +36,7 @@ impl fmt::Display for Answer {
     fn fmt<W: fmt::Write>(&self, f: &mut fmt::Formatter<W>) -> fmt::Result {
         match self {
             Answer::Value(text)
-            | Answer::Left(text)
+            | Answer::Residual(text)
             | Answer::Fault(text)
             | Answer::NoCondition(text) => f.write_str(text),
         }
@@ -56,7 +56,7 @@ pub fn evaluate_condition(
     text: &str,
     bindings: &Bindings,
 ) -> Result<Answer, AllocError> {
-    match parse_with_values(alloc, text, &bindings.read_as) {
+    match parse_with_values(alloc, text, &bindings.parsed_as) {
         Ok(expr) => answer_expr(alloc, text, &expr, bindings),
         Err(ParseError::Syntax(error)) => no_condition(alloc, text, &error),
         Err(ParseError::Memory) => Err(AllocError),
@@ -68,7 +68,7 @@ fn no_condition(alloc: Global, text: &str, error: &SyntaxError) -> Result<Answer
     Ok(Answer::NoCondition(text))
 }
 
-// The answer to an expression that was read.
+// The answer to an expression.
 fn answer_expr(
     alloc: Global,
     text: &str,
@@ -77,19 +77,19 @@ fn answer_expr(
 ) -> Result<Answer, AllocError> {
     let part = simplify(alloc, expr, &bindings.values)?;
     let is_known = part.is_known();
-    let left = part.into_expr(alloc)?;
+    let residual = part.into_expr(alloc)?;
     if is_known {
-        return Ok(Answer::Value(policy_text(alloc, &left)?.text));
+        return Ok(Answer::Value(policy_text(alloc, &residual)?.text));
     }
-    match lasting_fault(alloc, &left)? {
-        Some(words) => answer_fault(alloc, text, words, &left),
-        None => Ok(Answer::Left(policy_text(alloc, &left)?.text)),
+    match lasting_fault(alloc, &residual)? {
+        Some(words) => answer_fault(alloc, text, words, &residual),
+        None => Ok(Answer::Residual(policy_text(alloc, &residual)?.text)),
     }
 }
 
-// The fault of what is left, in words, if no binding, store of entities or function takes it away.
-fn lasting_fault(alloc: Global, left: &Expr) -> Result<Option<&'static str>, AllocError> {
-    match evaluate(alloc, left, &HashMap::new(alloc)) {
+// The fault of a residual, in words, if no binding, store of entities or function takes it away.
+fn lasting_fault(alloc: Global, residual: &Expr) -> Result<Option<&'static str>, AllocError> {
+    match evaluate(alloc, residual, &HashMap::new(alloc)) {
         Ok(outcome) => match outcome.as_result() {
             Ok(_) => Ok(None),
             Err(fault) => Ok(lasting(*fault)),
@@ -108,9 +108,14 @@ fn lasting(fault: EvalFault) -> Option<&'static str> {
     }
 }
 
-// A fault that is left, with its place.
-fn answer_fault(alloc: Global, text: &str, words: &str, left: &Expr) -> Result<Answer, AllocError> {
-    let text = match fault_place(alloc, text, left)? {
+// A residual's fault, with its place.
+fn answer_fault(
+    alloc: Global,
+    text: &str,
+    words: &str,
+    residual: &Expr,
+) -> Result<Answer, AllocError> {
+    let text = match fault_place(alloc, text, residual)? {
         Some(piece) => {
             let (line, column) = (piece.line(), piece.column());
             format!(in alloc; "line {line}, column {column}: {words}\n{piece}")?

@@ -17,8 +17,8 @@ use thiserror::Error;
 pub struct Bindings {
     // The values of those that have one.
     pub(crate) values: HashMap<RcStr, Value>,
-    // What each is read as: one that has a value as the unknown of that name.
-    pub(crate) read_as: HashMap<RcStr, Expr>,
+    // What each is parsed as: one that has a value as the unknown of that name.
+    pub(crate) parsed_as: HashMap<RcStr, Expr>,
 }
 
 /// Why a text binds no names.
@@ -69,7 +69,7 @@ impl Bindings {
     pub fn new(alloc: Global) -> Bindings {
         Bindings {
             values: HashMap::new(alloc),
-            read_as: HashMap::new(alloc),
+            parsed_as: HashMap::new(alloc),
         }
     }
 
@@ -95,10 +95,10 @@ impl Bindings {
             Some(value) => {
                 let unknown = Expr::unknown(Unknown::new_untyped(name.clone()?));
                 bind(&mut self.values, name.clone()?, value)?;
-                bind(&mut self.read_as, name, unknown)
+                bind(&mut self.parsed_as, name, unknown)
             }
             None => {
-                bind(&mut self.read_as, name.clone()?, expr)?;
+                bind(&mut self.parsed_as, name.clone()?, expr)?;
                 drop(self.values.remove(name.as_str()));
                 Ok(())
             }

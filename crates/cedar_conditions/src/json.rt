@@ -33,7 +33,7 @@ impl<T: Drop> From<AllocFailed<T>> for NoValue {
 }
 
 // The expression of literals, sets, records and calls that a piece of JSON is. It nests as deep as
-// the JSON, which `serde_json` reads down to 127 levels.
+// the JSON, which `serde_json` parses down to 127 levels.
 #[cycle(values)]
 pub(crate) fn expr_of(alloc: Global, json: &Value) -> Result<Expr, NoValue> {
     match json {

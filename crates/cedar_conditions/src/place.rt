@@ -4,17 +4,17 @@ use cedar_parser::Excerpt;
 use cedar_terms::Literal;
 use std::alloc::{AllocError, Global};
 
-/// The piece of a condition at which its fault comes up, by what is left of it: that of the first
-/// node without a value, in the order in which nodes are evaluated.
+/// The piece of a condition at which its fault comes up, by its residual: that of the first node
+/// without a value, in the order in which nodes are evaluated.
 pub fn fault_place<'a>(
     alloc: Global,
     text: &'a str,
-    left: &Expr,
+    residual: &Expr,
 ) -> Result<Option<Excerpt<'a>>, AllocError> {
     let mut first = None;
     let mut passed_over: usize = 0;
     // The walk goes from the last node that is evaluated to the first.
-    for node in left.subexpressions(alloc)? {
+    for node in residual.subexpressions(alloc)? {
         if passed_over > 0 {
             passed_over -= 1;
         } else {
@@ -27,7 +27,7 @@ pub fn fault_place<'a>(
     Ok(first.and_then(|node| piece(text, node)))
 }
 
-// The piece of the text from which a node was read.
+// The piece of the text from which a node was parsed.
 fn piece<'a>(text: &'a str, node: &Expr) -> Option<Excerpt<'a>> {
     node.source_loc().map(|loc| Excerpt {
         text,
@@ -36,9 +36,9 @@ fn piece<'a>(text: &'a str, node: &Expr) -> Option<Excerpt<'a>> {
     })
 }
 
-// How many of the nodes that follow in the walk are not evaluated: those of both branches, since no
-// `if` is left whose test is a known Boolean, and those behind `&&` or `||` whose first operand is no
-// Boolean.
+// How many of the nodes that follow in the walk are not evaluated: those of both branches, since a
+// residual has no `if` whose test is a known Boolean, and those behind `&&` or `||` whose first operand
+// is no Boolean.
 fn unevaluated(alloc: Global, node: &Expr) -> Result<usize, AllocError> {
     match node.expr_kind() {
         ExprKind::If {

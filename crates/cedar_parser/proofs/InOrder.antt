@@ -1,4 +1,4 @@
--- TokenStream in order, as they are taken.
+-- The tokens of a stream in order, as they are taken.
 use Rattle.std.proofs.Common.{◌≡◌, ℕ, ◌≤◌, List, [], ◌∷◌, Option, Some, None, Result, Ok, Err, MatchOption, MatchResult, sym, ◌∙◌, ap, subst, arith}
 use Rattle.cedar_parser.specs.declared.operand.Operand.{Operand}
 use Rattle.cedar_parser.specs.declared.parser.Parser.{Parser}
@@ -117,11 +117,11 @@ pair_taken at old new kind t b h =
 pub step_about : (at : ℕ) (span : Span) (old new : TokenStream) (r : Parser) (result : Result (Option Operand) ParseFailure)
     → MatchResult result (IsUpTo at r) (IsAbout span) → IsLeft at old new → span.start ≤ span.stop → span.stop ≤ stop_of old
     → MatchResult result (GoesOn old new r) (IsWithin (stop_of old))
-step_about at span old new r (Ok h) u l p f = left_from at _ old new (omega (arith, u.opened, u.read)) l
+step_about at span old new r (Ok h) u l p f = left_from at _ old new (omega (arith, u.opened, u.operand)) l
 step_about at span old new r (Err e) u l p f = about span (stop_of old) e p f u
 
 pub step_opened : (at : ℕ) (old new : TokenStream) (r : Parser) (result : Result (Option Operand) ParseFailure)
     → MatchResult result (IsUpTo at r) (λ e. e ≡ failure.Memory) → IsLeft at old new
     → MatchResult result (GoesOn old new r) (IsWithin (stop_of old))
-step_opened at old new r (Ok h) u l = left_from at _ old new (omega (arith, u.opened, u.read)) l
+step_opened at old new r (Ok h) u l = left_from at _ old new (omega (arith, u.opened, u.operand)) l
 step_opened at old new r (Err e) u l = subst (IsWithin (stop_of old)) (sym u) tt

@@ -1,3 +1,3 @@
 pub mod Greatest
 pub mod InOrder
-pub mod Scanned
+pub mod Tokenized

@@ -67,7 +67,7 @@ operand_start (Some h) = h.span.start
 -- the operand and what is open begin up to this place
 pub record IsUpTo (at : ℕ) (r : Parser) (h : Option Operand) : Type 0 where
   pub opened : open_start r ≤ at
-  pub read : operand_start h ≤ at
+  pub operand : operand_start h ≤ at
 
 -- each token begins where the one before it ends, or later
 abbrev pub AreInOrder : Token → List Token → Type 0

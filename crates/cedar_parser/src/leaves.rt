@@ -145,7 +145,7 @@ pub(crate) struct Path {
 
 impl Path {
     /// The path that begins with this identifier.
-    pub(crate) fn read(
+    pub(crate) fn parse(
         alloc: Global,
         first: Token<'_>,
         tokens: &mut TokenStream<'_>,

@@ -1,7 +1,16 @@
 //! Expressions with their places in a text.
 ghost use Rattle.std.specs.Prelude.{◌≡◌, IfErr, IfOk};
 ghost use Rattle.std.specs.Rc.{rc_str_bytes};
-ghost use Rattle.cedar_builders.specs.BareExpr.{And, BinaryApp, GetAttr, HasAttr, Is, Like, Or, Set};
+ghost use Rattle.cedar_builders.specs.BareExpr.{
+  And,
+  BinaryApp,
+  GetAttr,
+  HasAttr,
+  Is,
+  Like,
+  Or,
+  Set,
+};
 ghost use Rattle.cedar_exprs.specs.BareExpr.{bare_expr, bare_expr_kind, bare_exprs, further};
 ghost use Rattle.cedar_terms.specs.Entities.{bare_entity_type};
 ghost use Rattle.cedar_parser.specs.Operations.{infix_tree, operation_tree};
@@ -23,7 +32,7 @@ use std::rc::{Rc, RcStr};
 pub(crate) struct Nodes<'a> {
     pub(crate) alloc: Global,
     pub(crate) source: RcStr,
-    /// What unknowns and variables are read as.
+    /// What unknowns and variables are parsed as.
     pub(crate) values: &'a HashMap<RcStr, Expr>,
 }
 
@@ -45,7 +54,7 @@ impl Nodes<'_> {
         Ok(self.at(span)?.with_expr_kind(kind))
     }
 
-    /// The expression that an unknown or a variable is read as, if it has a value.
+    /// The expression that an unknown or a variable is parsed as, if it has a value.
     pub(crate) fn value(&self, name: &str, span: Span) -> Result<Option<Expr>, AllocError> {
         match self.values.get(name) {
             Some(expr) => {

@@ -8,7 +8,7 @@ use cedar_lexer::{ParseFailure, Span};
 use cedar_printer::Precedence;
 use cedar_terms::UnaryOp;
 
-/// An expression that was read: how tightly its text binds, and where it stands.
+/// An expression that was parsed: how tightly its text binds, and where it stands.
 #[derive(Drop)]
 pub(crate) struct Operand {
     pub(crate) expr: Expr,
@@ -42,10 +42,10 @@ impl Operand {
     }
 }
 
-/// What was read: an operand, or nothing where one is wanted next.
+/// What a step gives: an operand, or nothing where one is wanted next.
 pub(crate) type Step = Result<Option<Operand>, ParseFailure>;
 
-/// An operation whose last operand is not read yet.
+/// An operation whose last operand is not parsed yet.
 #[derive(Drop)]
 pub(crate) enum Operation {
     /// A sign before its operand, where it stands, and how many signs stand right before it.

@@ -29,7 +29,7 @@ use std::collections::HashMap;
 use std::mem;
 use std::rc::RcStr;
 
-/// Reads an expression of Cedar's own syntax. Each node has its place in the text.
+/// Parses an expression of Cedar's own syntax. Each node has its place in the text.
 ///
 /// ```rust
 /// fn is_owner(alloc: Global) -> Result<Expr, ParseError> {
@@ -48,8 +48,8 @@ pub fn parse_expr(alloc: Global, text: &str) -> Result<Expr, ParseError>
     parse_with_values(alloc, text, &HashMap::new(alloc))
 }
 
-/// As `parse_expr`, but `unknown("x")` and the variable `x` are read as `values["x"]`; slots never are.
-/// The root of what is put in gets the place of what it replaces; its other nodes keep theirs.
+/// As `parse_expr`, but `unknown("x")` and the variable `x` are parsed as `values["x"]`; slots never
+/// are. The root of what is put in gets the place of what it replaces; its other nodes keep theirs.
 pub fn parse_with_values(
     alloc: Global,
     text: &str,
@@ -193,7 +193,7 @@ impl Parser<'_> {
             (IsWithin (stop_of tokens.old)) }
     {
         let alloc = self.nodes.alloc;
-        let path = Path::read(alloc, first, tokens)?;
+        let path = Path::parse(alloc, first, tokens)?;
         if tokens.take_if(TokenKind::Colons).is_some() {
             let (expr, span) = self.nodes.entity(path, tokens)?;
             return Ok(Some(Operand::member(expr, span)));
@@ -296,8 +296,8 @@ impl Parser<'_> {
         Ok(None)
     }
 
-    // The left operand of an operator of a precedence: what binds as tightly is applied first. It has to
-    // bind at least as tightly as the operator asks.
+    // The left operand of an operator of a precedence: what binds as tightly is applied first. It has
+    // to bind at least as tightly as the operator asks.
     fn left(
         &mut self,
         operand: Operand,

@@ -93,7 +93,7 @@ impl Parser<'_> {
     {
         let alloc = self.nodes.alloc;
         let first = tokens.expect(TokenKind::Word, "the type of an entity is wanted here")?;
-        let path = Path::read(alloc, first, tokens)?;
+        let path = Path::parse(alloc, first, tokens)?;
         let ty = EntityType::from(path.name(alloc)?);
         if tokens.take_if(TokenKind::In).is_none() {
             return Ok(Some(self.nodes.is(left, ty, path.span.stop)?));

@@ -6,7 +6,7 @@ use Rattle.cedar_parser.proofs.parser.Parser.apply_down_to.Given as goal
 abbrev pub invariant-operations : goal.invariant-operations
 invariant-operations l = record {
   opened : open_start l.self ≤ open_start l.initial.self;
-  read : l.operand.span.start ≤ max (open_start l.initial.self) l.initial.operand.span.start;
+  operand : l.operand.span.start ≤ max (open_start l.initial.self) l.initial.operand.span.start;
 }
 
 abbrev pub decreases-operations : goal.decreases-operations

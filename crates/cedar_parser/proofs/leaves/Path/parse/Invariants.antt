@@ -1,7 +1,7 @@
 use Rattle.std.proofs.Common.{◌≤◌}
 use Rattle.cedar_lexer.specs.Pieces.{tokens_left}
 use Rattle.cedar_parser.specs.Refused.{IsPath}
-use Rattle.cedar_parser.proofs.leaves.Path.read.Given as goal
+use Rattle.cedar_parser.proofs.leaves.Path.parse.Given as goal
 
 -- the path so far begins with the first identifier
 abbrev pub invariant-identifiers : goal.invariant-identifiers

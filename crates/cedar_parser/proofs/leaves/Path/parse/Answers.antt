@@ -1,6 +1,6 @@
 use Rattle.std.proofs.Common.{◌∙◌, arith}
 use Rattle.cedar_parser.proofs.InOrder.{left_from, pair_taken}
-use Rattle.cedar_parser.proofs.leaves.Path.read.Goals as goal
+use Rattle.cedar_parser.proofs.leaves.Path.parse.Goals as goal
 
 pub identifiers-preserved : goal.identifiers-preserved
 identifiers-preserved c =
