@@ -10,7 +10,7 @@ use Rattle.cedar_lexer.specs.declared.token.TokenKind.{TokenKind}
 use Rattle.cedar_lexer.specs.declared.token.Span.{Span}
 use Rattle.cedar_lexer.specs.declared.token.Token.{Token}
 use Rattle.cedar_lexer.specs.declared.token_stream.TokenStream.{TokenStream}
-use Rattle.cedar_parser.specs.Refused.{AreInOrder, GoesOn, IsAbout, IsBefore, IsFirst, IsLeft, IsUpTo, IsWithin, next_start, stop_of}
+use Rattle.cedar_parser.specs.Refused.{AreInOrder, IsAbout, IsBefore, IsFirst, IsLeft, IsStep, IsUpTo, IsWithin, next_start, stop_of}
 
 -- the next one is a piece, and ends up to the end
 first_fits : (end : Token) (ts : List Token) → AreInOrder end ts
@@ -116,12 +116,12 @@ pair_taken at old new kind t b h =
 -- a step that takes no token
 pub step_about : (at : ℕ) (span : Span) (old new : TokenStream) (r : Parser) (result : Result (Option Operand) ParseFailure)
     → MatchResult result (IsUpTo at r) (IsAbout span) → IsLeft at old new → span.start ≤ span.stop → span.stop ≤ stop_of old
-    → MatchResult result (GoesOn old new r) (IsWithin (stop_of old))
+    → IsStep old new r result
 step_about at span old new r (Ok h) u l p f = left_from at _ old new (omega (arith, u.opened, u.operand)) l
 step_about at span old new r (Err e) u l p f = about span (stop_of old) e p f u
 
 pub step_opened : (at : ℕ) (old new : TokenStream) (r : Parser) (result : Result (Option Operand) ParseFailure)
     → MatchResult result (IsUpTo at r) (λ e. e ≡ failure.Memory) → IsLeft at old new
-    → MatchResult result (GoesOn old new r) (IsWithin (stop_of old))
+    → IsStep old new r result
 step_opened at old new r (Ok h) u l = left_from at _ old new (omega (arith, u.opened, u.operand)) l
 step_opened at old new r (Err e) u l = subst (IsWithin (stop_of old)) (sym u) tt

@@ -1,5 +1,5 @@
 -- Where a text is refused: within the tokens, of which each stands behind what is open.
-use Rattle.std.specs.Prelude.{◌≡◌, ℕ, ◌≤◌, List, [], ◌∷◌, Option, Some, None, length, max, ⊤}
+use Rattle.std.specs.Prelude.{◌≡◌, ℕ, ◌≤◌, List, [], ◌∷◌, MatchResult, Option, Some, None, Result, length, max, ⊤}
 use Rattle.std.specs.Str.{IsCharBoundary}
 use Rattle.cedar_parser.specs.declared.groups.Group.{Group}
 use Rattle.cedar_parser.specs.declared.operand.Operand.{Operand}
@@ -110,3 +110,7 @@ pub record IsPath (at : ℕ) (span : Span) (old new : TokenStream) : Type 0 wher
 -- what is left stands behind what is open and the operand
 abbrev pub GoesOn : TokenStream → TokenStream → Parser → Option Operand → Type 0
 GoesOn old new r h = IsLeft (max (open_start r) (operand_start h)) old new
+
+-- how a step ends: what is left stands behind what is open and the operand, or the failure is about a piece of the text
+abbrev pub IsStep : TokenStream → TokenStream → Parser → Result (Option Operand) ParseFailure → Type 0
+IsStep old new r result = MatchResult result (GoesOn old new r) (IsWithin (stop_of old))

@@ -25,8 +25,13 @@ impl Nodes<'_> {
     {
         match unknown_name(&name, &args)? {
             Some(name) => Ok(self.unknown(name, span)?),
-            None => Ok(self.at(span)?.call_extension_fn(self.alloc, name, args)?),
+            None => Ok(self.extension_call(name, args, span)?),
         }
+    }
+
+    // The call of a function or a method of an extension.
+    fn extension_call(&self, name: Name, args: Vec<Expr>, span: Span) -> Result<Expr, AllocError> {
+        Ok(self.at(span)?.call_extension_fn(self.alloc, name, args)?)
     }
 
     fn unknown(&self, name: RcStr, span: Span) -> Result<Expr, AllocError> {
@@ -38,7 +43,8 @@ impl Nodes<'_> {
         }
     }
 
-    /// The call of a method, whose first argument stands before its name.
+    /// The call of a method, whose first argument stands before its name. As the name is an identifier,
+    /// it is that of no operator which stands between its operands.
     pub(crate) fn method_call(
         &self,
         method: &str,
@@ -47,23 +53,26 @@ impl Nodes<'_> {
     ) -> Result<Expr, ParseFailure>
         ensures { IfErr result (IsAbout span) }
     {
-        if method == "isEmpty" {
-            return self.is_empty(args, span);
+        if let Some(op) = UnaryOp::from_text(method) {
+            return self.unary_method(op, args, span);
         }
-        match method_op(method) {
+        match BinaryOp::from_text(method) {
             Some(op) => self.binary_method(op, args, span),
             None => self.extension_method(method, args, span),
         }
     }
 
-    // Whether a set is empty.
-    fn is_empty(&self, mut args: Vec<Expr>, span: Span) -> Result<Expr, ParseFailure>
+    // An operator of one argument that is written as a method.
+    fn unary_method(
+        &self,
+        op: UnaryOp,
+        mut args: Vec<Expr>,
+        span: Span,
+    ) -> Result<Expr, ParseFailure>
         ensures { IfErr result (IsAbout span) }
     {
         match (args.pop(), args.pop()) {
-            (Some(arg), None) => {
-                Ok(self.at(span)?.unary_app(self.alloc, UnaryOp::IsEmpty, arg)?)
-            }
+            (Some(arg), None) => Ok(self.at(span)?.unary_app(self.alloc, op, arg)?),
             _ => Err(ParseFailure::Syntax(span, WRONG_COUNT)),
         }
     }
@@ -95,7 +104,7 @@ impl Nodes<'_> {
         ensures { IfErr result (IsAbout span) }
     {
         let name = name_of(self.alloc, method, span)?;
-        Ok(self.at(span)?.call_extension_fn(self.alloc, name, args)?)
+        Ok(self.extension_call(name, args, span)?)
     }
 }
 
@@ -117,17 +126,5 @@ fn literal_text(expr: &Expr) -> Result<Option<RcStr>, AllocError> {
     match expr.expr_kind() {
         ExprKind::Lit(Literal::String(text)) => Ok(Some(text.clone()?)),
         _ => Ok(None),
-    }
-}
-
-// The operator of two arguments that is written as a method.
-fn method_op(method: &str) -> Option<BinaryOp> {
-    match method {
-        "contains" => Some(BinaryOp::Contains),
-        "containsAll" => Some(BinaryOp::ContainsAll),
-        "containsAny" => Some(BinaryOp::ContainsAny),
-        "getTag" => Some(BinaryOp::GetTag),
-        "hasTag" => Some(BinaryOp::HasTag),
-        _ => None,
     }
 }

@@ -3,15 +3,13 @@ ghost use Rattle.std.specs.Prelude.{◌≡◌, ◌≤◌, IfErr, MatchResult, ma
 ghost use Rattle.cedar_lexer.specs.Pieces.{tokens_left};
 ghost use Rattle.cedar_lexer.specs.declared.parse_failure.ParseFailure.TheVariants.{Memory};
 ghost use Rattle.cedar_parser.specs.Refused.{
-  GoesOn,
   IsAbout,
   IsBefore,
   IsFirst,
+  IsStep,
   IsUpTo,
-  IsWithin,
   group_start,
   open_start,
-  stop_of,
 };
 
 use crate::leaves::key;
@@ -106,9 +104,7 @@ impl Parser<'_> {
         requires opened { open_start self.old ≤ token.span.start }
         requires first { IsFirst (group_start group) token tokens.old }
         ensures left { tokens_left tokens.new ≤ tokens_left tokens.old }
-        ensures goes_on { MatchResult result
-            (GoesOn tokens.old tokens.new self.new)
-            (IsWithin (stop_of tokens.old)) }
+        ensures goes_on { IsStep tokens.old tokens.new self.new result }
     {
         if !group.takes(token.kind) {
             return Err(ParseFailure::Syntax(token.span, group.wanted()));
@@ -168,9 +164,7 @@ impl Parser<'_> {
     ) -> Step
         requires { IsBefore (max (open_start self.old) start) tokens.old }
         ensures left { tokens_left tokens.new ≤ tokens_left tokens.old }
-        ensures goes_on { MatchResult result
-            (GoesOn tokens.old tokens.new self.new)
-            (IsWithin (stop_of tokens.old)) }
+        ensures goes_on { IsStep tokens.old tokens.new self.new result }
     {
         match tokens.take_if(kind.closing()) {
             Some(Token { span, .. }) => {
@@ -204,9 +198,7 @@ impl Parser<'_> {
     ) -> Step
         requires { IsBefore (max (open_start self.old) start) tokens.old }
         ensures left { tokens_left tokens.new ≤ tokens_left tokens.old }
-        ensures goes_on { MatchResult result
-            (GoesOn tokens.old tokens.new self.new)
-            (IsWithin (stop_of tokens.old)) }
+        ensures goes_on { IsStep tokens.old tokens.new self.new result }
     {
         if let Some(Token { span, .. }) = tokens.take_if(TokenKind::CloseCurly) {
             let stop = span.stop;

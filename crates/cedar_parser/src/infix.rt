@@ -1,7 +1,6 @@
 //! Operators between two operands.
 use cedar_lexer::TokenKind;
-use cedar_printer::Precedence;
-use cedar_terms::BinaryOp;
+use cedar_terms::{BinaryOp, Precedence};
 
 /// An operator between two operands.
 #[derive(Clone, Copy)]

@@ -47,12 +47,8 @@ impl Nodes<'_> {
     pub(crate) fn variable(&self, path: &Path) -> Result<Expr, ParseFailure>
         ensures { IfErr result (IsAbout path.now.span) }
     {
-        let var = match path.text.as_str() {
-            "principal" => Var::Principal,
-            "action" => Var::Action,
-            "resource" => Var::Resource,
-            "context" => Var::Context,
-            _ => return Err(ParseFailure::Syntax(path.span, "this is no variable")),
+        let Some(var) = Var::from_text(&path.text) else {
+            return Err(ParseFailure::Syntax(path.span, "this is no variable"));
         };
         match self.value(&path.text, path.span)? {
             Some(expr) => Ok(expr),

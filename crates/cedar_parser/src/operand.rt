@@ -5,8 +5,7 @@ ghost use Rattle.cedar_parser.specs.Refused.{start_of};
 use crate::infix::Infix;
 use cedar_exprs::Expr;
 use cedar_lexer::{ParseFailure, Span};
-use cedar_printer::Precedence;
-use cedar_terms::UnaryOp;
+use cedar_terms::{Precedence, UnaryOp};
 
 /// An expression that was parsed: how tightly its text binds, and where it stands.
 #[derive(Drop)]

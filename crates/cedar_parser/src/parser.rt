@@ -3,16 +3,15 @@ ghost use Rattle.std.specs.Prelude.{◌≡◌, ◌<◌, ◌≤◌, IfErr, IfSome
 ghost use Rattle.cedar_lexer.specs.Pieces.{tokens_left};
 ghost use Rattle.cedar_lexer.specs.declared.parse_failure.ParseFailure.TheVariants.{Memory};
 ghost use Rattle.cedar_parser.specs.Refused.{
-  GoesOn,
   IsAbout,
   IsFirst,
+  IsStep,
   IsToldIn,
   IsUpTo,
   IsWithin,
   operand_start,
   open_start,
   start_of,
-  stop_of,
 };
 
 use crate::groups::{Group, GroupKind, RowKind};
@@ -22,8 +21,7 @@ use crate::nodes::Nodes;
 use crate::operand::{Operand, Operation, Step};
 use cedar_exprs::{Expr, ExprKind};
 use cedar_lexer::{ParseError, ParseFailure, Span, Token, TokenKind, TokenStream, tokenize};
-use cedar_printer::Precedence;
-use cedar_terms::{Literal, UnaryOp};
+use cedar_terms::{Literal, Precedence, UnaryOp};
 use std::alloc::Global;
 use std::collections::HashMap;
 use std::mem;
@@ -48,8 +46,8 @@ pub fn parse_expr(alloc: Global, text: &str) -> Result<Expr, ParseError>
     parse_with_values(alloc, text, &HashMap::new(alloc))
 }
 
-/// As `parse_expr`, but `unknown("x")` and the variable `x` are parsed as `values["x"]`; slots never
-/// are. The root of what is put in gets the place of what it replaces; its other nodes keep theirs.
+/// As `parse_expr`, but `unknown("x")` and the variable `x` are parsed as `values["x"]`; slots
+/// never are. The root of what is put in gets the place of what it replaces; its other nodes keep theirs.
 pub fn parse_with_values(
     alloc: Global,
     text: &str,
@@ -104,9 +102,7 @@ impl Parser<'_> {
     ) -> Step
         requires { IsFirst (max (open_start self.old) (operand_start operand)) token tokens.old }
         ensures left { tokens_left tokens.new ≤ tokens_left tokens.old }
-        ensures goes_on { MatchResult result
-            (GoesOn tokens.old tokens.new self.new)
-            (IsWithin (stop_of tokens.old)) }
+        ensures goes_on { IsStep tokens.old tokens.new self.new result }
     {
         match operand {
             Some(operand) => self.follow(operand, token, tokens),
@@ -118,9 +114,7 @@ impl Parser<'_> {
     fn operand(&mut self, token: Token<'_>, tokens: &mut TokenStream<'_>) -> Step
         requires { IsFirst (open_start self.old) token tokens.old }
         ensures left { tokens_left tokens.new ≤ tokens_left tokens.old }
-        ensures goes_on { MatchResult result
-            (GoesOn tokens.old tokens.new self.new)
-            (IsWithin (stop_of tokens.old)) }
+        ensures goes_on { IsStep tokens.old tokens.new self.new result }
     {
         let Token { kind, span, .. } = token;
         let alloc = self.nodes.alloc;
@@ -188,9 +182,7 @@ impl Parser<'_> {
     fn name(&mut self, first: Token<'_>, tokens: &mut TokenStream<'_>) -> Step
         requires { IsFirst (open_start self.old) first tokens.old }
         ensures left { tokens_left tokens.new ≤ tokens_left tokens.old }
-        ensures goes_on { MatchResult result
-            (GoesOn tokens.old tokens.new self.new)
-            (IsWithin (stop_of tokens.old)) }
+        ensures goes_on { IsStep tokens.old tokens.new self.new result }
     {
         let alloc = self.nodes.alloc;
         let path = Path::parse(alloc, first, tokens)?;
@@ -252,9 +244,7 @@ impl Parser<'_> {
     fn follow(&mut self, operand: Operand, token: Token<'_>, tokens: &mut TokenStream<'_>) -> Step
         requires { IsFirst (max (open_start self.old) operand.span.start) token tokens.old }
         ensures left { tokens_left tokens.new ≤ tokens_left tokens.old }
-        ensures goes_on { MatchResult result
-            (GoesOn tokens.old tokens.new self.new)
-            (IsWithin (stop_of tokens.old)) }
+        ensures goes_on { IsStep tokens.old tokens.new self.new result }
     {
         match token.kind {
             TokenKind::Dot => self.dot(member(operand, token)?, tokens),
@@ -271,9 +261,7 @@ impl Parser<'_> {
     fn test(&mut self, operand: Operand, token: Token<'_>, tokens: &mut TokenStream<'_>) -> Step
         requires { IsFirst (max (open_start self.old) operand.span.start) token tokens.old }
         ensures left { tokens_left tokens.new ≤ tokens_left tokens.old }
-        ensures goes_on { MatchResult result
-            (GoesOn tokens.old tokens.new self.new)
-            (IsWithin (stop_of tokens.old)) }
+        ensures goes_on { IsStep tokens.old tokens.new self.new result }
     {
         let left = self.left(operand, Precedence::Relation, Precedence::Sum, token)?;
         match token.kind {
@@ -348,9 +336,7 @@ impl Parser<'_> {
     fn close(&mut self, last: Operand, token: Token<'_>, tokens: &mut TokenStream<'_>) -> Step
         requires { IsFirst (max (open_start self.old) last.span.start) token tokens.old }
         ensures left { tokens_left tokens.new ≤ tokens_left tokens.old }
-        ensures goes_on { MatchResult result
-            (GoesOn tokens.old tokens.new self.new)
-            (IsWithin (stop_of tokens.old)) }
+        ensures goes_on { IsStep tokens.old tokens.new self.new result }
     {
         let operand = self.apply_down_to(Precedence::Conditional, last)?;
         match self.groups.pop() {

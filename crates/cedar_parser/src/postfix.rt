@@ -1,7 +1,7 @@
 //! What follows an operand: attributes, methods, `has`, `like` and `is`.
-ghost use Rattle.std.specs.Prelude.{◌≤◌, MatchResult, max};
+ghost use Rattle.std.specs.Prelude.{◌≤◌, max};
 ghost use Rattle.cedar_lexer.specs.Pieces.{tokens_left};
-ghost use Rattle.cedar_parser.specs.Refused.{GoesOn, IsBefore, IsWithin, open_start, stop_of};
+ghost use Rattle.cedar_parser.specs.Refused.{IsBefore, IsStep, open_start};
 
 use crate::groups::RowKind;
 use crate::leaves::{Path, inside, key, text_of};
@@ -17,9 +17,7 @@ impl Parser<'_> {
     pub(crate) fn dot(&mut self, operand: Operand, tokens: &mut TokenStream<'_>) -> Step
         requires { IsBefore (max (open_start self.old) operand.span.start) tokens.old }
         ensures left { tokens_left tokens.new ≤ tokens_left tokens.old }
-        ensures goes_on { MatchResult result
-            (GoesOn tokens.old tokens.new self.new)
-            (IsWithin (stop_of tokens.old)) }
+        ensures goes_on { IsStep tokens.old tokens.new self.new result }
     {
         let alloc = self.nodes.alloc;
         let name = tokens.expect(TokenKind::Word, "an identifier is wanted here")?;
@@ -36,9 +34,7 @@ impl Parser<'_> {
     pub(crate) fn bracket(&mut self, operand: Operand, tokens: &mut TokenStream<'_>) -> Step
         requires { IsBefore (max (open_start self.old) operand.span.start) tokens.old }
         ensures left { tokens_left tokens.new ≤ tokens_left tokens.old }
-        ensures goes_on { MatchResult result
-            (GoesOn tokens.old tokens.new self.new)
-            (IsWithin (stop_of tokens.old)) }
+        ensures goes_on { IsStep tokens.old tokens.new self.new result }
     {
         let token = tokens.expect(TokenKind::Quoted, "an attribute in quotes is wanted here")?;
         let attr = text_of(self.nodes.alloc, token)?;
@@ -50,9 +46,7 @@ impl Parser<'_> {
     pub(crate) fn has(&mut self, left: Operand, tokens: &mut TokenStream<'_>) -> Step
         requires { IsBefore (max (open_start self.old) left.span.start) tokens.old }
         ensures left { tokens_left tokens.new ≤ tokens_left tokens.old }
-        ensures goes_on { MatchResult result
-            (GoesOn tokens.old tokens.new self.new)
-            (IsWithin (stop_of tokens.old)) }
+        ensures goes_on { IsStep tokens.old tokens.new self.new result }
     {
         let alloc = self.nodes.alloc;
         let (head, mut stop) = key(alloc, tokens)?;
@@ -69,9 +63,7 @@ impl Parser<'_> {
     pub(crate) fn like(&mut self, left: Operand, tokens: &mut TokenStream<'_>) -> Step
         requires { IsBefore (max (open_start self.old) left.span.start) tokens.old }
         ensures left { tokens_left tokens.new ≤ tokens_left tokens.old }
-        ensures goes_on { MatchResult result
-            (GoesOn tokens.old tokens.new self.new)
-            (IsWithin (stop_of tokens.old)) }
+        ensures goes_on { IsStep tokens.old tokens.new self.new result }
     {
         let token = tokens.expect(TokenKind::Quoted, "a pattern in quotes is wanted here")?;
         match read_pattern(self.nodes.alloc, inside(token))? {
@@ -87,9 +79,7 @@ impl Parser<'_> {
     pub(crate) fn is(&mut self, left: Operand, tokens: &mut TokenStream<'_>) -> Step
         requires { IsBefore (max (open_start self.old) left.span.start) tokens.old }
         ensures left { tokens_left tokens.new ≤ tokens_left tokens.old }
-        ensures goes_on { MatchResult result
-            (GoesOn tokens.old tokens.new self.new)
-            (IsWithin (stop_of tokens.old)) }
+        ensures goes_on { IsStep tokens.old tokens.new self.new result }
     {
         let alloc = self.nodes.alloc;
         let first = tokens.expect(TokenKind::Word, "the type of an entity is wanted here")?;

@@ -1,15 +1,13 @@
--- Texts of Cedar's syntax with their precedences of precedence (the grammar is in Cedar's `grammar.lalrpop`).
-use Rattle.std.specs.Prelude.{ℕ, Bool, ◌||◌, List, [], ◌∷◌, ◌++◌, codes, Option, Some, None, if◌then◌else◌, nat_lt, string_bytes}
+-- Texts of Cedar's syntax with their precedences (the grammar is in Cedar's `grammar.lalrpop`).
+use Rattle.std.specs.Prelude.{Bool, ◌||◌, List, [], ◌∷◌, ◌++◌, codes, if◌then◌else◌, nat_lt, string_bytes}
 use Rattle.std.specs.List.{flat_map}
 use Rattle.std.specs.Str.{bytes_eq}
 use Rattle.cedar_builders.specs.BareExpr.{Text}
-use Rattle.cedar_terms.specs.Literals.{BareLiteral, LongLit}
 use Rattle.cedar_names.specs.Grammar.{is_unreserved_id}
 use Rattle.cedar_terms.specs.Escape.{quoted}
-use Rattle.cedar_terms.specs.declared.ops.BinaryOp.{BinaryOp}
-use Rattle.cedar_terms.specs.declared.ops.BinaryOp.TheVariants as Binary
-use Rattle.cedar_printer.specs.declared.phrase.Precedence.{Precedence}
-use Rattle.cedar_printer.specs.declared.phrase.Precedence.TheVariants as precedences
+use Rattle.cedar_terms.specs.Precedences.{precedence_number}
+use Rattle.cedar_terms.specs.declared.precedence.Precedence.{Precedence}
+use Rattle.cedar_terms.specs.declared.precedence.Precedence.TheVariants as precedences
 use Rattle.cedar_printer.specs.declared.phrase.Phrase.{Phrase}
 use Rattle.cedar_printer.specs.declared.phrase.RopePhrase.{RopePhrase}
 use Rattle.cedar_printer.specs.Ropes.{text_of}
@@ -21,17 +19,6 @@ phrase_of p = (string_bytes p.text, p.precedence)
 -- a text in pieces, joined, and its precedence
 abbrev pub rope_phrase : RopePhrase → Text × Precedence
 rope_phrase p = (text_of p.text, p.precedence)
-
--- the precedences from the loosest on
-abbrev pub precedence_number : Precedence → ℕ
-precedence_number precedences.Conditional = 0
-precedence_number precedences.Or = 1
-precedence_number precedences.And = 2
-precedence_number precedences.Relation = 3
-precedence_number precedences.Sum = 4
-precedence_number precedences.Product = 5
-precedence_number precedences.Unary = 6
-precedence_number precedences.Member = 7
 
 -- the text where one of at least this precedence may stand: in round brackets if it binds less tightly
 abbrev pub text_at : Precedence → Text × Precedence → Text
@@ -56,22 +43,6 @@ prefix_of sign p = (sign ++ text_at precedences.Member p, precedences.Unary)
 -- a call of a method
 abbrev pub method_of : Text × Precedence → Text → Text → Text × Precedence
 method_of p name args = member (text_at precedences.Member p ++ (46 ∷ (name ++ (40 ∷ (args ++ (41 ∷ []))))))
-
--- a number counts as a sign and its operand, since it may be below 0
-abbrev pub literal_precedence : BareLiteral → Precedence
-literal_precedence (LongLit n) = precedences.Unary
-literal_precedence l = precedences.Member
-
--- the precedence of an operator that stands between its operands, and those that its operands need; the others are methods
-abbrev pub infix_precedences : BinaryOp → Option (Precedence × Precedence × Precedence)
-infix_precedences Binary.Eq = Some (precedences.Relation, precedences.Sum, precedences.Sum)
-infix_precedences Binary.Less = Some (precedences.Relation, precedences.Sum, precedences.Sum)
-infix_precedences Binary.LessEq = Some (precedences.Relation, precedences.Sum, precedences.Sum)
-infix_precedences Binary.In = Some (precedences.Relation, precedences.Sum, precedences.Sum)
-infix_precedences Binary.Add = Some (precedences.Sum, precedences.Sum, precedences.Product)
-infix_precedences Binary.Sub = Some (precedences.Sum, precedences.Sum, precedences.Product)
-infix_precedences Binary.Mul = Some (precedences.Product, precedences.Product, precedences.Unary)
-infix_precedences op = None
 
 -- an attribute behind its record, in square brackets if it is no identifier
 abbrev pub attribute_text : Text → Text

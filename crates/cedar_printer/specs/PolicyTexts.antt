@@ -12,9 +12,10 @@ use Rattle.cedar_terms.specs.Patterns.{pattern_text}
 use Rattle.cedar_terms.specs.declared.ops.UnaryOp.{UnaryOp}
 use Rattle.cedar_terms.specs.declared.ops.UnaryOp.TheVariants as Unary
 use Rattle.cedar_terms.specs.declared.pattern.PatternElem.{PatternElem}
-use Rattle.cedar_printer.specs.Phrases.{attribute_text, call_of, conditional_text, field_of, infix_precedences, infix_of, literal_precedence, member, method_of, path_text, prefix_of, row_text, text_at}
-use Rattle.cedar_printer.specs.declared.phrase.Precedence.{Precedence}
-use Rattle.cedar_printer.specs.declared.phrase.Precedence.TheVariants as precedences
+use Rattle.cedar_terms.specs.Precedences.{infix_precedences, literal_precedence}
+use Rattle.cedar_terms.specs.declared.precedence.Precedence.{Precedence}
+use Rattle.cedar_terms.specs.declared.precedence.Precedence.TheVariants as precedences
+use Rattle.cedar_printer.specs.Phrases.{attribute_text, call_of, conditional_text, field_of, infix_of, member, method_of, path_text, prefix_of, row_text, text_at}
 
 -- signs before the operand, and a method
 abbrev pub unary_text : UnaryOp → Text × Precedence → Text × Precedence

@@ -10,10 +10,10 @@ ghost use Rattle.cedar_builders.specs.Keys.{keys_of, meant_pairs, IsAscending, H
 ghost use Rattle.cedar_names.specs.PlainNames.{bare_name};
 ghost use Rattle.cedar_printer.specs.Phrases.{phrase_of, rope_phrase};
 ghost use Rattle.cedar_printer.specs.PolicyTexts.{policy_text_ops};
-ghost use Rattle.cedar_printer.specs.declared.phrase.Precedence.{Precedence};
+ghost use Rattle.cedar_terms.specs.declared.precedence.Precedence.{Precedence};
 
 use crate::phrase::{
-    Phrase, Precedence, RopePhrase, make_attribute, make_call, make_conditional, make_fields,
+    Phrase, RopePhrase, make_attribute, make_call, make_conditional, make_fields,
     make_infix, make_method, make_path, make_prefix, make_row,
 };
 use crate::rope::Rope;
@@ -22,7 +22,9 @@ use cedar_builders::{
 };
 use cedar_exprs::Expr;
 use cedar_names::{Loc, Name, NonEmpty, SlotId};
-use cedar_terms::{BinaryOp, EntityType, Escaped, Literal, Pattern, UnaryOp, Unknown, Var};
+use cedar_terms::{
+    BinaryOp, EntityType, Escaped, Literal, Pattern, Precedence, UnaryOp, Unknown, Var,
+};
 use std::alloc::{AllocError, Global};
 use std::convert::Infallible;
 use std::rc::RcStr;
@@ -32,7 +34,7 @@ use std::rc::RcStr;
 /// The contract is that of `into_expr` at the builder `PolicyText`: the fold of the expression's bare
 /// tree at the builder's operations. A text keeps `true && false` as it is, where substitution makes
 /// `false` of it: so the builder is not lawful, and texts are made of what was substituted before.
-/// An unknown's annotation is not written. A call of a function `unknown` on one text reads back as an
+/// An unknown's annotation is not written. A call of a function `unknown` on one text is parsed as an
 /// unknown.
 pub fn policy_text(alloc: Global, expr: &Expr) -> Result<Phrase, AllocError>
     ensures { IfOk result (λ p.
