@@ -77,9 +77,9 @@ code_written c h = elim (nat_lt c 16) as (λ v. nat_lt c 16 ≡ v → Writes (co
       subst (λ t. Writes (code_text t) c) (sym (hex_two_digits false c l h)) (two_digits c l h)
 ] refl
 
--- one level of the table
-level : (c k : ℕ) (text rest : List ℕ) → Writes text k → ((c == k) ≡ false → Writes rest c) → Writes (if c == k then text else rest) c
-level c k text rest here later = elim (c == k) as (λ v. (c == k) ≡ v → Writes (if v then text else rest) c) [
+-- one entry of the table
+entry : (c k : ℕ) (text rest : List ℕ) → Writes text k → ((c == k) ≡ false → Writes rest c) → Writes (if c == k then text else rest) c
+entry c k text rest here later = elim (c == k) as (λ v. (c == k) ≡ v → Writes (if v then text else rest) c) [
   | true ↦ λ e. subst (λ n. Writes text n) (sym (eqb-true c k e)) here
   | false ↦ λ e. later e
 ] refl
@@ -90,8 +90,8 @@ control_is_small c h = grind (arith, nat_tests)
 differs : (c k : ℕ) → (c == k) ≡ false → c ≡ k → ⊥
 differs c k e h = grind (arith, nat_tests)
 
-last_level : (c : ℕ) → (c == 13) ≡ false → (c == 92) ≡ false → Writes (if is_control c then code_text (hexadecimal c) else c ∷ []) c
-last_level c m n = elim (is_control c) as (λ v. is_control c ≡ v → Writes (if v then code_text (hexadecimal c) else c ∷ []) c) [
+last_entry : (c : ℕ) → (c == 13) ≡ false → (c == 92) ≡ false → Writes (if is_control c then code_text (hexadecimal c) else c ∷ []) c
+last_entry c m n = elim (is_control c) as (λ v. is_control c ≡ v → Writes (if v then code_text (hexadecimal c) else c ∷ []) c) [
   | true ↦ λ e. code_written c (control_is_small c e)
   | false ↦ λ e. itself (differs c 13 m) (differs c 92 n)
 ] refl
@@ -99,14 +99,14 @@ last_level c m n = elim (is_control c) as (λ v. is_control c ≡ v → Writes (
 char_written : (c : ℕ) → Writes (escape_char c) c
 unfolding code_text
 char_written c =
-    level c 0 _ _ (by_letter refl) (λ _.
-    level c 9 _ _ (by_letter refl) (λ _.
-    level c 10 _ _ (by_letter refl) (λ _.
-    level c 13 _ _ (by_letter refl) (λ m.
-    level c 34 _ _ (by_letter refl) (λ _.
-    level c 39 _ _ (by_letter refl) (λ _.
-    level c 92 _ _ (by_letter refl) (λ n.
-    last_level c m n)))))))
+    entry c 0 _ _ (by_letter refl) (λ _.
+    entry c 9 _ _ (by_letter refl) (λ _.
+    entry c 10 _ _ (by_letter refl) (λ _.
+    entry c 13 _ _ (by_letter refl) (λ m.
+    entry c 34 _ _ (by_letter refl) (λ _.
+    entry c 39 _ _ (by_letter refl) (λ _.
+    entry c 92 _ _ (by_letter refl) (λ n.
+    last_entry c m n)))))))
 
 -- ---- an escape is a text
 

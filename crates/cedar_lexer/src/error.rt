@@ -1,4 +1,4 @@
-//! Why a text is not read, and where.
+//! Why a text is no expression, and where.
 ghost use Rattle.std.specs.Prelude.{◌≡◌, ◌≤◌, Some, length, take};
 ghost use Rattle.std.specs.Fmt.{WritesOnOk};
 ghost use Rattle.std.specs.Str.{IsCharBoundary, chars};
@@ -68,7 +68,7 @@ impl SyntaxError {
     }
 }
 
-/// Why a text is not read.
+/// Why a text is not parsed.
 #[derive(Clone, Copy, Debug, Error)]
 pub enum ParseError {
     /// The text is no expression.

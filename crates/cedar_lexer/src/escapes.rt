@@ -28,8 +28,8 @@ enum Piece {
 /// The text that stands between quotes, if its escapes are those of texts.
 ///
 /// `\n`, `\r`, `\t`, `\0`, `\\`, `\"` and `\'` are the characters that they are in Rust, `\x41` is
-/// one of ASCII by two hexadecimal digits, and `\u{1F600}` any by one to six. A carriage return needs
-/// its escape.
+/// one of ASCII by two hexadecimal digits, and `\u{1F600}` any by one to six. A carriage return
+/// needs its escape.
 pub fn read_text(alloc: Global, inside: &str) -> Result<Option<String>, AllocError>
     ensures { IfOk result (λ text.
         IsAnswerOfText (chars inside.now) (option_map string_bytes text)) }
@@ -78,8 +78,8 @@ fn pattern_elem(piece: Piece) -> PatternElem
     }
 }
 
-// The piece that a text begins with, and what follows it; none at the end, at a bare carriage return
-// and at what is no escape.
+// The piece that a text begins with, and what follows it; none at the end, at a bare carriage
+// return and at what is no escape.
 #[tactic(auto, unfolding(crate::specs::FirstPieces::piece_at))]
 fn first_piece(text: &str) -> Option<(Piece, &str)>
     ensures shorter { IfSome result (λ x. IsShorter x.1.now text.now) }

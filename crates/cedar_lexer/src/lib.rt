@@ -1,5 +1,5 @@
-//! What texts in Cedar's syntax are made of: tokens, texts and patterns between quotes, and what is
-//! told of a text that is no expression.
+//! The lexer: the tokens of a text in Cedar's syntax, texts and patterns between quotes, and the
+//! errors that the parser tells.
 #![tactic(auto)]
 
 mod error;

@@ -1,15 +1,13 @@
-//! Why the reader stops.
+//! Why the parser stops.
 ghost use Rattle.std.specs.Prelude.{◌≡◌};
 ghost use Rattle.cedar_lexer.specs.Told.{IsToldOf};
 ghost use Rattle.cedar_lexer.specs.declared.parse_failure.ParseFailure.TheVariants.{Memory};
 
 use crate::error::{ParseError, SyntaxError};
 use crate::token::Span;
-use cedar_builders::BuildFault;
 use std::alloc::{AllocError, AllocFailed};
-use std::convert::Infallible;
 
-/// Why the reader stops: a problem with a piece of the text, or memory ran out.
+/// Why the parser stops: a problem with a piece of the text, or memory ran out.
 #[derive(Debug, Drop)]
 pub enum ParseFailure {
     /// What is wrong with a piece of the text.
@@ -19,7 +17,7 @@ pub enum ParseFailure {
 }
 
 impl ParseFailure {
-    /// What a caller is told of it, with its line and column in `text`: the text that was read.
+    /// What a caller is told of it, with its line and column in `text`: the text that was parsed.
     pub fn in_text(self, text: &str) -> ParseError
         ensures { IsToldOf self text.now result }
     {
@@ -45,16 +43,5 @@ impl<T: Drop> From<AllocFailed<T>> for ParseFailure {
 
     fn from(_refused: AllocFailed<T>) -> ParseFailure {
         ParseFailure::Memory
-    }
-}
-
-impl From<BuildFault<Infallible>> for ParseFailure {
-    ghost from_gives = { λ _ e. e ≡ Memory };
-
-    fn from(fault: BuildFault<Infallible>) -> ParseFailure {
-        match fault {
-            BuildFault::Build(never) => match never {},
-            BuildFault::Memory => ParseFailure::Memory,
-        }
     }
 }

@@ -120,8 +120,8 @@ impl<'a> TokenStream<'a> {
         }
     }
 
-    /// Takes the next one if it is of this kind; else it takes none, and refuses with `problem` at that
-    /// token's span.
+    /// Takes the next one if it is of this kind; else it takes none, and refuses with `problem` at
+    /// that token's span.
     pub fn expect(
         &mut self,
         kind: TokenKind,
