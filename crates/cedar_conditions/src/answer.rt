@@ -18,8 +18,8 @@ pub enum Answer {
     Value(String),
     /// Its residual: a condition again.
     Residual(String),
-    /// The fault which it has whatever else is bound: `line L, column C: PROBLEM`, and the line with
-    /// carets below the piece.
+    /// The fault which it has whatever else is bound: `line L, column C: PROBLEM`, and the line
+    /// with carets below the piece.
     Fault(String),
     /// Why it can't be parsed, and where, in the same form.
     NoCondition(String),

@@ -37,8 +37,8 @@ fn piece<'a>(text: &'a str, node: &Expr) -> Option<Excerpt<'a>> {
 }
 
 // How many of the nodes that follow in the walk are not evaluated: those of both branches, since a
-// residual has no `if` whose test is a known Boolean, and those behind `&&` or `||` whose first operand
-// is no Boolean.
+// residual has no `if` whose test is a known Boolean, and those behind `&&` or `||` whose first
+// operand is no Boolean.
 fn unevaluated(alloc: Global, node: &Expr) -> Result<usize, AllocError> {
     match node.expr_kind() {
         ExprKind::If {

@@ -43,8 +43,8 @@ impl Nodes<'_> {
         }
     }
 
-    /// The call of a method, whose first argument stands before its name. As the name is an identifier,
-    /// it is that of no operator which stands between its operands.
+    /// The call of a method, whose first argument stands before its name. As the name is an
+    /// identifier, it is that of no operator which stands between its operands.
     pub(crate) fn method_call(
         &self,
         method: &str,

@@ -109,18 +109,11 @@ impl Parser<'_> {
         if !group.takes(token.kind) {
             return Err(ParseFailure::Syntax(token.span, group.wanted()));
         }
-        let Group {
-            kind,
-            start,
-            operations,
-        } = group;
-        self.operations = operations;
-        let span = Span {
-            start,
-            stop: token.span.stop,
-        };
+        let (start, stop) = (group.start, token.span.stop);
+        let span = Span { start, stop };
         let goes_on = token.kind == TokenKind::Comma;
-        match kind {
+        self.operations = group.operations;
+        match group.kind {
             GroupKind::Round => Ok(Some(Operand::member(expr, span))),
             GroupKind::If => self.open(GroupKind::Then(expr), start),
             GroupKind::Then(test) => self.otherwise(start, test, expr),

@@ -47,7 +47,8 @@ pub fn parse_expr(alloc: Global, text: &str) -> Result<Expr, ParseError>
 }
 
 /// As `parse_expr`, but `unknown("x")` and the variable `x` are parsed as `values["x"]`; slots
-/// never are. The root of what is put in gets the place of what it replaces; its other nodes keep theirs.
+/// never are. The root of what is put in gets the place of what it replaces; its other nodes keep
+/// theirs.
 pub fn parse_with_values(
     alloc: Global,
     text: &str,
@@ -284,8 +285,8 @@ impl Parser<'_> {
         Ok(None)
     }
 
-    // The left operand of an operator of a precedence: what binds as tightly is applied first. It has
-    // to bind at least as tightly as the operator asks.
+    // The left operand of an operator of a precedence: what binds as tightly is applied first. It
+    // has to bind at least as tightly as the operator asks.
     fn left(
         &mut self,
         operand: Operand,

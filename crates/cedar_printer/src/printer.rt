@@ -31,11 +31,11 @@ use std::rc::RcStr;
 
 /// The text of an expression in Cedar's own syntax, and how tightly it binds.
 ///
-/// The contract is that of `into_expr` at the builder `PolicyText`: the fold of the expression's bare
-/// tree at the builder's operations. A text keeps `true && false` as it is, where substitution makes
-/// `false` of it: so the builder is not lawful, and texts are made of what was substituted before.
-/// An unknown's annotation is not written. A call of a function `unknown` on one text is parsed as an
-/// unknown.
+/// The contract is that of `into_expr` at the builder `PolicyText`: the fold of the expression's
+/// bare tree at the builder's operations. A text keeps `true && false` as it is, where substitution
+/// makes `false` of it: so the builder is not lawful, and texts are made of what was substituted
+/// before. An unknown's annotation is not written. A call of a function `unknown` on one text is
+/// parsed as an unknown.
 pub fn policy_text(alloc: Global, expr: &Expr) -> Result<Phrase, AllocError>
     ensures { IfOk result (λ p.
         fold policy_text_ops empty (bare_expr expr.now) ≡ Ok (phrase_of p)) }
@@ -44,10 +44,10 @@ pub fn policy_text(alloc: Global, expr: &Expr) -> Result<Phrase, AllocError>
     phrase.to_phrase(alloc)
 }
 
-/// The builder: of the conjunction of `a` and `1 < 2` it makes `a && 1 < 2`, with brackets where
-/// an operand binds less tightly than its place wants. A sign's operand with a sign of its own counts
-/// as such, so that it makes `!(!a)`. The texts of the children are not copied: their pieces are those
-/// of their node.
+/// The builder: of the conjunction of `a` and `1 < 2` it makes `a && 1 < 2`, with brackets where an
+/// operand binds less tightly than its place wants. A sign's operand with a sign of its own counts
+/// as such, so that it makes `!(!a)`. The texts of the children are not copied: their pieces are
+/// those of their node.
 #[derive(Debug, Drop)]
 pub struct PolicyText;
 

@@ -29,9 +29,9 @@ use std::rc::RcStr;
 /// An S-expression: a leaf as it is, or a list as a text in pieces, which are joined once, when it
 /// is written.
 ///
-/// A list goes on with the pieces of its first part. It writes leaves and short lists behind its last
-/// piece, and takes over the pieces of a long one as they stand. So a tree of any shape and depth is
-/// made in time proportional to its nodes, and is dropped piece by piece.
+/// A list goes on with the pieces of its first part. It writes leaves and short lists behind its
+/// last piece, and takes over the pieces of a long one as they stand. So a tree of any shape and
+/// depth is made in time proportional to its nodes, and is dropped piece by piece.
 #[derive(Debug, Drop)]
 pub struct SExpression {
     form: Form,
@@ -86,8 +86,8 @@ impl Pieces {
         })
     }
 
-    // The beginning of a list with a part: the bracket, a word and a space, and the part. It goes on
-    // with the pieces of a part that is a list.
+    // The beginning of a list with a part: the bracket, a word and a space, and the part. It goes
+    // on with the pieces of a part that is a list.
     #[inline(always)]
     fn open_with(alloc: Global, opening: &str, part: SExpression) -> Result<Pieces, AllocError>
         ensures { IfOk result (λ list. joined list ≡ opening.now ++ text_of part) }
