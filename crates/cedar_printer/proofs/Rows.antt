@@ -1,7 +1,7 @@
 -- Rows of phrases, by how many there are.
 use Rattle.std.proofs.Common.{◌≡◌, ap, List, [], ◌∷◌, ◌++◌, length, map}
 use Rattle.std.proofs.lemmas.List.{nil_from_length}
-use Rattle.cedar_printer.specs.Ropes.{text_of}
+use Rattle.cedar_builders.specs.Ropes.{text_of}
 use Rattle.cedar_printer.specs.Phrases.{others_text, rope_phrase, row_text}
 use Rattle.cedar_printer.specs.declared.phrase.RopePhrase.{RopePhrase}
 

@@ -1,3 +1,2 @@
-pub mod Ropes
 pub mod Phrases
 pub mod PolicyTexts

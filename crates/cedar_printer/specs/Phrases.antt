@@ -10,7 +10,7 @@ use Rattle.cedar_terms.specs.declared.precedence.Precedence.{Precedence}
 use Rattle.cedar_terms.specs.declared.precedence.Precedence.TheVariants as precedences
 use Rattle.cedar_printer.specs.declared.phrase.Phrase.{Phrase}
 use Rattle.cedar_printer.specs.declared.phrase.RopePhrase.{RopePhrase}
-use Rattle.cedar_printer.specs.Ropes.{text_of}
+use Rattle.cedar_builders.specs.Ropes.{text_of}
 
 -- a text and its precedence
 abbrev pub phrase_of : Phrase → Text × Precedence

@@ -3,8 +3,6 @@
 
 mod phrase;
 mod printer;
-mod rope;
 
 pub use phrase::{Phrase, RopePhrase};
 pub use printer::{PolicyText, policy_text};
-pub use rope::Rope;

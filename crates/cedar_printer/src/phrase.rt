@@ -3,6 +3,7 @@ ghost use Rattle.std.specs.Prelude.{◌≡◌, ◌++◌, IfOk, map, string_bytes
 ghost use Rattle.std.specs.Rc.{rc_str_bytes};
 ghost use Rattle.std.specs.Vec.Iter.{into_iter_items};
 ghost use Rattle.cedar_builders.specs.Keys.{meant_pairs};
+ghost use Rattle.cedar_builders.specs.Ropes.{text_of};
 ghost use Rattle.cedar_printer.specs.Phrases.{
   attribute_text,
   call_of,
@@ -24,9 +25,8 @@ ghost use Rattle.cedar_printer.specs.Phrases.{
   row_text,
   text_at,
 };
-ghost use Rattle.cedar_printer.specs.Ropes.{text_of};
 
-use crate::rope::Rope;
+use cedar_builders::Rope;
 use cedar_names::{NonEmpty, is_normalized_ident};
 use cedar_terms::{Escaped, Precedence};
 use std::alloc::{AllocError, Global};

@@ -16,9 +16,8 @@ use crate::phrase::{
     Phrase, RopePhrase, make_attribute, make_call, make_conditional, make_fields,
     make_infix, make_method, make_path, make_prefix, make_row,
 };
-use crate::rope::Rope;
 use cedar_builders::{
-    BuildFault, ExprBuilder, ExprBuilderInfallibleBuild, ExpressionConstructionError,
+    BuildFault, ExprBuilder, ExprBuilderInfallibleBuild, ExpressionConstructionError, Rope,
 };
 use cedar_exprs::Expr;
 use cedar_names::{Loc, Name, NonEmpty, SlotId};

@@ -1,5 +1,5 @@
 -- The texts of expressions, in prefix form.
-use Rattle.std.specs.Prelude.{List, [], ◌∷◌, ◌++◌, map, codes, Option, None, Some, Ok, string_bytes}
+use Rattle.std.specs.Prelude.{List, [], ◌∷◌, ◌++◌, map, codes, Option, None, Some, Ok}
 use Rattle.std.specs.List.{flat_map}
 use Rattle.std.specs.Str.{encode_utf8_all}
 use Rattle.cedar_names.specs.Names.{name_text}
@@ -12,9 +12,10 @@ use Rattle.cedar_terms.specs.Types.{BareType, type_text}
 use Rattle.cedar_terms.specs.declared.pattern.PatternElem.{PatternElem}
 use Rattle.cedar_builders.specs.BareExpr.{Text}
 use Rattle.cedar_builders.specs.Ops.{Ops}
+use Rattle.cedar_builders.specs.Ropes.{text_of as rope_text}
 use Rattle.cedar_sketch.specs.declared.Form.{Form}
 use Rattle.cedar_sketch.specs.declared.Form.TheVariants.{Literal, Var, Slot, List as list}
-use Rattle.cedar_sketch.specs.declared.Pieces.{Pieces}
+use Rattle.cedar_sketch.specs.declared.OpenList.{OpenList}
 use Rattle.cedar_sketch.specs.declared.SExpression.{SExpression}
 
 -- each text behind a space
@@ -59,16 +60,16 @@ sketch_ops = record {
   is_of = λ e n. list_text (codes "is") (e ∷ name_text n ∷ []);
 }
 
--- the text of a list: its pieces, joined
-abbrev pub joined : Pieces → Text
-joined pieces = flat_map string_bytes pieces.before ++ string_bytes pieces.last
+-- the text of a list so far
+abbrev pub joined : OpenList → Text
+joined list = rope_text list.text
 
 -- the text of what an S-expression is made of
 abbrev pub form_text : Form → Text
 form_text (Literal l) = literal_text (bare_literal l)
 form_text (Var v) = var_text v
 form_text (Slot s) = slot_text s
-form_text (list pieces) = joined pieces
+form_text (list rope) = rope_text rope
 
 -- the text of an S-expression
 abbrev pub text_of : SExpression → Text

@@ -1,7 +1,20 @@
 //! The texts of expressions, in prefix form: `Sketch`, a builder of texts.
 #![tactic(auto)]
 
-ghost use Rattle.std.specs.Prelude.{◌≡◌, ◌∷◌, ◌++◌, [], List, ℕ, IfOk, IfErr, OnOk, None, map, string_bytes, IsTrue};
+ghost use Rattle.std.specs.Prelude.{
+  ◌≡◌,
+  ◌∷◌,
+  ◌++◌,
+  [],
+  List,
+  ℕ,
+  IfOk,
+  IfErr,
+  OnOk,
+  None,
+  map,
+  string_bytes,
+};
 ghost use Rattle.std.specs.Rc.{rc_str_bytes};
 ghost use Rattle.cedar_names.specs.PlainNames.{bare_name};
 ghost use Rattle.cedar_names.specs.Names.{name_text};
@@ -13,17 +26,24 @@ ghost use Rattle.cedar_builders.specs.Answers.{Gives};
 ghost use Rattle.cedar_builders.specs.Keys.{keys_of, meant_pairs, IsAscending, HasRepeat};
 ghost use Rattle.cedar_builders.specs.declared.expression_construction_errors.ExpressionConstructionError.TheVariants as error;
 ghost use Rattle.cedar_builders.specs.Answers.{never};
-ghost use Rattle.cedar_sketch.specs.SketchTexts.{annotation_texts, form_text, joined, pair_text, quoted_pattern, sketch_ops, spaced_text, text_of};
+ghost use Rattle.cedar_sketch.specs.SketchTexts.{
+  annotation_texts,
+  form_text,
+  joined,
+  pair_text,
+  quoted_pattern,
+  sketch_ops,
+  spaced_text,
+  text_of,
+};
 
 use cedar_builders::{
-    BuildFault, ExprBuilder, ExprBuilderInfallibleBuild, ExpressionConstructionError,
+    BuildFault, ExprBuilder, ExprBuilderInfallibleBuild, ExpressionConstructionError, Rope,
 };
 use cedar_names::{Loc, Name, NonEmpty, SlotId};
 use cedar_terms::{BinaryOp, EntityType, Escaped, Literal, Pattern, Type, UnaryOp, Unknown, Var};
 use std::alloc::{AllocError, Global};
-use std::collections::LinkedList;
 use std::convert::Infallible;
-use std::mem;
 use std::rc::RcStr;
 
 /// An S-expression: a leaf as it is, or a list as a text in pieces, which are joined once, when it
@@ -42,7 +62,7 @@ enum Form {
     Literal(Literal),
     Var(Var),
     Slot(SlotId),
-    List(Pieces),
+    List(Rope),
 }
 
 impl SExpression {
@@ -50,78 +70,49 @@ impl SExpression {
     pub fn to_text(&self, alloc: Global) -> Result<String, AllocError>
         ensures { IfOk result (λ s. string_bytes s ≡ text_of self.now) }
     {
-        let mut text = String::with_capacity(alloc, SHORT)?;
         match &self.form {
-            Form::Literal(literal) => write!(text, "{literal}")?,
-            Form::Var(var) => write!(text, "{var}")?,
-            Form::Slot(slot) => write!(text, "{slot}")?,
-            Form::List(list) => list.write_to(&mut text)?,
+            Form::Literal(literal) => format!(in alloc; "{literal}"),
+            Form::Var(var) => format!(in alloc; "{var}"),
+            Form::Slot(slot) => format!(in alloc; "{slot}"),
+            Form::List(text) => text.to_text(alloc),
         }
-        Ok(text)
     }
 }
 
-// The text of a list, in pieces.
+// The text of a list without the bracket behind its last part.
 #[derive(Debug, Drop)]
-struct Pieces {
-    // What stands before the last piece.
-    before: LinkedList<String>,
-    last: String,
+struct OpenList {
+    text: Rope,
 }
 
-// What a piece has room for at first; what is no longer is copied into the list around it.
-const SHORT: usize = 128;
-
-impl Pieces {
+impl OpenList {
     // The beginning of a list without a part: the bracket and a word.
     #[inline(always)]
-    fn open(alloc: Global, opening: &str) -> Result<Pieces, AllocError>
+    fn open(alloc: Global, opening: &str) -> Result<OpenList, AllocError>
         ensures { IfOk result (λ list. joined list ≡ opening.now) }
     {
-        let mut last = String::with_capacity(alloc, SHORT)?;
-        last.push_str(opening)?;
-        Ok(Pieces {
-            before: LinkedList::new(alloc),
-            last,
+        Ok(OpenList {
+            text: Rope::from_str(alloc, opening)?,
         })
     }
 
     // The beginning of a list with a part: the bracket, a word and a space, and the part. It goes
     // on with the pieces of a part that is a list.
     #[inline(always)]
-    fn open_with(alloc: Global, opening: &str, part: SExpression) -> Result<Pieces, AllocError>
+    fn open_with(alloc: Global, opening: &str, part: SExpression) -> Result<OpenList, AllocError>
         ensures { IfOk result (λ list. joined list ≡ opening.now ++ text_of part) }
     {
         match part.form {
-            Form::List(mut list) => {
-                list.put_before(alloc, opening)?;
-                Ok(list)
+            Form::List(mut text) => {
+                text.put_before(alloc, opening)?;
+                Ok(OpenList { text })
             }
             leaf => {
-                let mut list = Pieces::open(alloc, opening)?;
+                let mut list = OpenList::open(alloc, opening)?;
                 list.add(leaf)?;
                 Ok(list)
             }
         }
-    }
-
-    // Whether the text is one piece, and short.
-    fn is_short(&self) -> bool
-        ensures { IsTrue result → self.now.before ≡ [] }
-    {
-        self.before.is_empty() && self.last.len() <= SHORT
-    }
-
-    // Puts a text before all pieces.
-    #[inline(always)]
-    fn put_before(&mut self, alloc: Global, text: &str) -> Result<(), AllocError>
-        ensures { OnOk result (joined self.new ≡ text.now ++ joined self.old) }
-    {
-        if self.is_short() {
-            return self.last.insert_str(0, text);
-        }
-        self.before.push_front(String::from_str(alloc, text)?)?;
-        Ok(())
     }
 
     // Puts a part behind a space.
@@ -129,7 +120,7 @@ impl Pieces {
     fn push(&mut self, part: SExpression) -> Result<(), AllocError>
         ensures { OnOk result (joined self.new ≡ joined self.old ++ 32 ∷ text_of part) }
     {
-        self.last.push(' ')?;
+        self.text.push(' ')?;
         self.add(part.form)
     }
 
@@ -139,24 +130,11 @@ impl Pieces {
         ensures { OnOk result (joined self.new ≡ joined self.old ++ form_text form) }
     {
         match form {
-            Form::Literal(literal) => write!(self.last, "{literal}"),
-            Form::Var(var) => write!(self.last, "{var}"),
-            Form::Slot(slot) => write!(self.last, "{slot}"),
-            Form::List(list) => self.add_list(list),
+            Form::Literal(literal) => write!(self.text, "{literal}"),
+            Form::Var(var) => write!(self.text, "{var}"),
+            Form::Slot(slot) => write!(self.text, "{slot}"),
+            Form::List(text) => self.text.append(text),
         }
-    }
-
-    // Puts a list at the end.
-    #[inline(always)]
-    fn add_list(&mut self, list: Pieces) -> Result<(), AllocError>
-        ensures { OnOk result (joined self.new ≡ joined self.old ++ joined list) }
-    {
-        if list.is_short() {
-            return self.last.push_str(&list.last);
-        }
-        let Pieces { mut before, last } = list;
-        self.before.push_back(mem::replace(&mut self.last, last))?;
-        self.before.append(&mut before)
     }
 
     // Puts each part behind a space.
@@ -174,7 +152,7 @@ impl Pieces {
     fn push_text(&mut self, text: &str) -> Result<(), AllocError>
         ensures { OnOk result (joined self.new ≡ joined self.old ++ 32 ∷ text.now) }
     {
-        write!(self.last, " {text}")
+        write!(self.text, " {text}")
     }
 
     // Puts the name of a function or a type behind a space.
@@ -182,7 +160,7 @@ impl Pieces {
         ensures { OnOk result
             (joined self.new ≡ joined self.old ++ 32 ∷ name_text (bare_name name.now)) }
     {
-        write!(self.last, " {name}")
+        write!(self.text, " {name}")
     }
 
     // Puts a pattern in quotes behind a space.
@@ -190,14 +168,14 @@ impl Pieces {
         ensures { OnOk result
             (joined self.new ≡ joined self.old ++ 32 ∷ quoted_pattern pattern.now) }
     {
-        write!(self.last, " \"{pattern}\"")
+        write!(self.text, " \"{pattern}\"")
     }
 
     // Puts an attribute in quotes behind a space.
     fn push_attribute(&mut self, attribute: &str) -> Result<(), AllocError>
         ensures { OnOk result (joined self.new ≡ joined self.old ++ 32 ∷ quoted attribute.now) }
     {
-        write!(self.last, " \"{}\"", Escaped(attribute))
+        write!(self.text, " \"{}\"", Escaped(attribute))
     }
 
     // Puts each attribute in quotes behind a space.
@@ -220,7 +198,7 @@ impl Pieces {
     {
         match annotation {
             None => Ok(()),
-            Some(ty) => write!(self.last, " {ty}"),
+            Some(ty) => write!(self.text, " {ty}"),
         }
     }
 
@@ -250,14 +228,14 @@ impl Pieces {
     fn push_bracket_and_key(&mut self, key: &str) -> Result<(), AllocError>
         ensures { OnOk result (joined self.new ≡ joined self.old ++ 32 ∷ 40 ∷ quoted key.now) }
     {
-        write!(self.last, " (\"{}\"", Escaped(key))
+        write!(self.text, " (\"{}\"", Escaped(key))
     }
 
     // Puts the bracket behind the last part.
     fn push_bracket(&mut self) -> Result<(), AllocError>
         ensures { OnOk result (joined self.new ≡ joined self.old ++ 41 ∷ []) }
     {
-        self.last.push(')')
+        self.text.push(')')
     }
 
     // The list, with the bracket behind its last part.
@@ -265,20 +243,10 @@ impl Pieces {
     fn close(mut self) -> Result<SExpression, AllocError>
         ensures { IfOk result (λ e. text_of e ≡ joined self ++ 41 ∷ []) }
     {
-        self.last.push(')')?;
+        self.push_bracket()?;
         Ok(SExpression {
-            form: Form::List(self),
+            form: Form::List(self.text),
         })
-    }
-
-    // Writes all pieces, one after the other.
-    fn write_to(&self, text: &mut String) -> Result<(), AllocError>
-        ensures { OnOk result (string_bytes text.new ≡ string_bytes text.old ++ joined self.now) }
-    {
-        for piece in &self.before {
-            text.push_str(piece)?;
-        }
-        text.push_str(&self.last)
     }
 }
 
@@ -293,7 +261,7 @@ fn list_of_two(
     ensures { IfOk result (λ e.
         text_of e ≡ opening.now ++ (text_of first ++ 32 ∷ (text_of second ++ 41 ∷ []))) }
 {
-    let mut list = Pieces::open_with(alloc, opening, first)?;
+    let mut list = OpenList::open_with(alloc, opening, first)?;
     list.push(second)?;
     list.close()
 }
@@ -394,7 +362,7 @@ impl ExprBuilder for Sketch {
 
     #[inline(always)]
     fn unknown(self, alloc: Global, unknown: Unknown) -> Result<SExpression, AllocError> {
-        let mut list = Pieces::open(alloc, "(unknown")?;
+        let mut list = OpenList::open(alloc, "(unknown")?;
         list.push_text(&unknown.name)?;
         list.push_annotation(&unknown.type_annotation)?;
         list.close()
@@ -407,7 +375,7 @@ impl ExprBuilder for Sketch {
         then_expr: SExpression,
         else_expr: SExpression,
     ) -> Result<SExpression, AllocError> {
-        let mut list = Pieces::open_with(alloc, "(if ", test_expr)?;
+        let mut list = OpenList::open_with(alloc, "(if ", test_expr)?;
         list.push(then_expr)?;
         list.push(else_expr)?;
         list.close()
@@ -440,7 +408,7 @@ impl ExprBuilder for Sketch {
         op: UnaryOp,
         arg: SExpression,
     ) -> Result<SExpression, AllocError> {
-        Pieces::open_with(alloc, unary_opening(op), arg)?.close()
+        OpenList::open_with(alloc, unary_opening(op), arg)?.close()
     }
 
     #[inline(always)]
@@ -464,7 +432,7 @@ impl ExprBuilder for Sketch {
             (sketch_ops.call_of (bare_name fn_name) (map text_of args.items))
             result }
     {
-        let mut list = Pieces::open(alloc, "(call")?;
+        let mut list = OpenList::open(alloc, "(call")?;
         list.push_name(&fn_name)?;
         list.push_all(args)?;
         Ok(list.close()?)
@@ -476,7 +444,7 @@ impl ExprBuilder for Sketch {
         expr: SExpression,
         attr: RcStr,
     ) -> Result<SExpression, AllocError> {
-        let mut list = Pieces::open_with(alloc, "(get ", expr)?;
+        let mut list = OpenList::open_with(alloc, "(get ", expr)?;
         list.push_attribute(&attr)?;
         list.close()
     }
@@ -487,7 +455,7 @@ impl ExprBuilder for Sketch {
         expr: SExpression,
         attrs: NonEmpty<RcStr>,
     ) -> Result<SExpression, AllocError> {
-        let mut list = Pieces::open_with(alloc, "(has ", expr)?;
+        let mut list = OpenList::open_with(alloc, "(has ", expr)?;
         list.push_attribute(&attrs.head)?;
         list.push_attributes(&attrs.tail)?;
         list.close()
@@ -499,7 +467,7 @@ impl ExprBuilder for Sketch {
         expr: SExpression,
         pattern: Pattern,
     ) -> Result<SExpression, AllocError> {
-        let mut list = Pieces::open_with(alloc, "(like ", expr)?;
+        let mut list = OpenList::open_with(alloc, "(like ", expr)?;
         list.push_pattern(&pattern)?;
         list.close()
     }
@@ -510,7 +478,7 @@ impl ExprBuilder for Sketch {
         expr: SExpression,
         entity_type: EntityType,
     ) -> Result<SExpression, AllocError> {
-        let mut list = Pieces::open_with(alloc, "(is ", expr)?;
+        let mut list = OpenList::open_with(alloc, "(is ", expr)?;
         list.push_name(entity_type.name())?;
         list.close()
     }
@@ -518,7 +486,7 @@ impl ExprBuilder for Sketch {
     fn set(self, alloc: Global, members: Vec<SExpression>) -> Result<SExpression, AllocError>
         ensures { IfOk result (λ e. text_of e ≡ sketch_ops.set_of (map text_of members.items)) }
     {
-        let mut list = Pieces::open(alloc, "(set")?;
+        let mut list = OpenList::open(alloc, "(set")?;
         list.push_all(members)?;
         list.close()
     }
@@ -533,7 +501,7 @@ impl ExprBuilder for Sketch {
         ensures accepts { IsAscending (keys_of pairs.items) → IfErr result (λ e. e ≡ error.Memory) }
         ensures refuses { IfErr result (OnDuplicateKey (λ _. HasRepeat (keys_of pairs.items))) }
     {
-        let mut list = Pieces::open(alloc, "(record")?;
+        let mut list = OpenList::open(alloc, "(record")?;
         list.push_pairs(pairs)?;
         Ok(list.close()?)
     }

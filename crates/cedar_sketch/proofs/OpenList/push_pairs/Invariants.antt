@@ -2,7 +2,7 @@ use Rattle.std.proofs.Common.{◌≡◌, ◌++◌, map}
 use Rattle.std.specs.Vec.Iter.{into_iter_items}
 use Rattle.cedar_builders.specs.Keys.{meant_pairs}
 use Rattle.cedar_sketch.specs.SketchTexts.{joined, pair_text, spaced_text, text_of}
-use Rattle.cedar_sketch.proofs.Pieces.push_pairs.Given as goal
+use Rattle.cedar_sketch.proofs.OpenList.push_pairs.Given as goal
 
 -- what is in the list, and then the rest
 abbrev pub invariant-loop-key : goal.invariant-loop-key

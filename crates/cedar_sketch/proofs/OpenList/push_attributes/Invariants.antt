@@ -2,7 +2,7 @@ use Rattle.std.proofs.Common.{◌≡◌, ◌++◌, map, take}
 use Rattle.std.specs.Rc.{rc_str_bytes}
 use Rattle.cedar_terms.specs.Escape.{quoted}
 use Rattle.cedar_sketch.specs.SketchTexts.{joined, spaced_text}
-use Rattle.cedar_sketch.proofs.Pieces.push_attributes.Given as goal
+use Rattle.cedar_sketch.proofs.OpenList.push_attributes.Given as goal
 
 -- what was there, and each attribute so far
 abbrev pub invariant-loop-attribute : goal.invariant-loop-attribute
