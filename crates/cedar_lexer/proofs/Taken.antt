@@ -1,6 +1,6 @@
 -- Which tokens come next.
 use Rattle.std.proofs.Common.{◌≡◌, ◌≤◌, List, [], ◌∷◌, length, get_or, arith}
-use Rattle.cedar_lexer.specs.Pieces.{BeginsWith, BeginsWithPair, first_or}
+use Rattle.cedar_lexer.specs.TokenStreams.{BeginsWith, BeginsWithPair, first_or}
 use Rattle.cedar_lexer.specs.declared.token.TokenKind.{TokenKind}
 use Rattle.cedar_lexer.specs.declared.token.Token.{Token}
 

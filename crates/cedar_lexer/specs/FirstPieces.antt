@@ -1,5 +1,5 @@
 -- The piece that a text between quotes begins with, and what follows it.
-use Rattle.std.specs.Prelude.{ℕ, ◌+◌, ◌-◌, ◌*◌, ◌==◌, ◌&&◌, nat_lt, List, [], ◌∷◌, Option, Some, None, if◌then◌else◌, option_and_then}
+use Rattle.std.specs.Prelude.{ℕ, ◌+◌, ◌-◌, ◌*◌, ◌==◌, ◌&&◌, ◌<◌, nat_lt, List, [], ◌∷◌, Option, Some, None, if◌then◌else◌, length, option_and_then}
 use Rattle.std.specs.Borrow.{Bor}
 use Rattle.std.specs.Char.{digit_value, is_digit}
 use Rattle.std.specs.Option.{option_map}
@@ -8,6 +8,10 @@ use lib.Utf8.{scalar}
 use Rattle.cedar_lexer.specs.Escapes.{letter_escape}
 use Rattle.cedar_lexer.specs.declared.escapes.Piece.{Piece}
 use Rattle.cedar_lexer.specs.declared.escapes.Piece.TheVariants.{Char, Star}
+
+-- the first text has fewer characters
+abbrev pub IsShorter : List ℕ → List ℕ → Type 0
+IsShorter rest text = length (chars rest) < length (chars text)
 
 -- what was read, and the characters behind it
 abbrev pub read_of : {A : Type 0} → Option (A × Bor (List ℕ)) → Option (A × List ℕ)

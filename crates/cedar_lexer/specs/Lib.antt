@@ -5,7 +5,7 @@ pub mod FirstPieces
 pub mod FirstTokens
 pub mod Grammar
 pub mod TokenKinds
-pub mod Pieces
+pub mod TokenStreams
 pub mod Places
 pub mod Readings
 pub mod Told

@@ -4,6 +4,7 @@ ghost use Rattle.std.specs.Option.{option_map};
 ghost use Rattle.std.specs.Str.{chars};
 ghost use Rattle.cedar_lexer.specs.Escapes.{letter_escape, piece_elem};
 ghost use Rattle.cedar_lexer.specs.FirstPieces.{
+  IsShorter,
   code_at,
   digit_at,
   digits_at,
@@ -12,7 +13,6 @@ ghost use Rattle.cedar_lexer.specs.FirstPieces.{
   read_of,
   two_digits_at,
 };
-ghost use Rattle.cedar_lexer.specs.Pieces.{IsShorter};
 ghost use Rattle.cedar_lexer.specs.Readings.{IsAnswerOfPattern, IsAnswerOfText};
 
 use cedar_terms::{Pattern, PatternElem, first_char};

@@ -13,7 +13,7 @@ ghost use Rattle.std.specs.Prelude.{
   length,
 };
 ghost use Rattle.cedar_lexer.specs.Told.{IsProblem};
-ghost use Rattle.cedar_lexer.specs.Pieces.{
+ghost use Rattle.cedar_lexer.specs.TokenStreams.{
   BeginsWith,
   BeginsWithPair,
   IsEndBehind,

@@ -2,7 +2,7 @@
 use Rattle.std.proofs.Common.{◌≡◌, ℕ, ◌≤◌, List, [], ◌∷◌, Option, Some, None, Result, Ok, Err, MatchOption, MatchResult, sym, ◌∙◌, ap, subst, arith}
 use Rattle.cedar_parser.specs.declared.operand.Operand.{Operand}
 use Rattle.cedar_parser.specs.declared.parser.Parser.{Parser}
-use Rattle.cedar_lexer.specs.Pieces.{IsPairTaken, IsTaken, IsUntouched, end_of, first_or, next_of, rest_of}
+use Rattle.cedar_lexer.specs.TokenStreams.{IsPairTaken, IsTaken, IsUntouched, end_of, first_or, next_of, rest_of}
 use Rattle.cedar_lexer.specs.Told.{IsProblem}
 use Rattle.cedar_lexer.specs.declared.parse_failure.ParseFailure.{ParseFailure}
 use Rattle.cedar_lexer.specs.declared.parse_failure.ParseFailure.TheVariants as failure

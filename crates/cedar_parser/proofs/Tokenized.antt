@@ -4,7 +4,7 @@ use Rattle.std.specs.Prelude.{slice_get}
 use Rattle.std.specs.Char.{encode_utf8}
 use Rattle.std.specs.Option.{option_map_or}
 use Rattle.cedar_lexer.specs.Blanks.{HasBlanks, nothing, space, comment, last_comment}
-use Rattle.cedar_lexer.specs.Pieces.{IsEndBehind, end_of, last_stop, rest_of}
+use Rattle.cedar_lexer.specs.TokenStreams.{IsEndBehind, end_of, last_stop, rest_of}
 use Rattle.cedar_lexer.specs.TokenPlaces.{AreTokens, AreTokensBefore, IsStuckIn}
 use Rattle.cedar_lexer.specs.declared.parse_failure.ParseFailure.{ParseFailure}
 use Rattle.cedar_lexer.specs.declared.parse_failure.ParseFailure.TheVariants as failure

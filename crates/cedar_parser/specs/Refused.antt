@@ -6,7 +6,7 @@ use Rattle.cedar_parser.specs.declared.operand.Operand.{Operand}
 use Rattle.cedar_parser.specs.declared.operand.Operation.{Operation}
 use Rattle.cedar_parser.specs.declared.operand.Operation.TheVariants as operations
 use Rattle.cedar_parser.specs.declared.parser.Parser.{Parser}
-use Rattle.cedar_lexer.specs.Pieces.{end_of, first_or, next_of, rest_of}
+use Rattle.cedar_lexer.specs.TokenStreams.{end_of, first_or, next_of, rest_of}
 use Rattle.cedar_lexer.specs.Places.{column_at, line_at}
 use Rattle.cedar_lexer.specs.declared.error.ParseError.{ParseError}
 use Rattle.cedar_lexer.specs.declared.error.ParseError.TheVariants as told

@@ -1,6 +1,6 @@
 //! Brackets, conditionals, sets, records and calls.
 ghost use Rattle.std.specs.Prelude.{◌≡◌, ◌≤◌, IfErr, MatchResult, max};
-ghost use Rattle.cedar_lexer.specs.Pieces.{tokens_left};
+ghost use Rattle.cedar_lexer.specs.TokenStreams.{tokens_left};
 ghost use Rattle.cedar_lexer.specs.declared.parse_failure.ParseFailure.TheVariants.{Memory};
 ghost use Rattle.cedar_parser.specs.Refused.{
   IsAbout,

@@ -1,6 +1,6 @@
 //! Literals, names and slots.
 ghost use Rattle.std.specs.Prelude.{◌≡◌, ◌≤◌, IfErr, MatchResult};
-ghost use Rattle.cedar_lexer.specs.Pieces.{tokens_left};
+ghost use Rattle.cedar_lexer.specs.TokenStreams.{tokens_left};
 ghost use Rattle.cedar_lexer.specs.declared.parse_failure.ParseFailure.TheVariants.{Memory};
 ghost use Rattle.cedar_parser.specs.Refused.{
   IsAbout,

@@ -1,6 +1,6 @@
 //! What follows an operand: attributes, methods, `has`, `like` and `is`.
 ghost use Rattle.std.specs.Prelude.{◌≤◌, max};
-ghost use Rattle.cedar_lexer.specs.Pieces.{tokens_left};
+ghost use Rattle.cedar_lexer.specs.TokenStreams.{tokens_left};
 ghost use Rattle.cedar_parser.specs.Refused.{IsBefore, IsStep, open_start};
 
 use crate::groups::RowKind;

@@ -1,5 +1,5 @@
 use Rattle.std.proofs.Common.{◌≡◌, ◌∙◌, Err, ap, subst, max, arith, rules}
-use Rattle.cedar_lexer.specs.Pieces.{IsEndBehind, end_of}
+use Rattle.cedar_lexer.specs.TokenStreams.{IsEndBehind, end_of}
 use Rattle.cedar_parser.specs.Refused.{greatest, group_start, operand_start, open_start, start_of}
 use Rattle.cedar_parser.proofs.InOrder.{earlier, taken}
 use Rattle.cedar_parser.proofs.Tokenized.{all_before, all_fit, stuck_within}

@@ -1,5 +1,5 @@
 use Rattle.std.proofs.Common.{◌≤◌, length, max}
-use Rattle.cedar_lexer.specs.Pieces.{tokens_left}
+use Rattle.cedar_lexer.specs.TokenStreams.{tokens_left}
 use Rattle.cedar_parser.specs.Refused.{IsBefore, operand_start, open_start, stop_of}
 use Rattle.cedar_parser.proofs.parser.parse.Given as goal
 

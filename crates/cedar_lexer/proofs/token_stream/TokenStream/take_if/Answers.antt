@@ -2,7 +2,7 @@ use Rattle.std.proofs.Common.{◌∙◌, ap, sym}
 use Rattle.std.proofs.lemmas.Bool.{false≢true}
 use denote.Enum.Bare.{same_false}
 use Rattle.cedar_lexer.specs.contracts.token.TokenKind.{the_type}
-use Rattle.cedar_lexer.specs.Pieces.{end_of, rest_of}
+use Rattle.cedar_lexer.specs.TokenStreams.{end_of, rest_of}
 use Rattle.cedar_lexer.proofs.Taken.{first_begins}
 use Rattle.cedar_lexer.proofs.token_stream.TokenStream.take_if.Goals as goal
 

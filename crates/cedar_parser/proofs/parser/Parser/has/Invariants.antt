@@ -1,5 +1,5 @@
 use Rattle.std.proofs.Common.{◌≤◌}
-use Rattle.cedar_lexer.specs.Pieces.{tokens_left}
+use Rattle.cedar_lexer.specs.TokenStreams.{tokens_left}
 use Rattle.cedar_parser.specs.Refused.{IsLeft, next_start}
 use Rattle.cedar_parser.proofs.parser.Parser.has.Given as goal
 

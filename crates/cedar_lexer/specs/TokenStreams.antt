@@ -1,15 +1,10 @@
--- How far texts are read, and which tokens are taken.
-use Rattle.std.specs.Prelude.{◌≡◌, ℕ, ◌-◌, List, [], ◌∷◌, ◌<◌, length, slice_get}
+-- The tokens of a stream, and which of them are taken.
+use Rattle.std.specs.Prelude.{◌≡◌, ℕ, ◌-◌, List, [], ◌∷◌, length, slice_get}
 use Rattle.std.specs.Option.{option_map_or}
-use Rattle.std.specs.Str.{chars}
 use Rattle.cedar_lexer.specs.declared.token.TokenKind.{TokenKind}
 use Rattle.cedar_lexer.specs.declared.token.TokenKind.TheVariants as kinds
 use Rattle.cedar_lexer.specs.declared.token.Token.{Token}
 use Rattle.cedar_lexer.specs.declared.token_stream.TokenStream.{TokenStream}
-
--- the first text has fewer characters
-abbrev pub IsShorter : List ℕ → List ℕ → Type 0
-IsShorter rest text = length (chars rest) < length (chars text)
 
 -- the tokens that are not taken yet
 abbrev pub rest_of : TokenStream → List Token
