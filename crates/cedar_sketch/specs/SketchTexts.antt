@@ -62,7 +62,7 @@ sketch_ops = record {
 
 -- the text of a list so far
 abbrev pub joined : OpenList → Text
-joined open = rope_text open.text
+joined l = rope_text l.text
 
 -- the text of what an S-expression is made of
 abbrev pub form_text : Form → Text
