@@ -111,7 +111,6 @@ impl Parser<'_> {
         }
         let (start, stop) = (group.start, token.span.stop);
         let span = Span { start, stop };
-        let goes_on = token.kind == TokenKind::Comma;
         self.operations = group.operations;
         match group.kind {
             GroupKind::Round => Ok(Some(Operand::member(expr, span))),
@@ -119,7 +118,7 @@ impl Parser<'_> {
             GroupKind::Then(test) => self.otherwise(start, test, expr),
             GroupKind::Row(kind, items) => {
                 let items = pushed(items, expr)?;
-                if goes_on {
+                if token.kind == TokenKind::Comma {
                     self.item(kind, items, start, tokens)
                 } else {
                     self.row(kind, items, span)
@@ -127,7 +126,7 @@ impl Parser<'_> {
             }
             GroupKind::Record(pairs, key) => {
                 let pairs = pushed(pairs, (key, expr))?;
-                if goes_on {
+                if token.kind == TokenKind::Comma {
                     self.field(pairs, start, tokens)
                 } else {
                     self.record(pairs, span)
