@@ -1,4 +1,4 @@
--- The words of simplifications: what a part is and means, and what is promised of it.
+-- The words of simplifications: what a known value and a residual are and mean, and what is promised of them.
 pub use Rattle.semantics_values.specs.ValueExpr.{value_expr}
 pub use Rattle.cedar_values.specs.Holders.{held_call}
 pub use Rattle.semantics_simplify.specs.Asks.{Ask, OfVar, OfSlot, OfUnknown, OfCall, asks_only, holds_no_call, is_bound_or}

@@ -356,8 +356,8 @@ impl<X: ExtensionFunctions> ExtensionFunction<X> {
     /// Calls it.
     ///
     /// A count of arguments that it does not take is refused with its name and both counts, at no
-    /// place. Else its own answer is passed on: a value as it is, an unknown as a residual, an error
-    /// as it is, also if memory ran out.
+    /// place. Else its own answer is passed on: a value as it is, an unknown as a residual, an
+    /// error as it is, also if memory ran out.
     pub fn call(&self, alloc: Global, args: &[Value<X>]) -> Result<PartialValue<X>, EvaluationError>
         ensures taken { IsTrue (takes (counts_of self.now) (length args.now))
             → ((r : _) × MayAnswer self.now args.now r × IsPassedOn r result) }

@@ -27,8 +27,8 @@ use std::rc::RcStr;
 /// It knows no request, no entities and no extensions. So variables, slots and unknowns are the
 /// fault `Open`, and what the store of entities alone could answer is `Store`. An operation on
 /// faults has the first one's fault; `if`, `and` and `or` look at no operand that they do not
-/// choose. Of equal keys of a record the last one's value counts. A call of an extension function is
-/// refused wherever it stands.
+/// choose. Of equal keys of a record the last one's value counts. A call of an extension function
+/// is refused wherever it stands.
 ///
 /// ```rust
 /// fn outcome(alloc: Global, expr: &Expr) -> Result<Outcome, BuildFault<CallRefused>> {

@@ -13,8 +13,8 @@ use std::alloc::{AllocError, Global};
 use std::fmt;
 use std::rc::RcStr;
 
-/// What an expression evaluates to: a well formed value, or why there is none. Its text is the whole
-/// text of the value, or that of the fault.
+/// What an expression evaluates to: a well formed value, or why there is none. Its text is the
+/// whole text of the value, or that of the fault.
 ///
 /// ```rust
 /// fn holds(outcome: &Outcome) -> bool {

@@ -1,6 +1,6 @@
 pub mod Nodes
 pub mod RecordNodes
-pub mod KnownParts
-pub mod KnownRows
+pub mod KnownOperands
+pub mod KnownChildren
 pub mod Branches
 pub mod OnePass

@@ -17,33 +17,33 @@ module _ (law : AsksByChildren) (d e : BareExpr) (is : d ≡ e) where
 
   module _ (here : passes is_no_call e ≡ true) where
     -- b says whether its children, of which these are the list, call nothing
-    pub of_row : (cs : List BareExpr) → children e ≡ cs → (b : Bool)
+    pub of_children : (cs : List BareExpr) → children e ≡ cs → (b : Bool)
         → b ≡ list_all holds_no_call cs → b ≡ holds_no_call d
-    of_row cs below b h =
+    of_children cs below b h =
         h ∙ (ap (list_all holds_no_call) (sym below)
         ∙ (ap (λ p. p && list_all holds_no_call (children e)) (sym here)
         ∙ (sym (law is_no_call e) ∙ ap holds_no_call (sym is))))
 
     pub of_one : (a : BareExpr) → children e ≡ a ∷ [] → (b : Bool) → b ≡ holds_no_call a
         → b ≡ holds_no_call d
-    of_one a below b h = of_row (a ∷ []) below b (h ∙ sym (and-true (holds_no_call a)))
+    of_one a below b h = of_children (a ∷ []) below b (h ∙ sym (and-true (holds_no_call a)))
 
     pub of_two : (a c : BareExpr) → children e ≡ a ∷ c ∷ [] → (b : Bool)
         → b ≡ (holds_no_call a && holds_no_call c) → b ≡ holds_no_call d
     of_two a c below b h =
-        of_row (a ∷ c ∷ []) below b
+        of_children (a ∷ c ∷ []) below b
         (h ∙ ap (λ p. holds_no_call a && p) (sym (and-true (holds_no_call c))))
 
     pub of_three : (a c f : BareExpr) → children e ≡ a ∷ c ∷ f ∷ [] → (b : Bool)
         → b ≡ ((holds_no_call a && holds_no_call c) && holds_no_call f) → b ≡ holds_no_call d
     of_three a c f below b h =
-        of_row (a ∷ c ∷ f ∷ []) below b
+        of_children (a ∷ c ∷ f ∷ []) below b
         (h ∙ and_assoc (holds_no_call a) (holds_no_call c) (holds_no_call f)
         ∙ ap (λ p. holds_no_call a && (holds_no_call c && p)) (sym (and-true (holds_no_call f))))
 
--- the trees of a row are its list
-pub row_all : {A : Type 0} (f : A → BareExpr) (xs : List A)
+-- the members of a set that is made of a list are those of the list
+pub members_all : {A : Type 0} (f : A → BareExpr) (xs : List A)
     → list_all holds_no_call (members_of (trees_of (map f xs)))
     ≡ list_all (λ x. holds_no_call (f x)) xs
-row_all f [] = refl
-row_all f (x ∷ xs) = ap (λ b. holds_no_call (f x) && b) (row_all f xs)
+members_all f [] = refl
+members_all f (x ∷ xs) = ap (λ b. holds_no_call (f x) && b) (members_all f xs)

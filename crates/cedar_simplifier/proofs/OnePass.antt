@@ -1,4 +1,4 @@
--- What holds of the part that an expression is made in one walk, where names are bound.
+-- What holds of what an expression is simplified to in one pass, where names are bound.
 use Rattle.std.proofs.Common.{◌≡◌, Bool, IsTrue, ap, sym, subst, ◌∙◌}
 use Rattle.std.specs.declared.cmp.Ordering.{Ordering}
 use Rattle.cedar_builders.specs.BareExpr.{BareExpr}

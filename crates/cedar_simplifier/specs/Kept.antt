@@ -1,4 +1,4 @@
--- What is kept of a part's value.
+-- What is kept of a known value.
 use Rattle.std.specs.Prelude.{Bool, true}
 use Rattle.std.specs.declared.cmp.Ordering.{Ordering}
 use Rattle.cedar_values.specs.Holders.{NoExtension}

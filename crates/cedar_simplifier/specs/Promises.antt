@@ -1,4 +1,4 @@
--- What is promised of a part that an expression is made in an environment of values.
+-- What is promised of what an expression is simplified to in an environment of values.
 use Rattle.std.specs.Prelude.{◌≡◌, Bool, IsTrue, Ok}
 use Rattle.std.specs.declared.cmp.Ordering.{Ordering}
 use Rattle.cedar_builders.specs.BareExpr.{BareExpr}
@@ -13,7 +13,7 @@ use Rattle.semantics_simplify.specs.Simplified.{Simplified, Known, tree_of}
 
 -- R and E are the order and the equality of extension values, of which there are none
 module _ (R : NoExtension → NoExtension → Ordering) (E : NoExtension → NoExtension → Bool) where
-  -- wherever a map binds further unknowns, the part's tree has the outcome of the tree, or is
+  -- wherever a map binds further unknowns, the simplified tree has the outcome of the tree, or is
   -- refused by the same name
   abbrev pub MeansTheSame : Env → BareExpr → Simplified NoExtension → Type 0
   MeansTheSame env e p =
@@ -27,7 +27,7 @@ module _ (R : NoExtension → NoExtension → Ordering) (E : NoExtension → NoE
       (m : ValueMap NoExtension) (t : BareValue NoExtension) → p ≡ Known t
       → fold (evaluator_ops R E) (both env (plain_env m)) e ≡ Ok (Ok t)
 
--- the part's tree asks only for what the tree asks for, and for no unknown that is bound
+-- the simplified tree asks only for what the tree asks for, and for no unknown that is bound
 abbrev pub AsksNoMore : Env → BareExpr → Simplified NoExtension → Type 0
 AsksNoMore env e p =
     (Q : Ask → Bool) → IsTrue (asks_only (is_bound_or env Q) e)

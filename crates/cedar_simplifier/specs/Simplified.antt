@@ -1,4 +1,4 @@
--- The meaning of a part.
+-- The meaning of what is simplified.
 use Rattle.std.specs.Prelude.{Bool, Option, Some, None, is_some, option_map, Ok, Err}
 use Rattle.std.specs.Global.{Global}
 use Rattle.std.specs.declared.rc.RcStr.{RcStr}
@@ -17,16 +17,16 @@ use Rattle.cedar_simplifier.specs.declared.kind.Kind.TheVariants.{Known, Residua
 use Rattle.cedar_simplifier.specs.declared.simplified.Simplified.{Simplified}
 use Rattle.cedar_simplifier.specs.declared.tree.Tree.{Tree}
 
--- the bare tree of what is left
+-- the bare tree of a residual
 abbrev pub bare_tree : Tree → BareExpr
 bare_tree t = bare_expr t.expr
 
--- what a kind of part means
+-- what a known value and a residual mean
 abbrev pub bare_kind : Kind → meant.Simplified NoExtension
 bare_kind (Known v) = meant.Known (bare_value v)
 bare_kind (Residual t) = meant.Residual (bare_tree t)
 
--- what a part means: the tree of its value, or the tree that is left
+-- what is meant: the tree of the known value, or that of the residual
 abbrev pub meaning_of : Simplified → meant.Simplified NoExtension
 meaning_of p = bare_kind p.kind
 
@@ -39,16 +39,16 @@ known_value (meant.Residual e) = None
 abbrev pub is_known : {X : Type 0} → meant.Simplified X → Bool
 is_known p = is_some (known_value p)
 
--- the value that a kind of part holds, if any
+-- the value itself, if it is known
 abbrev pub value_in_kind : Kind → Option (Value NoExtension)
 value_in_kind (Known v) = Some v
 value_in_kind (Residual t) = None
 
--- the value that a part holds, if any
+-- the value that is held, if it is known
 abbrev pub held_value : Simplified → Option (Value NoExtension)
 held_value p = value_in_kind p.kind
 
--- the value that a part holds, with its key, if any
+-- the same, with its key
 abbrev pub held_pair : RcStr Global × Simplified → Option (RcStr Global × Value NoExtension)
 held_pair p = option_map (λ v. (p.0, v)) (held_value p.1)
 

@@ -1,8 +1,8 @@
-//! The kinds of parts.
+//! The two kinds of what is simplified.
 use crate::tree::Tree;
 use cedar_values::{NoExtension, Value};
 
-// A value that is known, or an expression that is left.
+// A known value, or a residual.
 #[derive(Debug, Drop)]
 pub(crate) enum Kind {
     Known(Value<NoExtension>),

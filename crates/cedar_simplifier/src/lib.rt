@@ -1,12 +1,12 @@
-//! The partial evaluator, as a builder: what it makes of an expression is a value that is known, or
-//! an expression that is left and means the same.
+//! The partial evaluator, as a builder: what it makes of an expression is a known value, or a
+//! residual that means the same.
 #![tactic(auto)]
 
 mod boolean;
+mod children;
 mod kind;
 mod operations;
 mod residual;
-mod rows;
 mod simplified;
 mod simplifier;
 mod simplify;

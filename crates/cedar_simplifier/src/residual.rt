@@ -1,4 +1,4 @@
-//! Nodes that are left, over what their operands were made.
+//! Residual nodes, over what their operands were simplified to.
 ghost use Rattle.std.specs.Prelude.{◌≡◌, IfOk, map};
 ghost use Rattle.std.specs.Rc.{rc_str_bytes};
 ghost use Rattle.cedar_terms.specs.Entities.{bare_entity_type};
@@ -32,7 +32,8 @@ impl Simplifier {
         other: Simplified,
     ) -> Result<Simplified, AllocError>
         ensures { IfOk result (λ p. meaning_of p
-            ≡ Residual (If (tree_of held_call (meaning_of test)) (tree_of held_call (meaning_of then))
+            ≡ Residual (If (tree_of held_call (meaning_of test))
+            (tree_of held_call (meaning_of then))
             (tree_of held_call (meaning_of other)))) }
     {
         let test = test.into_tree(alloc)?;

@@ -13,12 +13,12 @@ use cedar_terms::Literal;
 use cedar_values::{NoExtension, Value};
 use std::alloc::{AllocError, Global};
 
-/// What an expression is made: a well formed value that is known, whatever unknowns are bound to,
-/// or an expression that is left.
+/// What an expression is simplified to: a well formed value that is known, whatever unknowns are
+/// bound to, or a residual expression.
 ///
 /// ```rust
-/// fn is_allowed(part: &Simplified) -> bool {
-///     match part.as_value() {
+/// fn is_allowed(simplified: &Simplified) -> bool {
+///     match simplified.as_value() {
 ///         Some(value) => matches!(value.try_as_lit(), Some(Literal::Bool(true))),
 ///         None => false,
 ///     }
@@ -52,7 +52,7 @@ impl Simplified {
         }
     }
 
-    /// The value, if it is known, of a consumed part.
+    /// The value, if it is known, of what is consumed.
     pub fn into_value(self) -> Option<Value<NoExtension>>
         ensures same { result ≡ held_value self }
         ensures value { option_map bare_value result ≡ known_value (meaning_of self) }
@@ -76,7 +76,7 @@ impl Simplified {
         }
     }
 
-    /// The expression that is left, or that of the value.
+    /// The residual, or the expression of the known value.
     pub fn into_expr(self, alloc: Global) -> Result<Expr, AllocError>
         ensures { IfOk result (λ e. bare_expr e ≡ meant.tree_of held_call (meaning_of self)) }
     {
@@ -113,7 +113,7 @@ impl Simplified {
         }
     }
 
-    // A tree that is left.
+    // A residual.
     pub(crate) fn residual(tree: Tree) -> Simplified
         ensures { meaning_of result ≡ meant.Residual (bare_tree tree) }
     {

@@ -10,8 +10,8 @@ ghost use Rattle.semantics_simplify.specs.Simplified as meant;
 ghost use Rattle.semantics_simplify.specs.Simplifier.{simplifier_lawful, simplifier_ops};
 ghost use Rattle.cedar_simplifier.specs.Simplified.{meaning_of};
 
+use crate::children::{are_known, children_of, fields_of, have_known, values_by_key, values_of};
 use crate::operations::{apply_one, apply_two, get, has, is_of_type, like};
-use crate::rows::{are_known, fields_of, have_known, row_of, values_by_key, values_of};
 use crate::simplified::Simplified;
 use crate::tree::Tree;
 use cedar_builders::{
@@ -29,14 +29,14 @@ use std::rc::RcStr;
 /// The builder that simplifies: of `1 + 1 == x` it makes `2 == x`, and of `1 + 1 == 2` the value
 /// `true`.
 ///
-/// An operation on values that are known is the evaluator's, if that gives a value. Everything else
-/// is left, over what its operands were made: what is not known, what the evaluator has a fault
-/// for, and calls. An operand goes only where that changes no outcome: it has to be one that the
-/// evaluator does not choose, and hold no call, since a call in it would be refused. Of
-/// `true && right` the right side is made only where that can be nothing but a Boolean or a fault.
+/// An operation on known values is the evaluator's, if that gives a value. Everything else is a
+/// residual, over what its operands were simplified to: what is not known, what the evaluator has a
+/// fault for, and calls. An operand goes only where that changes no outcome: it has to be one that
+/// the evaluator does not choose, and hold no call, since a call in it would be refused. Of `true
+/// && right` the right side is made only where that can be nothing but a Boolean or a fault.
 ///
-/// Nothing is refused, but a record of equal keys where a part is left. A node that is left keeps
-/// its place; a value that is known has none.
+/// Nothing is refused, but a record of equal keys where a value is a residual. A residual node
+/// keeps its place; a known value has none.
 ///
 /// ```rust
 /// fn simplified(alloc: Global, expr: &Expr) -> Result<Simplified, BuildFault<Infallible>> {
@@ -55,7 +55,7 @@ impl ExprBuilder for Simplifier {
 
     type BuildError = Infallible;
 
-    // An expression means the tree of its value, or the tree that is left.
+    // An expression means the tree of its known value, or the residual.
     ghost Meaning = { meant.Simplified held.NoExtension };
 
     // There is no error.
@@ -151,7 +151,7 @@ impl ExprBuilder for Simplifier {
         }
     }
 
-    #[tactic(auto, using(crate::proofs::KnownParts::made_known, crate::proofs::KnownParts::made_left))]
+    #[tactic(auto, using(crate::proofs::KnownOperands::made_known, crate::proofs::KnownOperands::made_residual))]
     fn unary_app(
         self,
         alloc: Global,
@@ -164,7 +164,7 @@ impl ExprBuilder for Simplifier {
         }
     }
 
-    #[tactic(auto, using(crate::proofs::KnownParts::made_known, crate::proofs::KnownParts::made_left))]
+    #[tactic(auto, using(crate::proofs::KnownOperands::made_known, crate::proofs::KnownOperands::made_residual))]
     fn binary_app(
         self,
         alloc: Global,
@@ -188,11 +188,11 @@ impl ExprBuilder for Simplifier {
             (⟦<Simplifier as ExprBuilder>⟧.ops.call_of (bare_name fn_name)
             (map meaning_of args.items)) result }
     {
-        let row = row_of(alloc, args)?;
-        Ok(self.residual(Tree::call(alloc, fn_name, row)?))
+        let children = children_of(alloc, args)?;
+        Ok(self.residual(Tree::call(alloc, fn_name, children)?))
     }
 
-    #[tactic(auto, using(crate::proofs::KnownParts::made_known, crate::proofs::KnownParts::made_left))]
+    #[tactic(auto, using(crate::proofs::KnownOperands::made_known, crate::proofs::KnownOperands::made_residual))]
     fn get_attr(
         self,
         alloc: Global,
@@ -205,7 +205,7 @@ impl ExprBuilder for Simplifier {
         }
     }
 
-    #[tactic(auto, using(crate::proofs::KnownParts::made_known, crate::proofs::KnownParts::made_left))]
+    #[tactic(auto, using(crate::proofs::KnownOperands::made_known, crate::proofs::KnownOperands::made_residual))]
     fn extended_has_attr(
         self,
         alloc: Global,
@@ -218,7 +218,7 @@ impl ExprBuilder for Simplifier {
         }
     }
 
-    #[tactic(auto, using(crate::proofs::KnownParts::made_known, crate::proofs::KnownParts::made_left))]
+    #[tactic(auto, using(crate::proofs::KnownOperands::made_known, crate::proofs::KnownOperands::made_residual))]
     fn like(
         self,
         alloc: Global,
@@ -231,7 +231,7 @@ impl ExprBuilder for Simplifier {
         }
     }
 
-    #[tactic(auto, using(crate::proofs::KnownParts::made_known, crate::proofs::KnownParts::made_left))]
+    #[tactic(auto, using(crate::proofs::KnownOperands::made_known, crate::proofs::KnownOperands::made_residual))]
     fn is_entity_type(
         self,
         alloc: Global,
@@ -252,8 +252,8 @@ impl ExprBuilder for Simplifier {
             let values = values_of(alloc, members)?;
             return Ok(Simplified::known(set_of(alloc, values)?));
         }
-        let row = row_of(alloc, members)?;
-        Ok(self.residual(Tree::set(alloc, row)?))
+        let children = children_of(alloc, members)?;
+        Ok(self.residual(Tree::set(alloc, children)?))
     }
 
     fn record(

@@ -1,4 +1,4 @@
-//! Simplification in one walk.
+//! Simplification in one pass.
 ghost use Rattle.std.specs.Prelude.{◌≡◌, IfOk};
 ghost use Rattle.cedar_exprs.specs.BareExpr.{bare_expr};
 ghost use Rattle.cedar_values.specs.Holders.{held_call, plain_env};
@@ -17,16 +17,16 @@ use std::alloc::{AllocError, Global};
 use std::collections::HashMap;
 use std::rc::RcStr;
 
-/// What is made of an expression, where the unknowns that `values` binds are these values: a value
-/// that is known, or an expression that is left.
+/// Simplifies an expression, where the unknowns that `values` binds are these values, to a known
+/// value or a residual.
 ///
-/// Wherever further unknowns are bound, the part has the outcome that the expression has, or is
-/// refused by the same call; a value that is known is that outcome. The part asks for no variable,
+/// Wherever further unknowns are bound, the residual has the outcome that the expression has, or is
+/// refused by the same call; a known value is that outcome. The residual asks for no variable,
 /// slot, unknown or call that the expression does not ask for, and for no unknown that `values`
 /// binds.
 ///
 /// ```rust
-/// fn rest(alloc: Global, policy: &Expr, now: &HashMap<RcStr, Value>) -> Result<Expr, AllocError> {
+/// fn at(alloc: Global, policy: &Expr, now: &HashMap<RcStr, Value>) -> Result<Expr, AllocError> {
 ///     simplify(alloc, policy, now)?.into_expr(alloc)
 /// }
 /// ```
@@ -35,17 +35,17 @@ pub fn simplify(
     expr: &Expr,
     values: &HashMap<RcStr, Value<NoExtension>>,
 ) -> Result<Simplified, AllocError>
-    ensures part { IfOk result (λ p. meaning_of p
+    ensures simplified { IfOk result (λ s. meaning_of s
         ≡ simplified_in ⟦<NoExtension as Ord>⟧.cmp ⟦<NoExtension as PartialEq>⟧.eq held_call
         (plain_env values.now) (bare_expr expr.now)) }
-    ensures means_the_same { IfOk result (λ p.
+    ensures means_the_same { IfOk result (λ s.
         MeansTheSame ⟦<NoExtension as Ord>⟧.cmp ⟦<NoExtension as PartialEq>⟧.eq
-        (plain_env values.now) (bare_expr expr.now) (meaning_of p)) }
-    ensures known_stays { IfOk result (λ p.
+        (plain_env values.now) (bare_expr expr.now) (meaning_of s)) }
+    ensures known_stays { IfOk result (λ s.
         KnownStays ⟦<NoExtension as Ord>⟧.cmp ⟦<NoExtension as PartialEq>⟧.eq
-        (plain_env values.now) (bare_expr expr.now) (meaning_of p)) }
-    ensures asks_no_more { IfOk result (λ p.
-        AsksNoMore (plain_env values.now) (bare_expr expr.now) (meaning_of p)) }
+        (plain_env values.now) (bare_expr expr.now) (meaning_of s)) }
+    ensures asks_no_more { IfOk result (λ s.
+        AsksNoMore (plain_env values.now) (bare_expr expr.now) (meaning_of s)) }
 {
     maps_bind_plain_values::<NoExtension>();
     no_extension_values();
@@ -54,7 +54,7 @@ pub fn simplify(
     known_stays::<NoExtension>();
     asks_no_more::<NoExtension>();
     match try_into_expr_with_values::<Simplifier, NoExtension>(alloc, expr, values) {
-        Ok(part) => Ok(part),
+        Ok(simplified) => Ok(simplified),
         Err(BuildFault::Build(never)) => match never {},
         Err(BuildFault::Memory) => Err(AllocError),
     }

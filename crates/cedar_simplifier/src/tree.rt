@@ -1,11 +1,11 @@
-//! Expressions that are left.
+//! Residuals.
 //!
 //! Whether an expression holds a call is known where it is made, so nothing looks for calls.
 ghost use Rattle.std.specs.Prelude.{◌≡◌};
 ghost use Rattle.cedar_exprs.specs.BareExpr.{bare_expr};
 ghost use Rattle.semantics_simplify.specs.Asks.{holds_no_call};
 
-use crate::rows::{Fields, Row};
+use crate::children::{Children, Fields};
 use cedar_builders::laws::pairs_in_key_order;
 use cedar_builders::{ExprBuilder as _, ExpressionConstructionError};
 use cedar_exprs::{Expr, ExprBuilder, ExprKind};
@@ -212,7 +212,7 @@ impl Tree {
     }
 
     // A call of an extension function.
-    pub(crate) fn call(alloc: Global, func: Name, args: Row) -> Result<Tree, AllocError>
+    pub(crate) fn call(alloc: Global, func: Name, args: Children) -> Result<Tree, AllocError>
         ensures { IfOk result (λ t.
             bare_tree t ≡ ExtensionFunctionApp (bare_name func) (bare_exprs args.exprs.items)) }
     {
@@ -276,7 +276,7 @@ impl Tree {
     }
 
     // A set by its members.
-    pub(crate) fn set(alloc: Global, members: Row) -> Result<Tree, AllocError>
+    pub(crate) fn set(alloc: Global, members: Children) -> Result<Tree, AllocError>
         ensures { IfOk result (λ t. bare_tree t ≡ Set (bare_exprs members.exprs.items)) }
     {
         asks_by_children();

@@ -36,7 +36,7 @@ value_step v = v.kind
 abbrev pub bare_value_kind : {X : Type 0} → ValueKind X → BareValue X
 bare_value_kind {X} = fold-ValueKind X (BareValue X) (BareValues X) (BareValue X) kind_step set_step value_step
 
--- the row of a set's members
+-- the trees of a set's members
 abbrev pub bare_set : {X : Type 0} → Set X → BareValues X
 bare_set {X} = fold-Set X (BareValue X) (BareValues X) (BareValue X) kind_step set_step value_step
 

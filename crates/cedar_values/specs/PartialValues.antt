@@ -87,7 +87,7 @@ abbrev pub IsExprOf : {X : Type 0} → (X → BareCall) → PartialValue X → E
 IsExprOf C (Value v) e = (bare_expr e ≡ value_expr C (bare_value v)) × (expr_place e ≡ value_place v)
 IsExprOf C (Residual r) e = e ≡ r
 
--- what is left of an iterator over values, or over expressions
+-- an iterator over values, or over expressions
 abbrev pub Sides : Type 0 → Type 0
 Sides X = Either (IntoIter (value.Value X) Global) (IntoIter (Expr Unit) Global)
 

@@ -79,6 +79,7 @@ enum Step<X> {
     End,
 }
 
+// Enters a kind: drops a literal or an extension value, and goes into a set or a record.
 fn enter_kind<X: Drop>(left: Remaining<X>) -> Step<X>
     ensures { IsStep (kind_nodes left.kind) (all_nodes left) result }
 {
@@ -88,8 +89,8 @@ fn enter_kind<X: Drop>(left: Remaining<X>) -> Step<X>
             drop(literal);
             go_up(waiting)
         }
-        ValueKind::Set(set) => open_members(set.into_row(), waiting),
-        ValueKind::Record(pairs) => open_pairs(pairs, waiting),
+        ValueKind::Set(set) => enter_members(set.into_row(), waiting),
+        ValueKind::Record(pairs) => enter_pairs(pairs, waiting),
         ValueKind::ExtensionValue(value) => {
             drop(value);
             go_up(waiting)
@@ -97,7 +98,7 @@ fn enter_kind<X: Drop>(left: Remaining<X>) -> Step<X>
     }
 }
 
-// To what waits.
+// Goes up to what waits.
 fn go_up<X: Drop>(waiting: Option<ValueKind<X>>) -> Step<X>
     ensures { (k n : ℕ) → waiting_nodes waiting < n → IsStep k n result }
 {
@@ -107,7 +108,7 @@ fn go_up<X: Drop>(waiting: Option<ValueKind<X>>) -> Step<X>
     }
 }
 
-// What waits, if anything does.
+// Resumes what waits, if anything does.
 fn resume_waiting<X: Drop>(waiting: Option<ValueKind<X>>) -> Option<Remaining<X>>
     ensures { IfSome result (λ left. all_nodes left ≤ waiting_nodes waiting) }
 {
@@ -129,9 +130,9 @@ fn remaining<X>(kind: ValueKind<X>) -> Remaining<X>
     }
 }
 
-// Into a member of a set, whose row then waits.
+// Enters a member of a set, which then waits.
 #[inline(never)]
-fn open_members<X: Drop>(row: Rc<Vec<Value<X>>>, waiting: Option<ValueKind<X>>) -> Step<X>
+fn enter_members<X: Drop>(row: Rc<Vec<Value<X>>>, waiting: Option<ValueKind<X>>) -> Step<X>
     ensures { IsStep (suc (row_nodes row.value.items))
         (suc (row_nodes row.value.items) + waiting_nodes waiting) result }
 {
@@ -145,9 +146,12 @@ fn open_members<X: Drop>(row: Rc<Vec<Value<X>>>, waiting: Option<ValueKind<X>>) 
     }
 }
 
-// Into a value of a record, whose row then waits.
+// Enters a value of a record, which then waits.
 #[inline(never)]
-fn open_pairs<X: Drop>(row: Rc<BTreeMap<RcStr, Value<X>>>, waiting: Option<ValueKind<X>>) -> Step<X>
+fn enter_pairs<X: Drop>(
+    row: Rc<BTreeMap<RcStr, Value<X>>>,
+    waiting: Option<ValueKind<X>>,
+) -> Step<X>
     ensures { IsStep (suc (entry_nodes row.value.entries))
         (suc (entry_nodes row.value.entries) + waiting_nodes waiting) result }
 {
@@ -158,7 +162,7 @@ fn open_pairs<X: Drop>(row: Rc<BTreeMap<RcStr, Value<X>>>, waiting: Option<Value
     }
 }
 
-// Into an item that was taken out of a row, which then waits.
+// Enters an item that was taken out of a set or a record, which then waits.
 fn enter_item<X: Drop>(item: Taken<ValueKind<X>>, row: ValueKind<X>) -> Step<X>
     ensures { (m w n : ℕ) → IsTaken kind_nodes m w n item → kind_nodes row ≡ suc n
         → IsStep (suc m) (suc m + w) result }
@@ -176,7 +180,7 @@ fn enter_item<X: Drop>(item: Taken<ValueKind<X>>, row: ValueKind<X>) -> Step<X>
     }
 }
 
-// The last member of a row that waits, but for leaves.
+// Resumes a set that waits, at its last member that is no leaf.
 fn resume_members<X: Drop>(row: Rc<Vec<Value<X>>>) -> Remaining<X>
     ensures { all_nodes result ≤ suc (row_nodes row.value.items) }
 {
@@ -190,7 +194,7 @@ fn resume_members<X: Drop>(row: Rc<Vec<Value<X>>>) -> Remaining<X>
     }
 }
 
-// The last value of a row that waits, but for leaves.
+// Resumes a record that waits, at its last value that is no leaf.
 fn resume_pairs<X: Drop>(row: Rc<BTreeMap<RcStr, Value<X>>>) -> Remaining<X>
     ensures { all_nodes result ≤ suc (entry_nodes row.value.entries) }
 {
@@ -204,8 +208,8 @@ fn resume_pairs<X: Drop>(row: Rc<BTreeMap<RcStr, Value<X>>>) -> Remaining<X>
     }
 }
 
-// The last item of a row that waits, beside that row. If it was the only one, it is taken to be the
-// row that waits below, and the row is done with.
+// Resumes a set or a record that waits, at its last item. If it was the only one, it is taken to be
+// what waits below, and the set or the record is done with.
 fn resume_row<X>(last: Option<ValueKind<X>>, is_only: bool, row: ValueKind<X>) -> Remaining<X>
     ensures { all_nodes result ≡ waiting_nodes last + kind_nodes row }
 {

@@ -35,8 +35,8 @@ pub trait ExtensionValue: Drop {
     fn typename(&self, alloc: Global) -> Result<Name, AllocError>
         ensures { IfOk result (λ n. bare_name n ≡ type_name self.now) };
 
-    /// Whether its type takes part in the overloading of operators. Nothing in these layers asks for
-    /// it.
+    /// Whether its type takes part in the overloading of operators. Nothing in these layers asks
+    /// for it.
     fn supports_operator_overloading(&self) -> bool
         ensures { result ≡ is_overloadable self.now };
 

@@ -134,7 +134,7 @@ enum Step<'a, X> {
     Into(Waiting<'a, X>, &'a Expr),
 }
 
-// Into an expression.
+// Enters an expression.
 fn enter_expr<'a, X: ExtensionValue + Ord>(
     alloc: Global,
     expr: &'a Expr,
@@ -162,7 +162,7 @@ fn enter_expr<'a, X: ExtensionValue + Ord>(
     }
 }
 
-// Back to what waited for this value.
+// Resumes what waited for this value, which is put behind those that it has.
 fn resume_row<'a, X: ExtensionValue + Ord>(
     alloc: Global,
     row: Waiting<'a, X>,
@@ -186,7 +186,7 @@ fn resume_row<'a, X: ExtensionValue + Ord>(
     }
 }
 
-// Reads the members that are left, up to one that is no literal.
+// Reads the other members, up to one that is no literal.
 fn read_members<'a, X: ExtensionValue + Ord>(
     alloc: Global,
     row: SetRow<'a, X>,
@@ -208,7 +208,7 @@ fn read_members<'a, X: ExtensionValue + Ord>(
     Ok(Step::Read(Value::new(ValueKind::Set(set), loc)))
 }
 
-// Reads the values that are left, up to one that is no literal.
+// Reads the other values, up to one that is no literal.
 fn read_pairs<'a, X: ExtensionValue + Ord>(
     alloc: Global,
     row: RecordRow<'a, X>,

@@ -26,8 +26,9 @@ use std::rc::Rc;
 // Room is made at first for so many literals at most: of many values few may be different.
 const FIRST_ROOM: usize = 128;
 
-// The members of the set of some values, strictly ascending, and their hash form: of literals, which
-// are kept by hash as they come, the first of each is sorted, and no search for repeats follows.
+// The members of the set of some values, strictly ascending, and their hash form: of literals,
+// which are kept by hash as they come, the first of each is sorted, and no search for repeats
+// follows.
 pub(crate) fn with_hash_form<X: Ord + Drop>(
     alloc: Global,
     values: Vec<Value<X>>,

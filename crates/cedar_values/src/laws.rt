@@ -119,14 +119,16 @@ pub fn values_by_kind<X: Ord>()
     ensures kind { (v : Value X) → bare_value v ≡ bare_value_kind (kind_of v) }
     ensures set { (s : Set X) → bare_value_kind (kinds.Set s)
         ≡ bare.SetValue (bare.values_of (map bare_value (members s))) }
-    ensures record { (m : Rc (BTreeMap (RcStr Global) (Value X)) Global) → bare_value_kind (kinds.Record m)
+    ensures record { (m : Rc (BTreeMap (RcStr Global) (Value X)) Global) →
+        bare_value_kind (kinds.Record m)
         ≡ bare.RecordValue (bare.pairs_of (meant_pairs bare_value m.value.entries)) }
     ensures kept { (v : Value X) →
         well_formed X.cmp v ≡ kind_well_formed X.cmp (kind_of v) }
     ensures lit_kept { (l : Literal) → IsTrue (kind_well_formed X.cmp (kinds.Lit l)) }
     ensures set_kept { (s : Set X) →
         kind_well_formed X.cmp (kinds.Set s) ≡ set_well_formed X.cmp s }
-    ensures record_kept { (m : Rc (BTreeMap (RcStr Global) (Value X)) Global) → kind_well_formed X.cmp (kinds.Record m)
+    ensures record_kept { (m : Rc (BTreeMap (RcStr Global) (Value X)) Global) →
+        kind_well_formed X.cmp (kinds.Record m)
         ≡ list_all (λ e. well_formed X.cmp e.1) m.value.entries }
 {}
 
@@ -136,8 +138,8 @@ pub fn maps_bind_plain_values<X: ExtensionValue>()
         → BindsPlainValues X.canonical (values_env X.type_name X.canonical m) }
 {}
 
-/// The tree of a set is the row of its members' trees; a literal and an extension value are a tree
-/// alone. `values_by_kind` says the same of values and records.
+/// The tree of a set has its members' trees as children; a literal and an extension value are a
+/// tree alone. `values_by_kind` says the same of values and records.
 pub fn trees_of_values<X>()
     ensures members { (s : Set X) → bare.list_of (bare_set s) ≡ map bare_value (members s) }
     ensures set { (s : Set X) → bare_value_kind (kinds.Set s) ≡ bare.SetValue (bare_set s) }
@@ -179,7 +181,8 @@ pub fn value_keys_ascend<X>(value: &Value<X>)
 /// Whether an extension value is inside of a value: none is in a literal, and in a set or a record
 /// where one is in a member or in a value.
 pub fn plain_values<X>()
-    ensures literals { (l : Literal) → has_extension (bare_value_kind {X = X} (kinds.Lit l)) ≡ false }
+    ensures literals { (l : Literal) →
+        has_extension (bare_value_kind {X = X} (kinds.Lit l)) ≡ false }
     ensures sets { (s : Set X) → has_extension (bare_value_kind (kinds.Set s))
         ≡ list_any (λ v. has_extension (bare_value v)) (members s) }
     ensures records { (m : Rc (BTreeMap (RcStr Global) (Value X)) Global) →
@@ -189,8 +192,8 @@ pub fn plain_values<X>()
         has_extension (bare_value_kind (kinds.ExtensionValue e)) ≡ true }
 {}
 
-/// There is no extension value where these are `NoExtension`, so none is inside of a value, nor of the
-/// values of a map.
+/// There is no extension value where these are `NoExtension`, so none is inside of a value, nor of
+/// the values of a map.
 pub fn no_extension_values()
     ensures none { held.NoExtension → ⊥ }
     ensures plain { (t : bare.BareValue held.NoExtension) → has_extension t ≡ false }

@@ -30,7 +30,8 @@ impl<X> ValueKind<X> {
     pub fn all_literal_uids(&self, alloc: Global) -> Result<HashSet<EntityUID>, AllocError>
         ensures { IfOk result (HasJust (literal_uids (bare_value_kind self.now))) }
     {
-        // The values that are still to be looked at wait on the heap, so that no depth ends the walk.
+        // The values that are still to be looked at wait on the heap, so that no depth ends the
+        // walk.
         let mut uids = HashSet::new(alloc);
         let mut waiting = Vec::new(alloc);
         waiting.push(self)?;

@@ -29,7 +29,7 @@ use std::alloc::{AllocError, Global};
 use std::vec::IntoIter;
 use thiserror::Error;
 
-/// What partial evaluation hands on: a value, or what is left of the expression.
+/// What partial evaluation hands on: a value, or a residual.
 ///
 /// Two are equal where both are values that are equal, or both are equal expressions; places do not
 /// count.

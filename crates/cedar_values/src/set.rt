@@ -37,8 +37,8 @@ use std::collections::HashSet;
 use std::rc::Rc;
 use std::slice;
 
-/// A set of values, as the strictly ascending list of its members. Where all of them are literals, as
-/// those of the empty set are, they are kept by hash too.
+/// A set of values, as the strictly ascending list of its members. Where all of them are literals,
+/// as those of the empty set are, they are kept by hash too.
 #[cycle(value)]
 #[derive(Drop)]
 #[derive_where(Debug, PartialEq, Eq, PartialOrd, Ord; X)]
@@ -140,8 +140,8 @@ impl<X: Ord + Drop> Set<X> {
         Set::of_members(alloc, Vec::new(alloc), Some(literals))
     }
 
-    /// The set of some values: one of each that are the same, with its place. Of literals alone it is
-    /// the first; otherwise it is not said which.
+    /// The set of some values: one of each that are the same, with its place. Of literals alone it
+    /// is the first; otherwise it is not said which.
     pub fn new(alloc: Global, values: Vec<Value<X>>) -> Result<Set<X>, AllocError>
         ensures classes { IfOk result (λ s. IsClassesOf (by_tree X.cmp) (members s) values.items) }
         ensures well_formed { IfOk result (λ s. IsTrue (list_all (well_formed X.cmp) values.items)
@@ -236,8 +236,9 @@ impl<X: Ord + Drop> Set<X> {
 
     /// The members by hash: given exactly where all of them are literals, and so of the empty set.
     ///
-    /// The hasher is std's default, `FoldHasher`, whose seed is fixed: sets made in the same way list
-    /// their literals in the same order, and whoever chooses the literals can make them collide.
+    /// The hasher is std's default, `FoldHasher`, whose seed is fixed: sets made in the same way
+    /// list their literals in the same order, and whoever chooses the literals can make them
+    /// collide.
     pub fn fast(&self) -> Option<&HashSet<Literal>>
         ensures given { IsTrue (set_well_formed X.cmp self.now)
             → is_some result ≡ list_all (λ v. is_lit_value (bare_value v)) (members self.now) }

@@ -148,7 +148,7 @@ enum Step<'a, X> {
     Into(Waiting<'a, X>, &'a Value<X>),
 }
 
-// Into a value of this kind at this place.
+// Enters a value of this kind at this place.
 fn enter_value<'a, X: ExtensionValue + Ord>(
     alloc: Global,
     kind: &'a ValueKind<X>,
@@ -177,7 +177,7 @@ fn enter_value<'a, X: ExtensionValue + Ord>(
     }
 }
 
-// Back to what waited for this expression.
+// Resumes what waited for this expression, which is put behind those that it has.
 fn resume_row<'a, X: ExtensionValue + Ord>(
     alloc: Global,
     row: Waiting<'a, X>,
@@ -205,7 +205,7 @@ fn resume_row<'a, X: ExtensionValue + Ord>(
     }
 }
 
-// Writes the members that are left, up to one that has values inside.
+// Writes the other members, up to one that has values inside.
 fn write_members<'a, X: ExtensionValue + Ord>(
     alloc: Global,
     row: SetRow<'a, X>,
@@ -232,7 +232,7 @@ fn write_members<'a, X: ExtensionValue + Ord>(
     Ok(Step::Made(at_place(set, Loc::clone_option(alloc, row.loc)?)))
 }
 
-// Writes the values that are left, up to one that has values inside.
+// Writes the other values, up to one that has values inside.
 fn write_pairs<'a, X: ExtensionValue + Ord>(
     alloc: Global,
     row: RecordRow<'a, X>,

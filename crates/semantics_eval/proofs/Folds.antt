@@ -81,7 +81,7 @@ module _ (P : BareExpr → Bool) where
       → list_all P (preorder a) ≡ true
   only e a h = (inside e (preorder a ∷ []) h).0
 
--- the positions of the trees of a row, and of the values of a record
+-- the positions of the members of a set, and of the values of a record
 abbrev rows : BareExprs → List (List BareExpr)
 rows = walk_all (λ e below. e ∷ forward below)
 

@@ -51,8 +51,8 @@ pub fn one_list<X: Ord>()
     ensures { IsOneList X.cmp }
 {}
 
-/// The list of the evaluator's set ascends strictly, and has the classes of the members' values, each
-/// as one of them.
+/// The list of the evaluator's set ascends strictly, and has the classes of the members' values,
+/// each as one of them.
 pub fn ascending_lists<X: Ord>()
     ensures { IsAscendingList X.cmp }
 {}

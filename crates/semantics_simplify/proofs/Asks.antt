@@ -18,7 +18,7 @@ use Rattle.semantics_eval.specs.Operators.{apply_one, apply_two}
 use Rattle.semantics_eval.specs.Rows.{set_outcome, record_outcome}
 use Rattle.semantics_eval.specs.Evaluator.{evaluator_ops}
 use Rattle.semantics_simplify.specs.Asks.{Ask, OfCall, passes, asks_only, is_bound_or}
-use Rattle.semantics_simplify.specs.Simplified.{Simplified, Known, Residual, tree_of, row_of, fields_of_parts, outcome_of, pair_outcomes, known_or, known_truth, calls_nothing, is_boolean}
+use Rattle.semantics_simplify.specs.Simplified.{Simplified, Known, Residual, tree_of, child_trees, child_fields, outcome_of, pair_outcomes, known_or, known_truth, calls_nothing, is_boolean}
 use Rattle.semantics_simplify.specs.Simplifier.{branch_or, and_or, or_or, simplifier_ops}
 use Rattle.semantics_simplify.proofs.Values.{EvaluatorLaws}
 use Rattle.semantics_simplify.proofs.Calls.{rows, calls_values, AllPass, together, behind, only, value_passes, IsAnswer}
@@ -26,7 +26,7 @@ use Rattle.semantics_simplify.proofs.Means.{Means}
 use Rattle.semantics_simplify.proofs.Sure.{Sure, sure_one, sure_then, sure_two, sure_three, sure_both}
 use Rattle.semantics_simplify.proofs.Sound.{sound}
 
--- a tree that is left asks only for what passes
+-- a residual asks only for what passes
 abbrev pub Passing : {X : Type 0} → (Ask → Bool) → Simplified X → Type 0
 Passing Q (Known t) = Unit {0}
 Passing Q (Residual e) = asks_only Q e ≡ true
@@ -93,12 +93,12 @@ module _ {X : Type 0} {R : X → X → Ordering} {E : X → X → Bool} (laws : 
       value_passes (passes Q) C (λ l. refl) (λ es. refl) (λ fs. refl) t (h.0.value t refl).0.plain
   tree_passes (Residual e) r h = h.1
 
-  -- the trees of a row, and of a record's values
-  abbrev RowPasses : List (Simplified X) → Result (List (Outcome X)) BareName → Type 0
-  RowPasses ps r = AllPass (passes Q) (rows (row_of C ps))
+  -- the trees of members or arguments, and of a record's values
+  abbrev ChildrenPass : List (Simplified X) → Result (List (Outcome X)) BareName → Type 0
+  ChildrenPass ps r = AllPass (passes Q) (rows (child_trees C ps))
 
   abbrev FieldsPass : List (Text × Simplified X) → Result (List (Text × Outcome X)) BareName → Type 0
-  FieldsPass ps r = AllPass (passes Q) (calls_values (fields_of_parts C ps))
+  FieldsPass ps r = AllPass (passes Q) (calls_values (child_fields C ps))
 
   -- a node over one tree, two, and three
   over : (e : BareExpr) → asks_only Q e ≡ true
@@ -122,7 +122,7 @@ module _ {X : Type 0} {R : X → X → Ordering} {E : X → X → Bool} (laws : 
       k.1 l.1
 
   -- P says of a tree what is needed where an unknown is made something
-  module _ (at_left : (n : Text) (t : Option BareType) → P (Unknown n t) ≡ true
+  module _ (at_unbound : (n : Text) (t : Option BareType) → P (Unknown n t) ≡ true
       → Sure Passes (g n t) (f n t)) where
     with_same : (e : BareExpr) → Sure Passes (made e) (ev e) → Sure Both (made e) (ev e)
     with_same e = sure_both Same Passes (made e) (ev e) (sound laws C f answers g at_unknown e)
@@ -146,7 +146,7 @@ module _ {X : Type 0} {R : X → X → Ordering} {E : X → X → Bool} (laws : 
       passed (Lit l) h = tt
       passed (Var v) h = h
       passed (Slot s) h = h
-      passed (Unknown n t) h = at_left n t (and_left (P (Unknown n t)) true h)
+      passed (Unknown n t) h = at_unbound n t (and_left (P (Unknown n t)) true h)
       passed (If a b c) h =
           let p = behind P (If a b c) (preorder a ∷ preorder b ∷ preorder c ∷ []) h in
           sure_three Both Passes ops.if_of (on_three if_outcome) of_if
@@ -178,10 +178,10 @@ module _ {X : Type 0} {R : X → X → Ordering} {E : X → X → Bool} (laws : 
           (made a) (made b) (ev a) (ev b)
           (with_same a (passed a p.0)) (with_same b (passed b p.1.0))
       passed (ExtensionFunctionApp n es) h =
-          sure_then RowPasses Passes (λ ps. Residual (ExtensionFunctionApp n (row_of C ps)))
+          sure_then ChildrenPass Passes (λ ps. Residual (ExtensionFunctionApp n (child_trees C ps)))
           (and_then (λ ms. Err n))
           (λ ps r k i. and_left (Q (OfCall n)) _ h i
-          && together (passes Q) (rows (row_of C ps)) k i)
+          && together (passes Q) (rows (child_trees C ps)) k i)
           (fold_all ops g es) (fold_all (evaluator_ops R E) f es)
           (all_passed es (behind P (ExtensionFunctionApp n es) (rows es) h))
       passed (GetAttr a k) h =
@@ -194,16 +194,16 @@ module _ {X : Type 0} {R : X → X → Ordering} {E : X → X → Bool} (laws : 
           one (λ q. ops.like_of q p) (strict (like_in p)) (λ e. Like e p) (λ q. refl) over
           a (passed a (only P (Like a p) a h))
       passed (Set es) h =
-          sure_one RowPasses Passes ops.set_of (on_one (set_outcome R))
-          (λ ps r k. passing_or Q (Set (row_of C ps)) (set_outcome R (map outcome_of ps))
-          (together (passes Q) (rows (row_of C ps)) k))
+          sure_one ChildrenPass Passes ops.set_of (on_one (set_outcome R))
+          (λ ps r k. passing_or Q (Set (child_trees C ps)) (set_outcome R (map outcome_of ps))
+          (together (passes Q) (rows (child_trees C ps)) k))
           (fold_all ops g es) (fold_all (evaluator_ops R E) f es)
           (all_passed es (behind P (Set es) (rows es) h))
       passed (Record fs) h =
           sure_one FieldsPass Passes ops.record_of (on_one record_outcome)
-          (λ ps r k. passing_or Q (Record (fields_of_parts C ps))
+          (λ ps r k. passing_or Q (Record (child_fields C ps))
           (record_outcome (pair_outcomes ps))
-          (together (passes Q) (calls_values (fields_of_parts C ps)) k))
+          (together (passes Q) (calls_values (child_fields C ps)) k))
           (fold_fields ops g fs) (fold_fields (evaluator_ops R E) f fs)
           (fields_passed fs (behind P (Record fs) (calls_values fs) h))
       passed (Is a n) h =
@@ -211,10 +211,10 @@ module _ {X : Type 0} {R : X → X → Ordering} {E : X → X → Bool} (laws : 
           a (passed a (only P (Is a n) a h))
 
       all_passed : (es : BareExprs) → AllPass P (rows es)
-          → Sure RowPasses (fold_all ops g es) (fold_all (evaluator_ops R E) f es)
+          → Sure ChildrenPass (fold_all ops g es) (fold_all (evaluator_ops R E) f es)
       all_passed no_trees h = tt
       all_passed (tree e es) h =
-          sure_two Both RowPasses RowPasses (λ p ps. p ∷ ps) (on_two (λ m ms. m ∷ ms))
+          sure_two Both ChildrenPass ChildrenPass (λ p ps. p ∷ ps) (on_two (λ m ms. m ∷ ms))
           (λ p ps r s k l. (tree_passes p r k, l))
           (made e) (fold_all ops g es) (ev e) (fold_all (evaluator_ops R E) f es)
           (with_same e (passed e h.0)) (all_passed es h.1)

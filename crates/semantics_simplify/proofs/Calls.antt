@@ -17,7 +17,7 @@ use Rattle.semantics_eval.specs.Outcomes.{Outcome}
 use Rattle.semantics_eval.specs.Evaluator.{evaluator_ops}
 use Rattle.semantics_simplify.specs.Asks.{passes, is_no_call, holds_no_call}
 
--- the positions of the trees of a row, and of the values of a record
+-- the positions of the members of a set, and of the values of a record
 abbrev pub rows : BareExprs → List (List BareExpr)
 rows = walk_all (λ e below. e ∷ forward below)
 

@@ -22,7 +22,7 @@ use Rattle.semantics_eval.specs.Rows.{all_values, all_pairs, set_value, set_outc
 use Rattle.semantics_eval.specs.Evaluator.{evaluator_ops}
 use Rattle.semantics_eval.specs.Laws.{is_closed_node}
 use Rattle.semantics_simplify.specs.Asks.{passes, is_bound_or, is_no_call}
-use Rattle.semantics_simplify.specs.Simplified.{Simplified, Known, Residual, tree_of, row_of, fields_of_parts, outcome_of, pair_outcomes, known_or, known_truth, calls_nothing, is_boolean}
+use Rattle.semantics_simplify.specs.Simplified.{Simplified, Known, Residual, tree_of, child_trees, child_fields, outcome_of, pair_outcomes, known_or, known_truth, calls_nothing, is_boolean}
 use Rattle.semantics_simplify.specs.Simplifier.{branch_or, and_or, or_or, simplifier_ops}
 use Rattle.semantics_simplify.proofs.Values.{EvaluatorLaws}
 use Rattle.semantics_simplify.proofs.Calls.{rows, calls_values, AllPass, behind, only, weaker, IsAnswer}
@@ -92,7 +92,7 @@ module _ {X : Type 0} {R : X → X → Ordering} {E : X → X → Bool} (laws : 
   abbrev pub Decides : Simplified X → Result (Outcome X) BareName → Type 0
   Decides p r = (t : BareValue X) → r ≡ Ok (Ok t) → p ≡ Known t
 
-  -- and the part calls nothing
+  -- and it calls nothing
   abbrev Both : Simplified X → Result (Outcome X) BareName → Type 0
   Both p r = Same p r × Decides p r × (calls_nothing p ≡ true)
 
@@ -249,7 +249,7 @@ module _ {X : Type 0} {R : X → X → Ordering} {E : X → X → Bool} (laws : 
           (λ b. by false is ∙ or_false y (boolean_answer laws C f q y k.0 b))
           (λ t has. or_right_is y t (sym (by false is) ∙ has))
 
-  -- the same of a row, and of a record's values
+  -- the same of members or arguments, and of a record's values
   abbrev AllDecide : List (Simplified X) → Result (List (Outcome X)) BareName → Type 0
   AllDecide ps r =
       (ms : List (Outcome X)) (ts : List (BareValue X)) → r ≡ Ok ms → all_values ms ≡ Ok ts
@@ -260,8 +260,8 @@ module _ {X : Type 0} {R : X → X → Ordering} {E : X → X → Bool} (laws : 
       (ms : List (Text × Outcome X)) (ts : List (Text × BareValue X)) → r ≡ Ok ms
       → all_pairs ms ≡ Ok ts → all_pairs (pair_outcomes ps) ≡ Ok ts
 
-  no_parts : AllDecide [] (Ok [])
-  no_parts ms ts is v = let e : ms ≡ [] = cc in ap all_values (sym e) ∙ v
+  no_children : AllDecide [] (Ok [])
+  no_children ms ts is v = let e : ms ≡ [] = cc in ap all_values (sym e) ∙ v
 
   no_pair : PairsDecide [] (Ok [])
   no_pair ms ts is v = let e : ms ≡ [] = cc in ap all_pairs (sym e) ∙ v
@@ -406,12 +406,12 @@ module _ {X : Type 0} {R : X → X → Ordering} {E : X → X → Bool} (laws : 
           (λ q. refl) a (decided a (only P (Like a p) a h))
       decided (Set es) h =
           sure_one AllDecide Decides ops.set_of (on_one (set_outcome R))
-          (λ ps. of_set (Set (row_of C ps)) ps)
+          (λ ps. of_set (Set (child_trees C ps)) ps)
           (fold_all ops g es) (fold_all (evaluator_ops R E) f es)
           (all_decided es (behind P (Set es) (rows es) h))
       decided (Record fs) h =
           sure_one PairsDecide Decides ops.record_of (on_one record_outcome)
-          (λ ps. of_record (Record (fields_of_parts C ps)) ps)
+          (λ ps. of_record (Record (child_fields C ps)) ps)
           (fold_fields ops g fs) (fold_fields (evaluator_ops R E) f fs)
           (fields_decided fs (behind P (Record fs) (calls_values fs) h))
       decided (Is a n) h =
@@ -420,7 +420,7 @@ module _ {X : Type 0} {R : X → X → Ordering} {E : X → X → Bool} (laws : 
 
       all_decided : (es : BareExprs) → AllPass P (rows es)
           → Sure AllDecide (fold_all ops g es) (fold_all (evaluator_ops R E) f es)
-      all_decided no_trees h = no_parts
+      all_decided no_trees h = no_children
       all_decided (tree e es) h =
           sure_two Decides AllDecide AllDecide (λ p ps. p ∷ ps) (on_two (λ m ms. m ∷ ms)) further
           (make e) (fold_all ops g es) (ev e) (fold_all (evaluator_ops R E) f es)

@@ -24,7 +24,7 @@ use Rattle.semantics_simplify.specs.Laws.{ClosedIsKnown, AsksNoMore}
 use Rattle.semantics_simplify.proofs.Plain.{IsPlain}
 use Rattle.semantics_simplify.proofs.Values.{IsPlainTree, EvaluatorLaws, bound_value, evaluates}
 use Rattle.semantics_simplify.proofs.Calls.{value_passes, IsAnswer}
-use Rattle.semantics_simplify.proofs.Means.{Means, left, known}
+use Rattle.semantics_simplify.proofs.Means.{Means, residual, known}
 use Rattle.semantics_simplify.proofs.Asks.{Passing, tree_passes, passed}
 use Rattle.semantics_simplify.proofs.Sure.{Sure, sure_is, sure_answer}
 use Rattle.semantics_simplify.proofs.Sound.{sound, bound_answers}
@@ -50,7 +50,7 @@ module _ {X : Type 0} {R : X → X → Ordering} {E : X → X → Bool} (laws : 
   ev = fold_with (evaluator_ops R E) f
 
   own_same : (n : Text) (t : Option BareType) → Sure (Means laws C f) (g n t) (f n t)
-  own_same n t = left laws C f (Unknown n t) (f n t) refl
+  own_same n t = residual laws C f (Unknown n t) (f n t) refl
 
   value_decided : (t : BareValue X) → has_extension t ≡ false
       → Decides laws C f (λ n s. tt) (sure (make (value_expr C t))) (ev (value_expr C t))
@@ -92,7 +92,7 @@ module _ {X : Type 0} {R : X → X → Ordering} {E : X → X → Bool} (laws : 
         → (n : Text) (t : Option BareType) → f_in n t ≡ bound (evaluator_ops R E) x n t
         → Sure (Means laws C f_in) (bound (simplifier_ops R E C) x n t)
         (bound (evaluator_ops R E) x n t)
-    same_in None h n t is = left laws C f_in (Unknown n t) (f n t) is
+    same_in None h n t is = residual laws C f_in (Unknown n t) (f n t) is
     same_in (Some r) h n t is =
         let k = bound_known r (h r refl) n t in
         subst (λ x. Sure (Means laws C f_in) x (bound (evaluator_ops R E) (Some r) n t)) (sym k.2)

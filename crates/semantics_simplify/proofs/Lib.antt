@@ -9,5 +9,5 @@ pub mod Sound
 pub mod Asks
 pub mod Decides
 pub mod Known
-pub mod BooleanParts
+pub mod BooleanKinds
 pub mod Stages

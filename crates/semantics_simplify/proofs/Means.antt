@@ -1,4 +1,4 @@
--- A part that means what the evaluator makes of a tree, and what keeps it: one lemma a kind.
+-- What is simplified means what the evaluator makes of a tree: one lemma a kind of node.
 use Rattle.std.proofs.Common.{◌≡◌, refl, sym, ◌∙◌, ap, subst, Bool, true, false, List, [], ◌∷◌, map, Option, Some, None, Result, Ok, Err}
 use Rattle.std.specs.List.{AllByRecursion}
 use Rattle.std.specs.Prelude.{is_some, if◌then◌else◌}
@@ -15,7 +15,7 @@ use Rattle.semantics_eval.specs.Outcomes.{Mistake, Open, Outcome, truth, truth_o
 use Rattle.semantics_eval.specs.Attributes.{has_path}
 use Rattle.semantics_eval.specs.Rows.{all_values, all_pairs, set_value, set_outcome, record_outcome}
 use Rattle.semantics_eval.specs.Evaluator.{evaluator_ops}
-use Rattle.semantics_simplify.specs.Simplified.{Simplified, Known, Residual, tree_of, row_of, fields_of_parts, outcome_of, pair_outcomes, known_or, known_truth, calls_nothing, is_boolean}
+use Rattle.semantics_simplify.specs.Simplified.{Simplified, Known, Residual, tree_of, child_trees, child_fields, outcome_of, pair_outcomes, known_or, known_truth, calls_nothing, is_boolean}
 use Rattle.semantics_simplify.specs.Simplifier.{branch_or, and_or, or_or}
 use Rattle.semantics_simplify.proofs.Plain.{IsPlain, literal, IfPlain, of_settled, plain_set, plain_record}
 use Rattle.semantics_simplify.proofs.Values.{values_ok, pairs_ok, EvaluatorLaws, evaluates}
@@ -109,7 +109,7 @@ module _ {X : Type 0} {R : X → X → Ordering} {E : X → X → Bool} (laws : 
   abbrev pub ev : BareExpr → Result (Outcome X) BareName
   ev = fold_with (evaluator_ops R E) f
 
-  -- the part's tree gives the answer, and a value that is known is that of the answer
+  -- its tree gives the answer, and a known value is that of the answer
   pub record Means (p : Simplified X) (r : Result (Outcome X) BareName) : Type 0 where
     pub same : ev (tree_of C p) ≡ r
     pub value : (t : BareValue X) → outcome_of p ≡ Ok t → IsPlain R t × (r ≡ Ok (Ok t))
@@ -126,9 +126,9 @@ module _ {X : Type 0} {R : X → X → Ordering} {E : X → X → Bool} (laws : 
     value = λ t is. absurd (no_value Open t is);
   }
 
-  -- a tree that is left
-  pub left : (e : BareExpr) (r : Result (Outcome X) BareName) → ev e ≡ r → Means (Residual e) r
-  left e r h = means e (Err Open) r h (λ t is. absurd (no_value Open t is))
+  -- a tree that is residual
+  pub residual : (e : BareExpr) (r : Result (Outcome X) BareName) → ev e ≡ r → Means (Residual e) r
+  residual e r h = means e (Err Open) r h (λ t is. absurd (no_value Open t is))
 
   -- a value that is known
   pub known : (t : BareValue X) → IsPlain R t → Means (Known t) (Ok (Ok t))
@@ -174,11 +174,11 @@ module _ {X : Type 0} {R : X → X → Ordering} {E : X → X → Bool} (laws : 
         (λ i. on_two (strict_two g) (v.1 i) (w.1 i)) ∙ ap Ok here,
       ))
 
-  -- a part that is taken on a condition, else the node
+  -- what is taken on a condition, else the node
   choose : (b : Bool) (p : Simplified X) (e : BareExpr) (r : Result (Outcome X) BareName) → ev e ≡ r
       → (b ≡ true → Means p r) → Means (if b then p else Residual e) r
   choose true p e r h k = k refl
-  choose false p e r h k = left e r h
+  choose false p e r h k = residual e r h
 
   pub test_is : (p : Simplified X) (r : Result (Outcome X) BareName) (b : Bool) → Means p r
       → known_truth p ≡ Some b → r ≡ Ok (Ok (truth b))
@@ -214,7 +214,7 @@ module _ {X : Type 0} {R : X → X → Ordering} {E : X → X → Bool} (laws : 
         go : (b : Option Bool) → known_truth p ≡ b
             → Means (branch_or (If (tree_of C p) (tree_of C q) (tree_of C s)) b q s)
             (on_three if_outcome x y z)
-        go None is = left _ _ as_node
+        go None is = residual _ _ as_node
         go (Some true) is =
             choose (calls_nothing s) q _ _ as_node
             (λ c. subst (Means q)
@@ -238,7 +238,7 @@ module _ {X : Type 0} {R : X → X → Ordering} {E : X → X → Bool} (laws : 
 
         go : (b : Option Bool) → known_truth p ≡ b
             → Means (and_or (And (tree_of C p) (tree_of C q)) b q) (on_two and_outcome x y)
-        go None is = left _ _ as_node
+        go None is = residual _ _ as_node
         go (Some true) is =
             choose (is_boolean q) q _ _ as_node
             (λ c. subst (Means q) (sym (tested true is ∙ and_true y (boolean_answer q y k c))) k)
@@ -262,7 +262,7 @@ module _ {X : Type 0} {R : X → X → Ordering} {E : X → X → Bool} (laws : 
 
         go : (b : Option Bool) → known_truth p ≡ b
             → Means (or_or (Or (tree_of C p) (tree_of C q)) b q) (on_two or_outcome x y)
-        go None is = left _ _ as_node
+        go None is = residual _ _ as_node
         go (Some true) is =
             choose (calls_nothing q) (Known (truth true)) _ _ as_node
             (λ c. subst (Means (Known (truth true)))
@@ -279,13 +279,13 @@ module _ {X : Type 0} {R : X → X → Ordering} {E : X → X → Bool} (laws : 
   abbrev ArePairs : List (Text × BareValue X) → Result (List (Text × Outcome X)) BareName → Type 0
   ArePairs ts r = AllByRecursion (λ q. IsPlain R q.1) ts × (r ≡ Ok (map (λ q. (q.0, Ok q.1)) ts))
 
-  -- the same of a row
+  -- the same of members or arguments
   pub record AllMean (ps : List (Simplified X)) (r : Result (List (Outcome X)) BareName) : Type 0 where
-    pub same : fold_all (evaluator_ops R E) f (row_of C ps) ≡ r
+    pub same : fold_all (evaluator_ops R E) f (child_trees C ps) ≡ r
     pub values : (ts : List (BareValue X)) → all_values (map outcome_of ps) ≡ Ok ts → AreValues ts r
 
-  pub no_parts : AllMean [] (Ok [])
-  no_parts = record {
+  pub no_children : AllMean [] (Ok [])
+  no_children = record {
     same = refl;
     values = λ ts is. let e : [] ≡ ts = cc in subst (λ us. AreValues us (Ok [])) e (tt, refl);
   }
@@ -305,14 +305,14 @@ module _ {X : Type 0} {R : X → X → Ordering} {E : X → X → Bool} (laws : 
 
   pub of_call : (n : BareName) (ps : List (Simplified X)) (r : Result (List (Outcome X)) BareName)
       → AllMean ps r
-      → Means (Residual (ExtensionFunctionApp n (row_of C ps))) (and_then (λ ms. Err n) r)
-  of_call n ps r h = left _ _ (ap (and_then (λ ms. Err n)) h.same)
+      → Means (Residual (ExtensionFunctionApp n (child_trees C ps))) (and_then (λ ms. Err n) r)
+  of_call n ps r h = residual _ _ (ap (and_then (λ ms. Err n)) h.same)
 
   pub of_set : (ps : List (Simplified X)) (r : Result (List (Outcome X)) BareName) → AllMean ps r
-      → Means (known_or (Set (row_of C ps)) (set_outcome R (map outcome_of ps)))
+      → Means (known_or (Set (child_trees C ps)) (set_outcome R (map outcome_of ps)))
       (on_one (set_outcome R) r)
   of_set ps r h =
-      means (Set (row_of C ps)) (set_outcome R (map outcome_of ps)) (on_one (set_outcome R) r)
+      means (Set (child_trees C ps)) (set_outcome R (map outcome_of ps)) (on_one (set_outcome R) r)
       (ap (on_one (set_outcome R)) h.same)
       (λ t is.
       let u = one_given (set_value R) (all_values (map outcome_of ps)) t is in
@@ -326,7 +326,7 @@ module _ {X : Type 0} {R : X → X → Ordering} {E : X → X → Bool} (laws : 
   -- the same of a record's values, with the keys
   pub record PairsMean (ps : List (Text × Simplified X))
       (r : Result (List (Text × Outcome X)) BareName) : Type 0 where
-    pub same : fold_fields (evaluator_ops R E) f (fields_of_parts C ps) ≡ r
+    pub same : fold_fields (evaluator_ops R E) f (child_fields C ps) ≡ r
     pub values :
         (ts : List (Text × BareValue X)) → all_pairs (pair_outcomes ps) ≡ Ok ts
         → ArePairs ts r
@@ -354,11 +354,11 @@ module _ {X : Type 0} {R : X → X → Ordering} {E : X → X → Bool} (laws : 
 
   pub of_record : (ps : List (Text × Simplified X)) (r : Result (List (Text × Outcome X)) BareName)
       → PairsMean ps r
-      → Means (known_or (Record (fields_of_parts C ps))
+      → Means (known_or (Record (child_fields C ps))
       (record_outcome (pair_outcomes ps)))
       (on_one record_outcome r)
   of_record ps r h =
-      means (Record (fields_of_parts C ps)) (record_outcome (pair_outcomes ps))
+      means (Record (child_fields C ps)) (record_outcome (pair_outcomes ps))
       (on_one record_outcome r) (ap (on_one record_outcome) h.same)
       (λ t is.
       let u = one_given (λ qs. RecordValue (pairs_of qs))

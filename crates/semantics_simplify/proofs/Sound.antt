@@ -17,16 +17,16 @@ use Rattle.semantics_eval.specs.Attributes.{get_in, has_path, like_in, is_in}
 use Rattle.semantics_eval.specs.Operators.{apply_one, apply_two}
 use Rattle.semantics_eval.specs.Rows.{set_outcome, record_outcome}
 use Rattle.semantics_eval.specs.Evaluator.{evaluator_ops, evaluator_lawful}
-use Rattle.semantics_simplify.specs.Simplified.{Simplified, Residual, row_of, outcome_of}
+use Rattle.semantics_simplify.specs.Simplified.{Simplified, Residual, child_trees, outcome_of}
 use Rattle.semantics_simplify.specs.Simplifier.{simplifier_ops, simplified, simplifier_lawful}
 use Rattle.semantics_simplify.specs.Laws.{MeansTheSame, PartialIsSound, IsOnePass, KnownStays}
 use Rattle.semantics_simplify.proofs.Plain.{IsPlain, literal, IfPlain, of_settled, of_path}
 use Rattle.semantics_simplify.proofs.Plain as plain
 use Rattle.semantics_simplify.proofs.Values.{IsPlainTree, EvaluatorLaws, bound_value}
-use Rattle.semantics_simplify.proofs.Substituted.{bound_or_left, built_with, built_after}
+use Rattle.semantics_simplify.proofs.Substituted.{bound_or_unknown, built_with, built_after}
 use Rattle.semantics_simplify.proofs.Sure.{Sure, sure_is, sure_one, sure_then, sure_two, sure_three}
 use Rattle.semantics_simplify.proofs.Calls.{IsAnswer}
-use Rattle.semantics_simplify.proofs.Means.{strict_is, path_is, Means, AllMean, PairsMean, no_parts, further, no_pair, further_pair}
+use Rattle.semantics_simplify.proofs.Means.{strict_is, path_is, Means, AllMean, PairsMean, no_children, further, no_pair, further_pair}
 use Rattle.semantics_simplify.proofs.Means as kind
 
 -- `f` says what an unknown means, and `g` what it is made
@@ -62,8 +62,8 @@ module _ {X : Type 0} {R : X → X → Ordering} {E : X → X → Bool} (laws : 
   mutual
     pub sound : (e : BareExpr) → Sure Same (made e) (ev e)
     sound (Lit l) = kind.known laws C f (LitValue l) (literal R l)
-    sound (Var v) = kind.left laws C f (Var v) _ refl
-    sound (Slot s) = kind.left laws C f (Slot s) _ refl
+    sound (Var v) = kind.residual laws C f (Var v) _ refl
+    sound (Slot s) = kind.residual laws C f (Slot s) _ refl
     sound (Unknown n t) = at_unknown n t
     sound (If a b c) =
         sure_three Same Same ops.if_of (on_three if_outcome) (kind.of_if laws C f answers)
@@ -84,7 +84,7 @@ module _ {X : Type 0} {R : X → X → Ordering} {E : X → X → Bool} (laws : 
         (kind.of_two laws C f (BinaryApp u) (apply_two R E u) (plain.of_two R E u) (λ d e. refl))
         (made a) (made b) (ev a) (ev b) (sound a) (sound b)
     sound (ExtensionFunctionApp n es) =
-        sure_then AllSame Same (λ ps. Residual (ExtensionFunctionApp n (row_of C ps)))
+        sure_then AllSame Same (λ ps. Residual (ExtensionFunctionApp n (child_trees C ps)))
         (and_then (λ ms. Err n)) (kind.of_call laws C f n)
         (fold_all ops g es) (fold_all (evaluator_ops R E) f es) (all_sound es)
     sound (GetAttr a k) =
@@ -116,7 +116,7 @@ module _ {X : Type 0} {R : X → X → Ordering} {E : X → X → Bool} (laws : 
 
     pub all_sound : (es : BareExprs)
         → Sure AllSame (fold_all ops g es) (fold_all (evaluator_ops R E) f es)
-    all_sound no_trees = no_parts laws C f
+    all_sound no_trees = no_children laws C f
     all_sound (tree e es) =
         sure_two Same AllSame AllSame (λ p ps. p ∷ ps) (on_two (λ m ms. m ∷ ms))
         (λ p ps r s h k. further laws C f p r ps s h k)
@@ -147,7 +147,7 @@ module _ {X : Type 0} {R : X → X → Ordering} {E : X → X → Bool} (laws : 
       let ops = evaluator_ops R E in
       subst IsAnswer (sym ((bound_value R E C r.1 (plain r refl)).1 (own ops))) tt
 
-  -- the part of a tree with unknowns left, and what it means where values are bound
+  -- a tree simplified with some unknowns unbound, and what it means where values are bound
   bound_sound : (C : X → BareCall) (env : Env) → BindsPlainValues C env → (e : BareExpr)
       → Means laws C (λ n s. bound (evaluator_ops R E) (env n) n s) (simplified R E C e)
       (fold (evaluator_ops R E) env e)
@@ -156,7 +156,7 @@ module _ {X : Type 0} {R : X → X → Ordering} {E : X → X → Bool} (laws : 
       λ n s. bound (evaluator_ops R E) (env n) n s in
       sure_is (Means laws C f) (fold (simplifier_ops R E C) empty e) (fold (evaluator_ops R E) env e)
       (sound laws C f (λ n s. bound_answers C (env n) (plain n) n s)
-      (own (simplifier_ops R E C)) (λ n s. kind.left laws C f (Unknown n s) (f n s) refl) e)
+      (own (simplifier_ops R E C)) (λ n s. kind.residual laws C f (Unknown n s) (f n s) refl) e)
 
   pub means_the_same : MeansTheSame R E
   means_the_same C env plain e = (bound_sound C env plain e).same
@@ -165,7 +165,7 @@ module _ {X : Type 0} {R : X → X → Ordering} {E : X → X → Bool} (laws : 
   first_bound : (C : X → BareCall) (env2 : Env) (x : Option (BareType × BareExpr))
       → ((r : BareType × BareExpr) → x ≡ Some r → IsPlainTree C r.1)
       → (n : Text) (s : Option BareType)
-      → bound_or_left (evaluator_ops R E) (evaluator_lawful R E)
+      → bound_or_unknown (evaluator_ops R E) (evaluator_lawful R E)
       (λ m t. bound (evaluator_ops R E) (env2 m) m t) x n s
       ≡ bound (evaluator_ops R E) (option_or x (env2 n)) n s
   first_bound C env2 None plain n s = refl

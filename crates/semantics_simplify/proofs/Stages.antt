@@ -22,7 +22,7 @@ use Rattle.semantics_eval.specs.Attributes.{get_in, has_path, like_in, is_in}
 use Rattle.semantics_eval.specs.Operators.{apply_one, apply_two}
 use Rattle.semantics_eval.specs.Rows.{all_values, all_pairs, set_value, set_outcome, record_outcome}
 use Rattle.semantics_simplify.specs.Asks.{passes, is_bound_or, is_no_call}
-use Rattle.semantics_simplify.specs.Simplified.{Simplified, Known, Residual, tree_of, row_of, fields_of_parts, outcome_of, pair_outcomes, known_or, known_truth, calls_nothing, is_boolean}
+use Rattle.semantics_simplify.specs.Simplified.{Simplified, Known, Residual, tree_of, child_trees, child_fields, outcome_of, pair_outcomes, known_or, known_truth, calls_nothing, is_boolean}
 use Rattle.semantics_simplify.specs.Simplifier.{branch_or, and_or, or_or, simplifier_ops}
 use Rattle.semantics_simplify.specs.Laws.{StagesAreOne, SimplifiedTwice}
 use Rattle.semantics_simplify.proofs.Plain.{IsPlain}
@@ -32,7 +32,7 @@ use Rattle.semantics_simplify.proofs.Means.{no_value, IsStrict, strict_is, path_
 use Rattle.semantics_simplify.proofs.Asks.{Passing}
 use Rattle.semantics_simplify.proofs.Sure.{Sure, sure_other, sure_is, sure_one, sure_then, sure_two, sure_three, sure_both, sure_weaker}
 use Rattle.semantics_simplify.proofs.Known.{or_with_true, bound_known, f_in, value_made, sound_in, passed_in}
-use Rattle.semantics_simplify.proofs.BooleanParts.{IfBoolean, boolean_made}
+use Rattle.semantics_simplify.proofs.BooleanKinds.{IfBoolean, boolean_made}
 
 -- what is no call is none where unknowns are bound
 still_no_call : (env : Env) (e : BareExpr) → passes is_no_call e ≡ true
@@ -68,32 +68,32 @@ module _ {X : Type 0} {R : X → X → Ordering} {E : X → X → Bool} (laws : 
   g12 n t = bound ops (both env1 env2 n) n t
 
   -- a value that is known is plain
-  abbrev PlainPart : Simplified X → Type 0
-  PlainPart (Known t) = IsPlain R t
-  PlainPart (Residual e) = Unit {0}
+  abbrev IsPlainSimplified : Simplified X → Type 0
+  IsPlainSimplified (Known t) = IsPlain R t
+  IsPlainSimplified (Residual e) = Unit {0}
 
-  -- the part's tree is made the other answer then
+  -- its tree is then simplified to the other answer
   abbrev Later : Simplified X → Result (Simplified X) ⊥ → Type 0
-  Later p y = PlainPart p → second (tree_of C p) ≡ y
+  Later p y = IsPlainSimplified p → second (tree_of C p) ≡ y
 
   abbrev Both : Simplified X → Result (Simplified X) ⊥ → Type 0
-  Both p y = PlainPart p × (second (tree_of C p) ≡ y)
+  Both p y = IsPlainSimplified p × (second (tree_of C p) ≡ y)
 
   means_plain : (p : Simplified X) (r : Result (Outcome X) BareName)
-      → Means laws C (f_in laws C env1 plain1) p r → PlainPart p
+      → Means laws C (f_in laws C env1 plain1) p r → IsPlainSimplified p
   means_plain (Known t) r h = (h.value t refl).0
   means_plain (Residual e) r h = tt
 
   with_plain : (e : BareExpr) → Sure Later (first e) (once e) → Sure Both (first e) (once e)
   with_plain e h =
       let x = first e in
-      let m = sure_weaker (Means laws C (f_in laws C env1 plain1)) (λ p r. PlainPart p) means_plain
+      let m = sure_weaker (Means laws C (f_in laws C env1 plain1)) (λ p r. IsPlainSimplified p) means_plain
       x _ (sound_in laws C env1 plain1 e) in
-      sure_weaker (λ p y. PlainPart p × Later p y) Both (λ p y k. (k.0, k.1 k.0)) x (once e)
-      (sure_both (λ p y. PlainPart p) Later x (once e) (sure_other PlainPart x _ (once e) m) h)
+      sure_weaker (λ p y. IsPlainSimplified p × Later p y) Both (λ p y k. (k.0, k.1 k.0)) x (once e)
+      (sure_both (λ p y. IsPlainSimplified p) Later x (once e) (sure_other IsPlainSimplified x _ (once e) m) h)
 
-  -- a known part is made itself
-  again : (p : Simplified X) (t : BareValue X) → outcome_of p ≡ Ok t → PlainPart p
+  -- a known value is simplified to itself
+  again : (p : Simplified X) (t : BareValue X) → outcome_of p ≡ Ok t → IsPlainSimplified p
       → second (tree_of C p) ≡ Ok p
   again (Known u) t is h = value_made laws C env2 plain2 u h
   again (Residual e) t is h = absurd (no_value _ t is)
@@ -139,7 +139,7 @@ module _ {X : Type 0} {R : X → X → Ordering} {E : X → X → Bool} (laws : 
       (λ i. on_two (ops.binary_of u) (a i) (b i))
       ∙ ap (λ m. Ok (known_or (BinaryApp u (tree_of C p) (tree_of C q)) m)) v)
 
-  -- the part calls nothing, or can only be a Boolean, if there is one
+  -- it calls nothing, or can only be a Boolean, if there is one
   abbrev Quiet : Result (Simplified X) ⊥ → Type 0
   Quiet (Ok p) = calls_nothing p ≡ true
   Quiet (Err e) = ⊥
@@ -276,16 +276,16 @@ module _ {X : Type 0} {R : X → X → Ordering} {E : X → X → Bool} (laws : 
           (ap (λ w. on_two ops.or_of w y) (test_made p x false h is)
           ∙ or_right_made p y is (boolean q y k c)))
 
-  -- the same of a row, and of a record's values
+  -- the same of members or arguments, and of a record's values
   abbrev AllLater : List (Simplified X) → Result (List (Simplified X)) ⊥ → Type 0
-  AllLater ps ys = AllByRecursion PlainPart ps × (fold_all ops g2 (row_of C ps) ≡ ys)
+  AllLater ps ys = AllByRecursion IsPlainSimplified ps × (fold_all ops g2 (child_trees C ps) ≡ ys)
 
   abbrev PairsLater : List (Text × Simplified X) → Result (List (Text × Simplified X)) ⊥ → Type 0
   PairsLater ps ys =
-      AllByRecursion (λ p. PlainPart p.1) ps × (fold_fields ops g2 (fields_of_parts C ps) ≡ ys)
+      AllByRecursion (λ p. IsPlainSimplified p.1) ps × (fold_fields ops g2 (child_fields C ps) ≡ ys)
 
-  all_again : (ps : List (Simplified X)) (ts : List (BareValue X)) → AllByRecursion PlainPart ps
-      → all_values (map outcome_of ps) ≡ Ok ts → fold_all ops g2 (row_of C ps) ≡ Ok ps
+  all_again : (ps : List (Simplified X)) (ts : List (BareValue X)) → AllByRecursion IsPlainSimplified ps
+      → all_values (map outcome_of ps) ≡ Ok ts → fold_all ops g2 (child_trees C ps) ≡ Ok ps
   all_again [] ts h is = refl
   all_again (p ∷ ps) ts h is =
       let u = both_given (λ t us. t ∷ us) (outcome_of p) (all_values (map outcome_of ps)) ts is in
@@ -294,8 +294,8 @@ module _ {X : Type 0} {R : X → X → Ordering} {E : X → X → Bool} (laws : 
       λ i. on_two (λ q qs. q ∷ qs) (here i) (rest i)
 
   pairs_again : (ps : List (Text × Simplified X)) (ts : List (Text × BareValue X))
-      → AllByRecursion (λ p. PlainPart p.1) ps → all_pairs (pair_outcomes ps) ≡ Ok ts
-      → fold_fields ops g2 (fields_of_parts C ps) ≡ Ok ps
+      → AllByRecursion (λ p. IsPlainSimplified p.1) ps → all_pairs (pair_outcomes ps) ≡ Ok ts
+      → fold_fields ops g2 (child_fields C ps) ≡ Ok ps
   pairs_again [] ts h is = refl
   pairs_again (p ∷ ps) ts h is =
       let u = both_given (λ t us. (p.0, t) ∷ us) (outcome_of p.1) (all_pairs (pair_outcomes ps))
@@ -307,22 +307,22 @@ module _ {X : Type 0} {R : X → X → Ordering} {E : X → X → Bool} (laws : 
   of_set : (ps : List (Simplified X)) (ys : Result (List (Simplified X)) ⊥) → AllLater ps ys
       → Later (ops.set_of ps) (on_one ops.set_of ys)
   of_set ps ys h =
-      later_or (Set (row_of C ps)) (set_outcome R (map outcome_of ps)) (on_one ops.set_of ys)
+      later_or (Set (child_trees C ps)) (set_outcome R (map outcome_of ps)) (on_one ops.set_of ys)
       (ap (on_one ops.set_of) h.1)
       (λ t v.
       let u = one_given (set_value R) (all_values (map outcome_of ps)) t v in
       ap (on_one ops.set_of) (sym h.1 ∙ all_again ps u.0 h.0 u.1)
-      ∙ ap (λ m. Ok (known_or (Set (row_of C ps)) m)) v)
+      ∙ ap (λ m. Ok (known_or (Set (child_trees C ps)) m)) v)
 
   of_record : (ps : List (Text × Simplified X)) (ys : Result (List (Text × Simplified X)) ⊥) → PairsLater ps ys
       → Later (ops.record_of ps) (on_one ops.record_of ys)
   of_record ps ys h =
-      later_or (Record (fields_of_parts C ps)) (record_outcome (pair_outcomes ps))
+      later_or (Record (child_fields C ps)) (record_outcome (pair_outcomes ps))
       (on_one ops.record_of ys) (ap (on_one ops.record_of) h.1)
       (λ t v.
       let u = one_given (λ qs. RecordValue (pairs_of qs)) (all_pairs (pair_outcomes ps)) t v in
       ap (on_one ops.record_of) (sym h.1 ∙ pairs_again ps u.0 h.0 u.1)
-      ∙ ap (λ m. Ok (known_or (Record (fields_of_parts C ps)) m)) v)
+      ∙ ap (λ m. Ok (known_or (Record (child_fields C ps)) m)) v)
 
   at_unknown : (x : Option (BareType × BareExpr))
       → ((r : BareType × BareExpr) → x ≡ Some r → IsPlainTree C r.1)
@@ -357,7 +357,7 @@ module _ {X : Type 0} {R : X → X → Ordering} {E : X → X → Bool} (laws : 
         sure_two Both Both Later (ops.binary_of u) (on_two (ops.binary_of u)) (of_two u)
         (first a) (first b) (once a) (once b) (with_plain a (later a)) (with_plain b (later b))
     later (ExtensionFunctionApp n es) =
-        sure_then AllLater Later (λ ps. Residual (ExtensionFunctionApp n (row_of C ps)))
+        sure_then AllLater Later (λ ps. Residual (ExtensionFunctionApp n (child_trees C ps)))
         (and_then (ops.call_of n)) (λ ps ys h plain. ap (and_then (ops.call_of n)) h.1)
         (fold_all ops (λ m t. bound ops (env1 m) m t) es) (fold_all ops g12 es) (all_later es)
     later (GetAttr a k) =

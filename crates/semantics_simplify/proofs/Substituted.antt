@@ -86,9 +86,9 @@ module _ {M F : Type 0} (B : Ops M F) (lawful : Lawful B)
           λ i. on_two (λ m ms. (k, m) ∷ ms) (built e i) (fields_built fs i)
 
   -- a bound unknown of its tree
-  abbrev pub bound_or_left : Option (BareType × BareExpr) → Text → Option BareType → Result M F
-  bound_or_left None n t = f n t
-  bound_or_left (Some r) n t = fold_with B f r.1
+  abbrev pub bound_or_unknown : Option (BareType × BareExpr) → Text → Option BareType → Result M F
+  bound_or_unknown None n t = f n t
+  bound_or_unknown (Some r) n t = fold_with B f r.1
 
   -- the fold at the builder of trees is substitution
   module _ (by_fold : SubstitutedByFold) where
@@ -97,13 +97,13 @@ module _ {M F : Type 0} (B : Ops M F) (lawful : Lawful B)
     built_of env e = ap (λ r. fold_with B f (sure r)) (by_fold env e) ∙ built env e
 
     unknown_built : (x : Option (BareType × BareExpr)) (n : Text) (t : Option BareType)
-        → fold_with B f (bound_tree x (Unknown n t)) ≡ bound_or_left x n t
+        → fold_with B f (bound_tree x (Unknown n t)) ≡ bound_or_unknown x n t
     unknown_built None n t = refl
     unknown_built (Some r) n t = built_of empty r.1
 
     pub built_with : (env : Env) (e : BareExpr)
         → fold_with B f (sure (fold tree_ops env e))
-        ≡ fold_with B (λ n t. bound_or_left (env n) n t) e
+        ≡ fold_with B (λ n t. bound_or_unknown (env n) n t) e
     built_with env e =
         built_of env e ∙ ap (λ u. fold_with B u e) (λ i n t. unknown_built (env n) n t i)
 
@@ -114,6 +114,6 @@ built_after B lawful by_fold env e =
     ∙ ap (λ u. fold_with B u e) (λ i n t. same (env n) n t i)
   where
     same : (x : Option (BareType × BareExpr)) (n : Text) (t : Option BareType)
-        → bound_or_left B lawful (own B) x n t ≡ bound B x n t
+        → bound_or_unknown B lawful (own B) x n t ≡ bound B x n t
     same None n t = refl
     same (Some r) n t = refl

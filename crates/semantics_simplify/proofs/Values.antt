@@ -46,7 +46,7 @@ module _ {X : Type 0} (R : X → X → Ordering) (E : X → X → Bool) where
   abbrev pub HasValue : BareExpr → Type 0
   HasValue e = (u : BareValue X) × ((f : Unknowns) → fold_with (evaluator_ops R E) f e ≡ Ok (Ok u))
 
-  -- the same of each tree of a row, and of each value of a record
+  -- the same of each member of a set, and of each value of a record
   abbrev HaveValues : BareExprs → Type 0
   HaveValues es =
       (us : List (BareValue X))

@@ -1,4 +1,4 @@
--- The simplifier, as a builder: what it makes of a tree is a part that means the same.
+-- The simplifier, as a builder: what it makes of a tree means the same.
 use Rattle.std.specs.Prelude.{◌≡◌, Bool, true, false, ◌&&◌, ◌||◌, Option, Some, None, Ok, map, refl, if◌then◌else◌}
 use Rattle.std.specs.declared.cmp.Ordering.{Ordering}
 use Rattle.cedar_builders.specs.BareExpr.{BareExpr, Var, Slot, Unknown, If, And, Or, UnaryApp, BinaryApp, ExtensionFunctionApp, GetAttr, HasAttr, Like, Set, Record, Is}
@@ -11,7 +11,7 @@ use Rattle.semantics_eval.specs.Outcomes.{truth, strict, strict_two}
 use Rattle.semantics_eval.specs.Operators.{apply_one, apply_two}
 use Rattle.semantics_eval.specs.Attributes.{get_in, has_path, like_in, is_in}
 use Rattle.semantics_eval.specs.Rows.{set_outcome, record_outcome}
-use Rattle.semantics_simplify.specs.Simplified.{Simplified, Known, Residual, tree_of, row_of, fields_of_parts, outcome_of, pair_outcomes, known_or, known_truth, calls_nothing, is_boolean}
+use Rattle.semantics_simplify.specs.Simplified.{Simplified, Known, Residual, tree_of, child_trees, child_fields, outcome_of, pair_outcomes, known_or, known_truth, calls_nothing, is_boolean}
 
 -- the branch that a known test chooses, where the other one holds no call; else the node
 abbrev pub branch_or : {X : Type 0} → BareExpr → Option Bool → Simplified X → Simplified X → Simplified X
@@ -34,8 +34,8 @@ or_or node (Some false) q = if is_boolean q then q else Residual node
 
 -- R and E are the order and the equality of extension values, and C says the canonical call of one
 module _ {X : Type 0} (R : X → X → Ordering) (E : X → X → Bool) (C : X → BareCall) where
-  -- what the evaluator's operation makes of what is known is known, if it is a value; else the
-  -- node is left, over the operands' trees; a call is left whatever it calls
+  -- what the evaluator's operation makes of known values is known, if it is a value; else the
+  -- node is a residual, over the operands' trees; a call is a residual whatever it calls
   abbrev pub simplifier_ops : Ops (Simplified X) ⊥
   simplifier_ops = record {
     lit_of = λ l. Known (LitValue l);
@@ -49,13 +49,13 @@ module _ {X : Type 0} (R : X → X → Ordering) (E : X → X → Bool) (C : X �
     binary_of = λ o p q.
         known_or (BinaryApp o (tree_of C p) (tree_of C q))
         (strict_two (apply_two R E o) (outcome_of p) (outcome_of q));
-    call_of = λ n ps. Ok (Residual (ExtensionFunctionApp n (row_of C ps)));
+    call_of = λ n ps. Ok (Residual (ExtensionFunctionApp n (child_trees C ps)));
     get_of = λ p k. known_or (GetAttr (tree_of C p) k) (strict (get_in k) (outcome_of p));
     has_of = λ p k ks. known_or (HasAttr (tree_of C p) k ks) (has_path (outcome_of p) k ks);
     like_of = λ p m. known_or (Like (tree_of C p) m) (strict (like_in m) (outcome_of p));
-    set_of = λ ps. known_or (Set (row_of C ps)) (set_outcome R (map outcome_of ps));
+    set_of = λ ps. known_or (Set (child_trees C ps)) (set_outcome R (map outcome_of ps));
     record_of = λ ps.
-        known_or (Record (fields_of_parts C ps)) (record_outcome (pair_outcomes ps));
+        known_or (Record (child_fields C ps)) (record_outcome (pair_outcomes ps));
     is_of = λ p n. known_or (Is (tree_of C p) n) (strict (is_in n) (outcome_of p));
   }
 

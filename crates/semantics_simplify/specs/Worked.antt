@@ -1,4 +1,4 @@
--- Parts worked out by hand.
+-- Values and residuals worked out by hand.
 use Rattle.std.specs.Prelude.{◌≡◌, ℤ, pos, Bool, true, false, List, [], ◌∷◌, Some, None, codes}
 use Rattle.std.specs.declared.cmp.Ordering.{Ordering}
 use Rattle.cedar_names.specs.Names.{unqualified}
@@ -69,7 +69,7 @@ module _ {X : Type 0} where
     abbrev made_bound : BareExpr → Simplified X
     made_bound = simplified_in R E C x_is_one
 
-    pub record AreWorkedParts : Type 0 where
+    pub record AreWorkedSimplified : Type 0 where
       -- operators
       pub sum : made (plus one one) ≡ is_long (pos 2)
       pub above : made (plus greatest one) ≡ Residual (plus greatest one)

@@ -17,7 +17,7 @@ ghost use Rattle.semantics_simplify.specs.Laws.{
   ValuesAskNothing,
 };
 ghost use Rattle.semantics_simplify.specs.Simplifier.{simplifier_ops};
-ghost use Rattle.semantics_simplify.specs.Worked.{AreWorkedParts};
+ghost use Rattle.semantics_simplify.specs.Worked.{AreWorkedSimplified};
 
 use cedar_builders::laws::substituted_by_fold;
 use semantics_eval::laws::{ascending_lists, value_kept};
@@ -83,7 +83,7 @@ pub fn asks_no_more<X: Ord>()
 }
 
 /// Stages are one: to simplify with values for some unknowns, and then with values for further
-/// ones, makes the part that values for all of them make at once.
+/// ones, is to simplify with values for all of them at once.
 pub fn stages_are_one<X: Ord>()
     ensures { StagesAreOne X.cmp X.eq }
 {
@@ -91,7 +91,8 @@ pub fn stages_are_one<X: Ord>()
     ascending_lists::<X>();
 }
 
-/// To simplify twice is to simplify once: the tree of a simplified tree is made the same part.
+/// To simplify twice is to simplify once: the tree of what was simplified gives the same value or
+/// residual again.
 pub fn simplified_twice<X: Ord>()
     ensures { SimplifiedTwice X.cmp X.eq }
 {
@@ -109,7 +110,7 @@ pub fn values_ask_nothing<X>()
     ensures { ValuesAskNothing X }
 {}
 
-/// Some parts, worked out by hand.
-pub fn worked_parts<X: Ord>()
-    ensures { (C : X → BareCall) → AreWorkedParts X.cmp X.eq C }
+/// Some values and residuals, worked out by hand.
+pub fn worked_simplified<X: Ord>()
+    ensures { (C : X → BareCall) → AreWorkedSimplified X.cmp X.eq C }
 {}

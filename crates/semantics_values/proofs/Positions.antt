@@ -1,4 +1,4 @@
--- The positions of the trees of a row, and of the values of a record.
+-- The positions of the members of a set, and of the values of a record.
 use Rattle.std.specs.Prelude.{List, ◌∷◌}
 use Rattle.cedar_builders.specs.BareExpr.{BareExpr, BareExprs, BareFields}
 use Rattle.cedar_builders.specs.Walks.{walk_all, walk_fields, forward}

@@ -20,7 +20,7 @@ use semantics_eval::laws::{
 use semantics_simplify::laws::{
     asks_by_children, asks_no_more, closed_is_known, known_stays, one_pass,
     partial_evaluation_is_sound, simplified_means_the_same, simplified_twice, simplifier_is_lawful,
-    stages_are_one, values_ask_nothing, worked_parts,
+    stages_are_one, values_ask_nothing, worked_simplified,
 };
 use std::process::Abort;
 use std::rc::RcStr;
@@ -129,7 +129,7 @@ fn laws_of_the_simplifier_hold() {
     simplified_twice::<NoExtension>();
     asks_by_children();
     values_ask_nothing::<NoExtension>();
-    worked_parts::<NoExtension>();
+    worked_simplified::<NoExtension>();
 }
 
 fn laws_of_tables<X: ExtensionFunctions>() {

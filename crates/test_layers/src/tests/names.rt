@@ -162,7 +162,7 @@ use cedar_ast::simplifier::laws::simplified_twice;
 use cedar_ast::simplifier::laws::simplifier_is_lawful;
 use cedar_ast::simplifier::laws::stages_are_one;
 use cedar_ast::simplifier::laws::values_ask_nothing;
-use cedar_ast::simplifier::laws::worked_parts;
+use cedar_ast::simplifier::laws::worked_simplified;
 use cedar_ast::simplifier::simplify;
 use cedar_ast::split;
 use cedar_ast::substitute_typed_values_into_expr;

@@ -7,12 +7,12 @@ use Rattle.cedar_simplifier.specs.Simplified.{meaning_of}
 use Rattle.cedar_simplifier.proofs.OnePass.{asks, same_meaning, stays}
 use Rattle.cedar_simplifier.proofs.simplify.simplify.Goals as goal
 
-pub returns-in-Ok-clause-part : goal.returns-in-Ok-clause-part
-returns-in-Ok-clause-part c = sym (ap sure c.in-Ok.ensures)
+pub returns-in-Ok-clause-simplified : goal.returns-in-Ok-clause-simplified
+returns-in-Ok-clause-simplified c = sym (ap sure c.in-Ok.ensures)
 
 pub returns-in-Ok-clause-means_the_same : goal.returns-in-Ok-clause-means_the_same
 returns-in-Ok-clause-means_the_same c =
-    same_meaning _ _ c.args.values.now (bare_expr c.args.expr.now) (meaning_of c.in-Ok.part)
+    same_meaning _ _ c.args.values.now (bare_expr c.args.expr.now) (meaning_of c.in-Ok.simplified)
     (sym (ap sure c.in-Ok.ensures))
     (λ (m : ValueMap NoExtension).
     c.maps_bind_plain_values.ensures m (c.no_extension_values.ensures.maps m))
@@ -20,7 +20,7 @@ returns-in-Ok-clause-means_the_same c =
 
 pub returns-in-Ok-clause-known_stays : goal.returns-in-Ok-clause-known_stays
 returns-in-Ok-clause-known_stays c =
-    stays _ _ c.args.values.now (bare_expr c.args.expr.now) (meaning_of c.in-Ok.part)
+    stays _ _ c.args.values.now (bare_expr c.args.expr.now) (meaning_of c.in-Ok.simplified)
     (sym (ap sure c.in-Ok.ensures))
     (λ (m : ValueMap NoExtension).
     c.maps_bind_plain_values.ensures m (c.no_extension_values.ensures.maps m))
@@ -28,7 +28,7 @@ returns-in-Ok-clause-known_stays c =
 
 pub returns-in-Ok-clause-asks_no_more : goal.returns-in-Ok-clause-asks_no_more
 returns-in-Ok-clause-asks_no_more c =
-    asks _ _ c.args.values.now (bare_expr c.args.expr.now) (meaning_of c.in-Ok.part)
+    asks _ _ c.args.values.now (bare_expr c.args.expr.now) (meaning_of c.in-Ok.simplified)
     (sym (ap sure c.in-Ok.ensures))
     (λ (m : ValueMap NoExtension).
     c.maps_bind_plain_values.ensures m (c.no_extension_values.ensures.maps m))

@@ -13,9 +13,9 @@ returns-in-ExtensionValue g c = let some = kind_has_nodes c.args.left.kind in c.
 pub returns-in-Set : goal.returns-in-Set
 returns-in-Set g c =
     let k = set_nodes c.args.left.kind c.in-Set.set c.in-Set.is ∙ ap (λ vs. suc (row_nodes vs)) c.into_row.ensures in
-    subst (λ n. IsStep n (n + waiting_nodes c.args.left.waiting) c.open_members.result) (sym k) c.open_members.ensures
+    subst (λ n. IsStep n (n + waiting_nodes c.args.left.waiting) c.enter_members.result) (sym k) c.enter_members.ensures
 
 pub returns-in-Record : goal.returns-in-Record
 returns-in-Record g c =
     let k = record_nodes c.args.left.kind c.in-Record.pairs c.in-Record.is in
-    subst (λ n. IsStep n (n + waiting_nodes c.args.left.waiting) c.open_pairs.result) (sym k) c.open_pairs.ensures
+    subst (λ n. IsStep n (n + waiting_nodes c.args.left.waiting) c.enter_pairs.result) (sym k) c.enter_pairs.ensures

@@ -4,7 +4,7 @@ use Rattle.cedar_builders.specs.BareExpr.{Record}
 use Rattle.cedar_builders.specs.Keys.{IsAscending}
 use Rattle.cedar_values.specs.WellFormed.{well_formed}
 use Rattle.semantics_simplify.specs.Simplified.{Residual}
-use Rattle.cedar_simplifier.proofs.KnownRows.{have_known, known_record, record_left, pairs_kept}
+use Rattle.cedar_simplifier.proofs.KnownChildren.{have_known, known_record, record_residual, pairs_kept}
 use Rattle.cedar_simplifier.proofs.simplifier.SimplifierExprBuilder.record.Goals as goal
 
 pub known-requires : goal.known-requires
@@ -25,5 +25,5 @@ returns-clause-means c ascends =
     c.residual.ensures
     ∙ ap Residual (c.in_ok-record.ensures.tree (subst IsAscending (sym c.in_ok-fields.ensures.keys) ascends)
     ∙ ap Record c.in_ok-fields.ensures.trees)
-    ∙ record_left _ c.args.pairs.items
+    ∙ record_residual _ c.args.pairs.items
     (ap have_known (sym c.deref.ensures.value) ∙ sym c.have_known.ensures ∙ c.if-have_known.false)

@@ -1,4 +1,4 @@
--- A tree that can only be a Boolean or a fault, by its root, is made a part that can only be one.
+-- A tree that can only be a Boolean or a fault, by its root, is simplified to one that can only be one too.
 use Rattle.std.proofs.Common.{◌≡◌, refl, Bool, true, false, Option, Some, None, Result, Ok, Err}
 use Rattle.std.proofs.lemmas.Bool.{false≢true}
 use Rattle.std.specs.Prelude.{if◌then◌else◌}
@@ -19,7 +19,7 @@ use Rattle.semantics_simplify.proofs.Means.{no_value}
 use Rattle.semantics_simplify.proofs.Truths.{IsTruth, of_strict, of_strict_two, of_one, of_path, of_like, of_is, of_two}
 
 module _ {X : Type 0} where
-  -- the part can only be a Boolean, if there is one
+  -- it can only be a Boolean, if there is one
   abbrev pub IfBoolean : Result (Simplified X) ⊥ → Type 0
   IfBoolean (Ok p) = is_boolean p ≡ true
   IfBoolean (Err e) = ⊥

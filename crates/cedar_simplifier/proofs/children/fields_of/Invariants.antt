@@ -7,7 +7,7 @@ use Rattle.cedar_values.specs.Holders.{held_call}
 use Rattle.semantics_simplify.specs.Asks.{holds_no_call}
 use Rattle.semantics_simplify.specs.Simplified.{tree_of}
 use Rattle.cedar_simplifier.specs.Simplified.{meaning_of}
-use Rattle.cedar_simplifier.proofs.rows.fields_of.Given as goal
+use Rattle.cedar_simplifier.proofs.children.fields_of.Given as goal
 
 -- the keys and the trees so far, and then those of the rest; and whether the trees so far call
 -- nothing

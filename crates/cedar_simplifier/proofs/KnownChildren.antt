@@ -1,4 +1,4 @@
--- Sets and records of parts, by whether each part is known.
+-- Sets and records, by whether each of their children is known.
 use Rattle.std.proofs.Common.{◌≡◌, refl, sym, ◌∙◌, ap, subst, Bool, true, false, ◌&&◌, IsTrue, List, [], ◌∷◌, map, option_map, Ok, Err}
 use Rattle.std.specs.Global.{Global}
 use Rattle.std.specs.List.{cons_option, filter_map, list_all}
@@ -23,7 +23,7 @@ use Rattle.cedar_simplifier.specs.declared.kind.Kind.{Kind}
 use Rattle.cedar_simplifier.specs.declared.kind.Kind.TheVariants.{Known, Residual}
 use Rattle.cedar_simplifier.specs.declared.simplified.Simplified.{Simplified}
 
--- whether each part is known, in a row and in a record
+-- whether each child of a set and of a record is known
 abbrev pub are_known : List Simplified → Bool
 are_known ps = list_all (λ p. is_known (meaning_of p)) ps
 
@@ -34,7 +34,7 @@ behind : (a b : Bool) → (a && b) ≡ false → a ≡ true → b ≡ false
 behind true b h is = h
 behind false b h is = cc
 
--- rows
+-- sets
 
 one_known : (k : Kind) (vs : List (Value NoExtension)) (ms : List (Outcome NoExtension))
     → is_known (bare_kind k) ≡ true → all_values ms ≡ Ok (map bare_value vs)
@@ -43,11 +43,11 @@ one_known : (k : Kind) (vs : List (Value NoExtension)) (ms : List (Outcome NoExt
 one_known (Known v) vs ms h g = ap (on_one (λ ts. bare_value v ∷ ts)) g
 one_known (Residual t) vs ms h g = cc
 
-one_left : (k : Kind) (ms : List (Outcome NoExtension))
+one_residual : (k : Kind) (ms : List (Outcome NoExtension))
     → (is_known (bare_kind k) ≡ true → all_values ms ≡ Err Open)
     → all_values (meant.outcome_of (bare_kind k) ∷ ms) ≡ Err Open
-one_left (Known v) ms h = ap (on_one (λ ts. bare_value v ∷ ts)) (h refl)
-one_left (Residual t) ms h = refl
+one_residual (Known v) ms h = ap (on_one (λ ts. bare_value v ∷ ts)) (h refl)
+one_residual (Residual t) ms h = refl
 
 abbrev outcomes_of : List Simplified → List (Outcome NoExtension)
 outcomes_of ps = map meant.outcome_of (map meaning_of ps)
@@ -63,7 +63,7 @@ all_known (p ∷ ps) h =
 not_known : (ps : List Simplified) → are_known ps ≡ false → all_values (outcomes_of ps) ≡ Err Open
 not_known [] h = cc
 not_known (p ∷ ps) h =
-    one_left p.kind (outcomes_of ps)
+    one_residual p.kind (outcomes_of ps)
     (λ is. not_known ps (behind (is_known (meaning_of p)) (are_known ps) h is))
 
 module _ (R : NoExtension → NoExtension → Ordering) (node : BareExpr) (ps : List Simplified) where
@@ -72,11 +72,11 @@ module _ (R : NoExtension → NoExtension → Ordering) (node : BareExpr) (ps : 
       ≡ meant.known_or node (set_outcome R (outcomes_of ps))
   set_known h = sym (ap (λ r. meant.known_or node (on_one (set_value R) r)) (all_known ps h))
 
-  pub set_left : are_known ps ≡ false
+  pub set_residual : are_known ps ≡ false
       → meant.Residual node ≡ meant.known_or node (set_outcome R (outcomes_of ps))
-  set_left h = sym (ap (λ r. meant.known_or node (on_one (set_value R) r)) (not_known ps h))
+  set_residual h = sym (ap (λ r. meant.known_or node (on_one (set_value R) r)) (not_known ps h))
 
--- the set that is made of the values of a row, each of which is known
+-- the set that is made of members, each of which is known
 pub known_set : (R : NoExtension → NoExtension → Ordering) (node : BareExpr) (ps : List Simplified)
     (t : BareValue NoExtension) (vs : List (Value NoExtension)) → are_known ps ≡ true
     → t ≡ set_value R (map bare_value vs) → vs ≡ filter_map held_value ps
@@ -99,11 +99,11 @@ pair_known : (key : RcStr Global) (k : Kind) (vs : List (RcStr Global × Value N
 pair_known key (Known v) vs ms h g = ap (on_one (λ ts. (rc_str_bytes key, bare_value v) ∷ ts)) g
 pair_known key (Residual t) vs ms h g = cc
 
-pair_left : (key : Text) (k : Kind) (ms : List (Text × Outcome NoExtension))
+pair_residual : (key : Text) (k : Kind) (ms : List (Text × Outcome NoExtension))
     → (is_known (bare_kind k) ≡ true → all_pairs ms ≡ Err Open)
     → all_pairs ((key, meant.outcome_of (bare_kind k)) ∷ ms) ≡ Err Open
-pair_left key (Known v) ms h = ap (on_one (λ ts. (key, bare_value v) ∷ ts)) (h refl)
-pair_left key (Residual t) ms h = refl
+pair_residual key (Known v) ms h = ap (on_one (λ ts. (key, bare_value v) ∷ ts)) (h refl)
+pair_residual key (Residual t) ms h = refl
 
 pairs_known : (ps : List (RcStr Global × Simplified)) → have_known ps ≡ true
     → all_pairs (outcomes_by_key ps) ≡ Ok (meant_pairs bare_value (filter_map held_pair ps))
@@ -113,12 +113,12 @@ pairs_known (p ∷ ps) h =
     (and_left (is_known (meaning_of p.1)) (have_known ps) h)
     (pairs_known ps (and_right (is_known (meaning_of p.1)) (have_known ps) h))
 
-pairs_left : (ps : List (RcStr Global × Simplified)) → have_known ps ≡ false
+pairs_residual : (ps : List (RcStr Global × Simplified)) → have_known ps ≡ false
     → all_pairs (outcomes_by_key ps) ≡ Err Open
-pairs_left [] h = cc
-pairs_left (p ∷ ps) h =
-    pair_left (rc_str_bytes p.0) p.1.kind (outcomes_by_key ps)
-    (λ is. pairs_left ps (behind (is_known (meaning_of p.1)) (have_known ps) h is))
+pairs_residual [] h = cc
+pairs_residual (p ∷ ps) h =
+    pair_residual (rc_str_bytes p.0) p.1.kind (outcomes_by_key ps)
+    (λ is. pairs_residual ps (behind (is_known (meaning_of p.1)) (have_known ps) h is))
 
 module _ (node : BareExpr) (ps : List (RcStr Global × Simplified)) where
   record_known : have_known ps ≡ true
@@ -128,11 +128,11 @@ module _ (node : BareExpr) (ps : List (RcStr Global × Simplified)) where
       sym (ap (λ r. meant.known_or node (on_one (λ qs. RecordValue (pairs_of qs)) r))
       (pairs_known ps h))
 
-  pub record_left : have_known ps ≡ false
+  pub record_residual : have_known ps ≡ false
       → meant.Residual node ≡ meant.known_or node (record_outcome (outcomes_by_key ps))
-  record_left h =
+  record_residual h =
       sym (ap (λ r. meant.known_or node (on_one (λ qs. RecordValue (pairs_of qs)) r))
-      (pairs_left ps h))
+      (pairs_residual ps h))
 
 key_known : (key : RcStr Global) (k : Kind) (vs : List (RcStr Global × Value NoExtension))
     → is_known (bare_kind k) ≡ true
@@ -151,7 +151,7 @@ known_keys (p ∷ ps) h =
     ∙ ap (λ ks. rc_str_bytes p.0 ∷ ks)
     (known_keys ps (and_right (is_known (meaning_of p.1)) (have_known ps) h))
 
--- the record that is made of the values of a row, each of which is known
+-- the record that is made of values, each of which is known
 pub known_record : (node : BareExpr) (ps : List (RcStr Global × Simplified)) (t : BareValue NoExtension)
     (vs : List (RcStr Global × Value NoExtension)) → have_known ps ≡ true
     → (IsAscending (keys_of vs) → t ≡ RecordValue (pairs_of (meant_pairs bare_value vs)))
@@ -162,7 +162,7 @@ known_record node ps t vs h is all ascends =
     ∙ ap (λ us. meant.Known (RecordValue (pairs_of (meant_pairs bare_value us)))) all
     ∙ record_known node ps h
 
--- the values are well formed, since each part keeps its own so
+-- the values are well formed, since each child keeps its own so
 module _ (R : NoExtension → NoExtension → Ordering) where
   value_kept : (k : Kind) (vs : List (Value NoExtension)) → IsTrue (is_kept R k)
       → list_all (well_formed R) vs ≡ true

@@ -1,7 +1,7 @@
 use Rattle.std.proofs.Common.{◌+◌, arith, subst, suc, refl, ap}
 use Rattle.cedar_values.specs.Drops.{entry_nodes, IsStep, waiting_nodes}
 use Rattle.cedar_values.proofs.Fewer.{record_nodes, written_record}
-use Rattle.cedar_values.proofs.dropping.open_pairs.Goals as goal
+use Rattle.cedar_values.proofs.dropping.enter_pairs.Goals as goal
 
 pub returns-in-Some : goal.returns-in-Some
 returns-in-Some g c =

@@ -1,4 +1,4 @@
--- What an operation makes of parts, by the values that they have.
+-- What an operation makes of its operands, by the values that are known of them.
 use Rattle.std.proofs.Common.{◌≡◌, refl, List, [], ◌∷◌, Some, None, Ok, Err}
 use Rattle.cedar_builders.specs.BareExpr.{BareExpr, Text}
 use Rattle.semantics_values.specs.BareValue.{BareValue}
@@ -14,12 +14,12 @@ module _ {X : Type 0} where
   outcome_known (Known u) t h = cc
   outcome_known (Residual e) t h = cc
 
-  -- what is left is open
-  pub outcome_left : (p : Simplified X) → None ≡ known_value p → outcome_of p ≡ Err Open
-  outcome_left (Known t) h = cc
-  outcome_left (Residual e) h = refl
+  -- a residual is open
+  pub outcome_of_residual : (p : Simplified X) → None ≡ known_value p → outcome_of p ≡ Err Open
+  outcome_of_residual (Known t) h = cc
+  outcome_of_residual (Residual e) h = refl
 
-  -- what is left has no path that is known
+  -- a residual has no path that is known
   pub open_path : (p : Simplified X) (k : Text) (ks : List Text) → None ≡ known_value p
       → None ≡ value_in (has_path (outcome_of p) k ks)
   open_path (Known t) k ks h = cc
@@ -32,8 +32,8 @@ module _ {X : Type 0} where
   made_known node (Ok u) t h = cc
   made_known node (Err f) t h = cc
 
-  -- else the node is left
-  pub made_left : (node : BareExpr) (m : Outcome X) → None ≡ value_in m
+  -- else it is the residual node
+  pub made_residual : (node : BareExpr) (m : Outcome X) → None ≡ value_in m
       → Residual node ≡ known_or node m
-  made_left node (Ok u) h = cc
-  made_left node (Err f) h = refl
+  made_residual node (Ok u) h = cc
+  made_residual node (Err f) h = refl

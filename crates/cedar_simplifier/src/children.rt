@@ -1,4 +1,4 @@
-//! Rows of parts: of the members of a set, of the arguments of a call, of the values of a record.
+//! The children of a node, simplified: members of a set, arguments of a call, values of a record.
 ghost use Rattle.std.specs.Prelude.{◌≡◌, IfOk, map};
 ghost use Rattle.std.specs.List.{filter_map, list_all};
 ghost use Rattle.cedar_builders.specs.BareExpr as bare;
@@ -6,7 +6,7 @@ ghost use Rattle.cedar_builders.specs.Keys.{keys_of, meant_pairs};
 ghost use Rattle.cedar_exprs.specs.BareExpr.{bare_expr, bare_exprs};
 ghost use Rattle.cedar_values.specs.Holders.{held_call};
 ghost use Rattle.semantics_simplify.specs.Asks.{holds_no_call};
-ghost use Rattle.semantics_simplify.specs.Simplified as parts;
+ghost use Rattle.semantics_simplify.specs.Simplified as meant;
 ghost use Rattle.cedar_simplifier.specs.Simplified.{held_pair, held_value, is_known, meaning_of};
 
 use crate::simplified::Simplified;
@@ -15,9 +15,9 @@ use cedar_values::{NoExtension, Value};
 use std::alloc::{AllocError, Global};
 use std::rc::RcStr;
 
-// The expressions of a row, and whether none of them holds a call.
+// The expressions of children, and whether none of them holds a call.
 #[derive(Debug, Drop)]
-pub(crate) struct Row {
+pub(crate) struct Children {
     pub(crate) exprs: Vec<Expr>,
     pub(crate) calls_nothing: bool,
     ghost kept: { calls_nothing ≡ list_all (λ e. holds_no_call (bare_expr e)) exprs.items },
@@ -31,38 +31,39 @@ pub(crate) struct Fields {
     ghost kept: { calls_nothing ≡ list_all (λ p. holds_no_call (bare_expr p.1)) pairs.items },
 }
 
-// Whether each part of a row is known.
-pub(crate) fn are_known(row: &[Simplified]) -> bool
-    ensures { result ≡ list_all (λ p. is_known (meaning_of p)) row.now }
+// Whether each child is a known value.
+pub(crate) fn are_known(children: &[Simplified]) -> bool
+    ensures { result ≡ list_all (λ p. is_known (meaning_of p)) children.now }
 {
-    row.iter().all(|part| part.is_known())
+    children.iter().all(|child| child.is_known())
 }
 
-// The values of the parts that are known.
+// The values of the children that are known.
 pub(crate) fn values_of(
     alloc: Global,
-    row: Vec<Simplified>,
+    children: Vec<Simplified>,
 ) -> Result<Vec<Value<NoExtension>>, AllocError>
-    ensures { IfOk result (λ vs. vs.items ≡ filter_map held_value row.items) }
+    ensures { IfOk result (λ vs. vs.items ≡ filter_map held_value children.items) }
 {
-    row.into_iter()
-        .filter_map(|part| part.into_value())
+    children
+        .into_iter()
+        .filter_map(|child| child.into_value())
         .collect(alloc)
 }
 
-// The expressions of a row.
-pub(crate) fn row_of(alloc: Global, row: Vec<Simplified>) -> Result<Row, AllocError>
-    ensures { IfOk result (λ r.
-        bare_exprs r.exprs.items ≡ parts.row_of held_call (map meaning_of row.items)) }
+// The expressions of children.
+pub(crate) fn children_of(alloc: Global, children: Vec<Simplified>) -> Result<Children, AllocError>
+    ensures { IfOk result (λ c.
+        bare_exprs c.exprs.items ≡ meant.child_trees held_call (map meaning_of children.items)) }
 {
-    let mut exprs = Vec::with_capacity(alloc, row.len())?;
+    let mut exprs = Vec::with_capacity(alloc, children.len())?;
     let mut calls_nothing = true;
-    for part in row {
-        let tree = part.into_tree(alloc)?;
+    for child in children {
+        let tree = child.into_tree(alloc)?;
         calls_nothing &= tree.calls_nothing();
         exprs.push(tree.into_expr())?;
     }
-    Ok(Row {
+    Ok(Children {
         exprs,
         calls_nothing,
     })
@@ -92,8 +93,8 @@ pub(crate) fn values_by_key(
 fn value_by_key(pair: (RcStr, Simplified)) -> Option<(RcStr, Value<NoExtension>)>
     ensures { result ≡ held_pair pair }
 {
-    let (key, part) = pair;
-    match part.into_value() {
+    let (key, child) = pair;
+    match child.into_value() {
         Some(value) => Some((key, value)),
         None => None,
     }
@@ -106,12 +107,12 @@ pub(crate) fn fields_of(
 ) -> Result<Fields, AllocError>
     ensures keys { IfOk result (λ f. keys_of f.pairs.items ≡ keys_of pairs.items) }
     ensures trees { IfOk result (λ f. bare.fields_of (meant_pairs bare_expr f.pairs.items)
-        ≡ parts.fields_of_parts held_call (meant_pairs meaning_of pairs.items)) }
+        ≡ meant.child_fields held_call (meant_pairs meaning_of pairs.items)) }
 {
     let mut fields = Vec::with_capacity(alloc, pairs.len())?;
     let mut calls_nothing = true;
-    for (key, part) in pairs {
-        let tree = part.into_tree(alloc)?;
+    for (key, child) in pairs {
+        let tree = child.into_tree(alloc)?;
         calls_nothing &= tree.calls_nothing();
         fields.push((key, tree.into_expr()))?;
     }

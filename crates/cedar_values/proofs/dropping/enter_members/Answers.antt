@@ -1,7 +1,7 @@
 use Rattle.std.proofs.Common.{◌+◌, arith, subst, suc, ap}
 use Rattle.cedar_values.specs.Drops.{row_nodes, IsStep, waiting_nodes}
 use Rattle.cedar_values.proofs.Fewer.{row_set}
-use Rattle.cedar_values.proofs.dropping.open_members.Goals as goal
+use Rattle.cedar_values.proofs.dropping.enter_members.Goals as goal
 
 pub returns-in-Some : goal.returns-in-Some
 returns-in-Some g c =
