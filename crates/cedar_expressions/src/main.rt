@@ -2,7 +2,6 @@
 //! that it asks for.
 #![tactic(auto)]
 
-pub use cedar_ast as ast;
 use cedar_script::run;
 use std::io;
 use std::process::ExitCode;
