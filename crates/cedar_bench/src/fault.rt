@@ -4,7 +4,7 @@ use cedar_calls::EvaluationError;
 use cedar_evaluator::CallRefused;
 use cedar_exprs::{ExprValidationError, SubstitutionError};
 use cedar_names::ParseErrors;
-use cedar_script::RunFault;
+use cedar_script::{RunFault, StreamFault};
 use cedar_values::NotValue;
 use std::alloc::{AllocError, AllocFailed};
 use std::io;
@@ -136,8 +136,8 @@ impl From<BuildFault<CallRefused>> for CaseFault {
 impl From<RunFault> for CaseFault {
     fn from(fault: RunFault) -> CaseFault {
         match fault {
-            RunFault::Memory => CaseFault::Memory,
-            RunFault::Line { .. } | RunFault::Input | RunFault::Output => CaseFault::Answer,
+            RunFault::Stream(StreamFault::Memory) => CaseFault::Memory,
+            RunFault::Line { .. } | RunFault::Stream(_) => CaseFault::Answer,
         }
     }
 }

@@ -1,5 +1,6 @@
-pub mod Faults
+pub mod StreamFaults
 pub mod CommandErrors
+pub mod RunFaults
 pub mod Words
 pub mod Patterns
 pub mod CommandWords

@@ -6,6 +6,8 @@ mod command_error;
 mod line;
 mod pattern;
 mod script;
+mod streams;
 mod work;
 
 pub use script::{RunFault, run};
+pub use streams::{StreamFault, read_input};

@@ -1,10 +1,11 @@
 //! The run of a script, from a reader to a writer.
-ghost use Rattle.std.specs.Prelude.{◌≡◌, ◌∷◌, [], ◌++◌, IfOk, IfErr, IfSome, OnOk, string_bytes};
+ghost use Rattle.std.specs.Prelude.{◌≡◌, ◌∷◌, [], ◌++◌, OnOk, string_bytes};
 ghost use Rattle.std.specs.Io.KnownBytes.{Appends, IsAtEnd};
-ghost use Rattle.cedar_script.specs.Faults.{status_of, IsFaultAt, IsInputFault};
+ghost use Rattle.cedar_script.specs.RunFaults.{status_of, IsFaultAt};
 
 use crate::command_error::CommandError;
 use crate::line::Command;
+use crate::streams::{StreamFault, read_input};
 use crate::work::State;
 use std::alloc::Global;
 use std::io::{self, Read, Write};
@@ -17,15 +18,9 @@ pub enum RunFault {
     /// A line is refused; lines count from 1.
     #[error("line {line}: {cause}")]
     Line { line: usize, cause: RcStr },
-    /// The input can't be read.
-    #[error("input fault")]
-    Input,
-    /// What is shown can't be written.
-    #[error("output fault")]
-    Output,
-    /// Memory was wanted, and none was given.
-    #[error("no memory")]
-    Memory,
+    /// The script can't be read, what is shown can't be written, or memory runs out.
+    #[error(transparent)]
+    Stream(#[from] StreamFault),
 }
 
 impl RunFault {
@@ -35,20 +30,20 @@ impl RunFault {
     {
         match self {
             RunFault::Line { .. } => 1,
-            RunFault::Input | RunFault::Output | RunFault::Memory => 2,
+            RunFault::Stream(_) => 2,
         }
     }
 
     // The fault of a line that is refused.
-    fn at_line(alloc: Global, line: usize, refusal: CommandError) -> RunFault
-        ensures { IsFaultAt line refusal result }
+    fn at_line(alloc: Global, line: usize, error: CommandError) -> RunFault
+        ensures { IsFaultAt line error result }
     {
-        if refusal == CommandError::Memory {
-            return RunFault::Memory;
+        if error == CommandError::Memory {
+            return RunFault::Stream(StreamFault::Memory);
         }
-        match refusal.to_string(alloc).and_then(RcStr::from_string) {
+        match error.to_string(alloc).and_then(RcStr::from_string) {
             Ok(cause) => RunFault::Line { line, cause },
-            Err(_) => RunFault::Memory,
+            Err(_) => RunFault::Stream(StreamFault::Memory),
         }
     }
 }
@@ -69,25 +64,10 @@ pub fn run<R: Read, W: Write>(alloc: Global, reader: &mut R, writer: &mut W) -> 
         match work_line(alloc, &mut state, line) {
             Ok(None) => {}
             Ok(Some(shown)) => write_line(writer, shown)?,
-            Err(refusal) => return Err(RunFault::at_line(alloc, number, refusal)),
+            Err(error) => return Err(RunFault::at_line(alloc, number, error)),
         }
     }
     Ok(())
-}
-
-// All that the reader gives.
-fn read_input<R: Read>(alloc: Global, reader: &mut R) -> Result<Vec<u8>, RunFault>
-    ensures bytes { IfOk result (λ input.
-        IfSome (R.remaining reader.old) (λ bytes. input.items ≡ bytes)) }
-    ensures end { OnOk result (IsAtEnd (R.remaining reader.new)) }
-    ensures fault { IfErr result IsInputFault }
-{
-    let mut input = Vec::new(alloc);
-    match reader.read_to_end(&mut input) {
-        Ok(_) => Ok(input),
-        Err(error) if error.kind() == io::ErrorKind::OutOfMemory => Err(RunFault::Memory),
-        Err(_) => Err(RunFault::Input),
-    }
 }
 
 // Works a line, and gives the text that it shows, if it shows one. An empty line does nothing.
@@ -104,16 +84,12 @@ fn work_line(
 }
 
 // Writes a text and a line feed, at once.
-fn write_line<W: Write>(writer: &mut W, mut text: String) -> Result<(), RunFault>
+fn write_line<W: Write>(writer: &mut W, mut text: String) -> Result<(), StreamFault>
     ensures { OnOk result
         (Appends (W.contents writer.old) (W.contents writer.new) (string_bytes text ++ 10 ∷ [])) }
 {
-    text.push('\n').map_err(|_| RunFault::Memory)?;
-    match write_now(writer, text.as_bytes()) {
-        Ok(()) => Ok(()),
-        Err(error) if error.kind() == io::ErrorKind::OutOfMemory => Err(RunFault::Memory),
-        Err(_) => Err(RunFault::Output),
-    }
+    text.push('\n').map_err(|_| StreamFault::Memory)?;
+    write_now(writer, text.as_bytes()).map_err(|error| StreamFault::of_writer(&error))
 }
 
 // Writes all bytes, so that the writer keeps none back.

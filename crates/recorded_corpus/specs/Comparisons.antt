@@ -1,22 +1,14 @@
 -- When two runs are alike, and what the program ends with.
-use Rattle.std.specs.Prelude.{◌≡◌, ◌==◌, ℕ, ⊤, Result, Ok, Err, if◌then◌else◌}
+use Rattle.std.specs.Prelude.{◌≡◌, ◌==◌, ℕ, Result, Ok, Err, if◌then◌else◌}
 use Rattle.recorded_corpus.specs.declared.corpus.Outcome.{Outcome}
 use Rattle.recorded_corpus.specs.declared.comparison.Tally.{Tally}
 use Rattle.recorded_corpus.specs.declared.comparison.CompareFault.{CompareFault}
-use Rattle.recorded_corpus.specs.declared.comparison.CompareFault.TheVariants.{Malformed as not_read, Input, Output, Memory}
 
 -- two runs show the same bytes, and end with the same status and the same line
 pub record AreAlike (wanted came : Outcome) : Type 0 where
   pub shown : wanted.shown.now ≡ came.shown.now
   pub status : wanted.status ≡ came.status
   pub refusal : wanted.refusal.now ≡ came.refusal.now
-
--- a fault that reading the input ends with
-abbrev pub IsInputFault : CompareFault → Type 0
-IsInputFault (not_read error) = ⊥
-IsInputFault Input = ⊤
-IsInputFault Output = ⊥
-IsInputFault Memory = ⊤
 
 -- 0 where no script differs, 1 where one does, 2 where the corpus was not compared to its end
 abbrev pub status_of : Result Tally CompareFault → ℕ

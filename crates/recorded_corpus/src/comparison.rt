@@ -1,12 +1,12 @@
 //! The scripts of a corpus worked, and compared with their records.
-ghost use Rattle.std.specs.Prelude.{◌≡◌, ◌↔◌, ◌<◌, ◌≤◌, IfErr, IfOk, IfSome, IsTrue, OnOk, false};
+ghost use Rattle.std.specs.Prelude.{◌≡◌, ◌↔◌, ◌<◌, ◌≤◌, IfOk, IsTrue, OnOk, false};
 ghost use Rattle.std.specs.Io.KnownBytes.{IsAtEnd};
-ghost use Rattle.recorded_corpus.specs.Comparisons.{AreAlike, IsInputFault, status_of};
+ghost use Rattle.recorded_corpus.specs.Comparisons.{AreAlike, status_of};
 
 use crate::corpus::{Corpus, Malformed, Outcome, Record};
-use cedar_script::{RunFault, run};
+use cedar_script::{RunFault, StreamFault, read_input, run};
 use std::alloc::{AllocError, Global};
-use std::io::{self, Read, Write};
+use std::io::{Read, Write};
 use thiserror::Error;
 
 /// How many scripts a corpus has, and how many of them do otherwise than their records say.
@@ -36,27 +36,15 @@ impl Tally {
 pub enum CompareFault {
     /// A line of it can't be read.
     #[error("corpus, {0}")]
-    Malformed(Malformed),
-    /// The input can't be read.
-    #[error("input fault")]
-    Input,
-    /// A difference can't be written.
-    #[error("output fault")]
-    Output,
-    /// Memory was wanted, and none was given.
-    #[error("no memory")]
-    Memory,
-}
-
-impl From<Malformed> for CompareFault {
-    fn from(error: Malformed) -> CompareFault {
-        CompareFault::Malformed(error)
-    }
+    Malformed(#[from] Malformed),
+    /// It can't be read, a difference can't be written, or memory runs out.
+    #[error(transparent)]
+    Stream(#[from] StreamFault),
 }
 
 impl From<AllocError> for CompareFault {
     fn from(_error: AllocError) -> CompareFault {
-        CompareFault::Memory
+        CompareFault::Stream(StreamFault::Memory)
     }
 }
 
@@ -95,28 +83,13 @@ pub fn compare<R: Read, W: Write>(
     Ok(tally)
 }
 
-fn write_tally<W: Write>(writer: &mut W, tally: &Tally) -> Result<(), CompareFault> {
+fn write_tally<W: Write>(writer: &mut W, tally: &Tally) -> Result<(), StreamFault> {
     writeln!(
         writer,
         "{} scripts, {} different",
         tally.scripts, tally.different
     )
-    .map_err(|_| CompareFault::Output)
-}
-
-// All that the reader gives.
-fn read_input<R: Read>(alloc: Global, reader: &mut R) -> Result<Vec<u8>, CompareFault>
-    ensures bytes { IfOk result (λ input.
-        IfSome (R.remaining reader.old) (λ bytes. input.items ≡ bytes)) }
-    ensures end { OnOk result (IsAtEnd (R.remaining reader.new)) }
-    ensures fault { IfErr result IsInputFault }
-{
-    let mut input = Vec::new(alloc);
-    match reader.read_to_end(&mut input) {
-        Ok(_) => Ok(input),
-        Err(error) if error.kind() == io::ErrorKind::OutOfMemory => Err(CompareFault::Memory),
-        Err(_) => Err(CompareFault::Input),
-    }
+    .map_err(|error| StreamFault::of_writer(&error))
 }
 
 // Whether a script shows and ends as its record says; else a line says what was wanted, and what
@@ -130,7 +103,9 @@ fn is_as_recorded<W: Write>(
     let mut script = record.script;
     let (status, refusal) = match run(alloc, &mut script, &mut shown) {
         Ok(()) => (0, String::new(alloc)),
-        Err(RunFault::Memory) => return Err(CompareFault::Memory),
+        Err(RunFault::Stream(StreamFault::Memory)) => {
+            return Err(CompareFault::Stream(StreamFault::Memory));
+        }
         Err(fault) => (fault.status(), fault.to_string(alloc)?),
     };
     let came = Outcome {
@@ -149,13 +124,13 @@ fn write_difference<W: Write>(
     writer: &mut W,
     record: &Record,
     came: &Outcome,
-) -> Result<(), CompareFault> {
+) -> Result<(), StreamFault> {
     writeln!(
         writer,
         "line {}: wanted {}; came {came}",
         record.line, record.outcome
     )
-    .map_err(|_| CompareFault::Output)
+    .map_err(|error| StreamFault::of_writer(&error))
 }
 
 // Whether two runs show and end alike.
