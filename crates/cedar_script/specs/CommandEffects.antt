@@ -63,10 +63,10 @@ needed_count Show = 1
 needed_count Eval = 1
 needed_count Simplify = 1
 
--- how many expressions stand in place of those: `bind` leaves none, and every other command one
-abbrev pub left_count : Command → ℕ
-left_count (Bind name) = 0
-left_count _ = 1
+-- how many expressions stand in place of those: none after `bind`, one after every other command
+abbrev pub made_count : Command → ℕ
+made_count (Bind name) = 0
+made_count _ = 1
 
 -- each key with the expression at its index
 abbrev pub key_pairs : List (Bor Text) → List (Expr Unit) → List (Text × Expr Unit)
@@ -76,9 +76,10 @@ key_pairs keys exprs = map (λ p. (p.0.now, p.1)) (zip keys exprs)
 abbrev pub record_of : List (Bor Text) → List (Expr Unit) → BareExpr
 record_of keys exprs = record_tree (fields_of (map (λ p. (p.0, bare_expr p.1)) (in_key_order (key_pairs keys exprs))))
 
--- what is left of a tree, where names are bound as `env` says; S is the simplifier
-abbrev pub what_is_left : Ops (Simplified NoExtension) ⊥ → Env → BareExpr → BareExpr
-what_is_left S env e = tree_of held_call (sure (fold S env e))
+-- the residual of a tree, or the tree of its known value, where names are bound as `env` says; S is
+-- the simplifier
+abbrev pub residual_of : Ops (Simplified NoExtension) ⊥ → Env → BareExpr → BareExpr
+residual_of S env e = tree_of held_call (sure (fold S env e))
 
 -- what a command makes of the old stack, where names are bound as `env` says; S is the simplifier
 abbrev pub Works : Ops (Simplified NoExtension) ⊥ → Env → Command → Stack → Stack → Type 0
@@ -108,7 +109,7 @@ Works S env Substitute old new = ReplacesOne (λ a e. fold tree_ops env (bare_ex
 Works S env Typed old new = ReplacesOne (λ a e. (fold tree_ops env (bare_expr a) ≡ Ok (bare_expr e)) × (clash env (bare_expr a) ≡ None)) old new
 Works S env Show old new = new ≡ old
 Works S env Eval old new = new ≡ old
-Works S env Simplify old new = ReplacesOne (λ a e. bare_expr e ≡ what_is_left S env (bare_expr a)) old new
+Works S env Simplify old new = ReplacesOne (λ a e. bare_expr e ≡ residual_of S env (bare_expr a)) old new
 
 -- what is bound after a command: `bind` binds its name to the value of the top, and every other
 -- command changes nothing; R is the order of extension values, of which there are none

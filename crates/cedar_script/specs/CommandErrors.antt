@@ -1,4 +1,4 @@
--- The refusals of lines.
+-- Why lines are refused.
 use Rattle.std.specs.Prelude.{◌≡◌, false, Result, Err}
 use Rattle.cedar_names.specs.Names.{BareName}
 use Rattle.cedar_names.specs.PlainNames.{bare_name}
@@ -18,22 +18,22 @@ use Rattle.cedar_evaluator.specs.declared.fault.CallRefused.{CallRefused}
 use Rattle.semantics_eval.specs.Outcomes.{Outcome}
 use Rattle.cedar_script.specs.declared.command_error.CommandError.TheVariants.{DuplicateKey, NotAValue, TypeError, Called, Memory}
 
--- the refusal of a line whose expression can't be made
+-- the error of a line whose expression can't be made
 abbrev pub error_of_construction : ExpressionConstructionError → CommandError
 error_of_construction (construction.DuplicateKey e) = DuplicateKey e
 error_of_construction construction.Memory = Memory
 
--- the refusal names the types that were found to differ, or memory ran out
+-- the error names the types that were found to differ, or memory ran out
 abbrev pub NamesClash : SubstitutionError → CommandError → Type 0
 NamesClash e (TypeError clash) = e ≡ substitution.TypeError clash.value.expected clash.value.actual
 NamesClash e r = r ≡ Memory
 
--- the refusal of a line whose expression is to be a value
+-- the error of a line whose expression is to be a value
 abbrev pub error_of_value : Unread → CommandError
 error_of_value (unread.NotValue loc) = NotAValue
 error_of_value unread.Memory = Memory
 
--- the refusal names the call that was refused, or memory ran out
+-- the error names the call that was refused, or memory ran out
 abbrev pub NamesCall : BuildFault CallRefused → CommandError → Type 0
 NamesCall e (Called refused) = e ≡ build.Build refused.value
 NamesCall e r = r ≡ Memory

@@ -1,6 +1,6 @@
 -- The state of a script: a stack of expressions, whose top stands first here, and what names are
 -- bound to.
-use Rattle.std.specs.Prelude.{◌≡◌, ◌≢◌, ℕ, List, [], ◌∷◌, Option, Some, drop, take, reverse}
+use Rattle.std.specs.Prelude.{◌≡◌, ◌≢◌, ℕ, ◌+◌, List, [], ◌∷◌, Option, Some, OnOk, Result, drop, take, reverse}
 use Rattle.std.specs.Vec.{vec_len}
 use Rattle.std.specs.declared.cmp.Ordering.{Ordering}
 use Rattle.cedar_terms.specs.Types.{BareType}
@@ -33,6 +33,12 @@ Bindings = ValueMap NoExtension
 
 abbrev pub bindings_of : State → Bindings
 bindings_of state = state.bindings
+
+-- the bindings stay; and where there is no error, so many expressions are taken and so many put in
+-- their place
+abbrev pub Exchanges : {A E : Type 0} → ℕ → ℕ → State → State → Result A E → Type 0
+Exchanges taken put old new result =
+    (bindings_of new ≡ bindings_of old) × OnOk result (depth new + taken ≡ depth old + put)
 
 -- the type and the tree of what each name is bound to, as substitution sees it
 abbrev pub environment : Bindings → Env

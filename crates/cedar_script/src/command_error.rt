@@ -50,7 +50,7 @@ pub struct TypeClash {
 }
 
 impl CommandError {
-    /// The refusal of a line whose values can't be substituted; `Memory` where the box gets none.
+    /// The error of a line whose values can't be substituted; `Memory` where the box gets none.
     pub fn of_types(alloc: Global, error: SubstitutionError) -> CommandError
         ensures { NamesClash error result }
     {
@@ -65,7 +65,7 @@ impl CommandError {
         }
     }
 
-    /// The refusal of a line whose expression has no outcome; `Memory` where the box gets none.
+    /// The error of a line whose expression has no outcome; `Memory` where the box gets none.
     pub fn of_call(alloc: Global, fault: BuildFault<CallRefused>) -> CommandError
         ensures { NamesCall fault result }
     {

@@ -79,7 +79,7 @@ pub enum Command<'a> {
     Show,
     /// Shows the outcome of the top, which stays: its value, or the fault.
     Eval,
-    /// Replaces the top by what is left of it.
+    /// Replaces the top by its known value, or its residual.
     Simplify,
 }
 
@@ -90,7 +90,8 @@ impl<'a> Command<'a> {
     /// of the line is taken as it is. What is no command is a bad line.
     pub fn parse(alloc: Global, text: &'a str) -> Result<Command<'a>, CommandError>
         ensures reads { IfOk result (λ command. Reads text.now command) }
-        ensures refused { IfErr result (λ e. (e ≡ CommandError.BadLine) ⊎ (e ≡ CommandError.Memory)) }
+        ensures refused { IfErr result (λ e.
+            (e ≡ CommandError.BadLine) ⊎ (e ≡ CommandError.Memory)) }
     {
         let Some((first, rest)) = text.split_once(' ') else {
             return parse_alone(alloc, text);
@@ -240,13 +241,7 @@ fn parse_var(word: &str) -> Result<Var, CommandError>
     ensures every { OnErr result ((var : Var) → word.now ≢ var_text var) }
     ensures refused { IfErr result (λ e. e ≡ CommandError.BadLine) }
 {
-    match word {
-        "principal" => Ok(Var::Principal),
-        "action" => Ok(Var::Action),
-        "resource" => Ok(Var::Resource),
-        "context" => Ok(Var::Context),
-        _ => Err(CommandError::BadLine),
-    }
+    Var::from_text(word).ok_or(CommandError::BadLine)
 }
 
 // The slot that has this text behind a question mark.
@@ -282,14 +277,7 @@ fn parse_type(word: &str) -> Result<Type, CommandError>
     ensures named { IfOk result (λ ty. word.now ≡ type_text (bare_type ty)) }
     ensures refused { IfErr result (λ e. e ≡ CommandError.BadLine) }
 {
-    match word {
-        "bool" => Ok(Type::Bool),
-        "long" => Ok(Type::Long),
-        "string" => Ok(Type::String),
-        "set" => Ok(Type::Set),
-        "record" => Ok(Type::Record),
-        _ => Err(CommandError::BadLine),
-    }
+    Type::from_text(word).ok_or(CommandError::BadLine)
 }
 
 // The operator of two arguments that has this text.
@@ -298,19 +286,5 @@ fn parse_binary_op(word: &str) -> Result<BinaryOp, CommandError>
     ensures every { OnErr result ((op : BinaryOp) → word.now ≢ binary_op_text op) }
     ensures refused { IfErr result (λ e. e ≡ CommandError.BadLine) }
 {
-    match word {
-        "==" => Ok(BinaryOp::Eq),
-        "<" => Ok(BinaryOp::Less),
-        "<=" => Ok(BinaryOp::LessEq),
-        "+" => Ok(BinaryOp::Add),
-        "-" => Ok(BinaryOp::Sub),
-        "*" => Ok(BinaryOp::Mul),
-        "in" => Ok(BinaryOp::In),
-        "contains" => Ok(BinaryOp::Contains),
-        "containsAll" => Ok(BinaryOp::ContainsAll),
-        "containsAny" => Ok(BinaryOp::ContainsAny),
-        "getTag" => Ok(BinaryOp::GetTag),
-        "hasTag" => Ok(BinaryOp::HasTag),
-        _ => Err(CommandError::BadLine),
-    }
+    BinaryOp::from_text(word).ok_or(CommandError::BadLine)
 }

@@ -18,11 +18,11 @@ ghost use Rattle.cedar_builders.specs.Keys.{keyed};
 ghost use Rattle.semantics_values.specs.Reading.{IsValueOf};
 ghost use Rattle.cedar_values.specs.BareValues.{bare_value};
 ghost use Rattle.cedar_evaluator.specs.Texts.{outcome_text};
-ghost use Rattle.cedar_script.specs.CommandEffects.{needed_count, left_count, key_pairs, record_of, what_is_left, Works, Binds, Shows};
+ghost use Rattle.cedar_script.specs.CommandEffects.{needed_count, made_count, key_pairs, record_of, residual_of, Works, Binds, Shows};
 ghost use Rattle.cedar_script.specs.CommandWords.{texts_now};
 ghost use Rattle.cedar_script.specs.CommandErrors.{IsCallError, IsValueError};
 ghost use Rattle.cedar_sketch.specs.SketchTexts.{sketch_ops};
-ghost use Rattle.cedar_script.specs.Stack.{stack_of, depth, bindings_of, environment, binding_of, IsBoundTo, IsBoundToValueOf, TopHas, ReplacesOne, ReplacesTwo, ReplacesThree, ReplacesMany};
+ghost use Rattle.cedar_script.specs.Stack.{stack_of, depth, bindings_of, environment, binding_of, Exchanges, IsBoundTo, IsBoundToValueOf, TopHas, ReplacesOne, ReplacesTwo, ReplacesThree, ReplacesMany};
 ghost use Rattle.cedar_script.specs.declared.line.Command.{Command};
 
 use crate::command_error::CommandError;
@@ -64,7 +64,7 @@ impl State {
     /// Works a command, and gives the text that it shows, if it shows one.
     ///
     /// Before anything else it is checked that the stack has the expressions that the command
-    /// needs. After a refusal some of them may be gone.
+    /// needs. After an error some of them may be gone.
     pub fn work(&mut self, alloc: Global, command: Command<'_>) -> CommandOutput
         ensures works { OnOk result
             (Works ⟦<Simplifier as Builder>⟧.ops (environment (bindings_of self.old))
@@ -73,7 +73,7 @@ impl State {
             (Binds ⟦<NoExtension as Ord>⟧.cmp command.entry self.old self.new) }
         ensures depth { OnOk result
             (depth self.new + needed_count command.entry
-            ≡ depth self.old + left_count command.entry) }
+            ≡ depth self.old + made_count command.entry) }
         ensures too_few { IsErrOf result CommandError.TooFewExpressions
             ↔ (depth self.old < needed_count command.entry) }
         ensures shows { IfOk result
@@ -121,8 +121,7 @@ impl State {
     fn push(&mut self, expr: Expr) -> CommandOutput
         ensures shows { IfOk result (λ shown. shown ≡ None) }
         ensures pushed { OnOk result (stack_of self.new ≡ expr ∷ stack_of self.old) }
-        ensures depth { OnOk result (depth self.new ≡ depth self.old + 1) }
-        ensures bindings { bindings_of self.new ≡ bindings_of self.old }
+        ensures exchanges { Exchanges 0 1 self.old self.new result }
         ensures refused { IfErr result (λ e. e ≡ CommandError.Memory) }
     {
         // `push` would move it once more, since its error has the expression.
@@ -135,8 +134,7 @@ impl State {
     #[tactic(auto, using(crate::proofs::Stacks::reverse_push))]
     fn pop(&mut self) -> Result<Expr, CommandError>
         ensures popped { IfOk result (λ top. stack_of self.old ≡ top ∷ stack_of self.new) }
-        ensures bindings { bindings_of self.new ≡ bindings_of self.old }
-        ensures depth { OnOk result (depth self.new + 1 ≡ depth self.old) }
+        ensures exchanges { Exchanges 1 0 self.old self.new result }
         ensures too_few { IfErr result (λ e.
             (e ≡ CommandError.TooFewExpressions) × (depth self.old < 1)) }
     {
@@ -149,9 +147,8 @@ impl State {
         ensures popped { IfOk result (λ exprs.
             exprs.items ≡ reverse (take count (stack_of self.old))) }
         ensures below { OnOk result (stack_of self.new ≡ drop count (stack_of self.old)) }
-        ensures bindings { bindings_of self.new ≡ bindings_of self.old }
-        ensures depth { IfOk result (λ exprs.
-            (vec_len exprs ≡ count) × (depth self.new + count ≡ depth self.old)) }
+        ensures count { IfOk result (λ exprs. vec_len exprs ≡ count) }
+        ensures exchanges { Exchanges count 0 self.old self.new result }
         ensures too_few { IsErrOf result CommandError.TooFewExpressions ↔ (depth self.old < count) }
     {
         match self.stack.len().checked_sub(count) {
@@ -169,11 +166,10 @@ impl State {
         F: FnOnce(Global, Expr) -> Result<Expr, AllocError>,
         requires { F.IsAlwaysCallable make }
         ensures shows { IfOk result (λ shown. shown ≡ None) }
-        ensures bindings { bindings_of self.new ≡ bindings_of self.old }
         ensures made { OnOk result (ReplacesOne
             (λ a e. F.post make alloc a (Ok e))
             (stack_of self.old) (stack_of self.new)) }
-        ensures depth { OnOk result (depth self.new ≡ depth self.old) }
+        ensures exchanges { Exchanges 1 1 self.old self.new result }
         ensures too_few { IsErrOf result CommandError.TooFewExpressions ↔ (depth self.old < 1) }
     {
         let top = self.pop()?;
@@ -187,11 +183,10 @@ impl State {
         F: FnOnce(Global, Expr, Expr) -> Result<Expr, AllocError>,
         requires { F.IsAlwaysCallable make }
         ensures shows { IfOk result (λ shown. shown ≡ None) }
-        ensures bindings { bindings_of self.new ≡ bindings_of self.old }
         ensures made { OnOk result (ReplacesTwo
             (λ a b e. F.post make alloc a b (Ok e))
             (stack_of self.old) (stack_of self.new)) }
-        ensures depth { OnOk result (depth self.new + 1 ≡ depth self.old) }
+        ensures exchanges { Exchanges 2 1 self.old self.new result }
         ensures too_few { IsErrOf result CommandError.TooFewExpressions ↔ (depth self.old < 2) }
     {
         let upper = self.pop()?;
@@ -203,11 +198,10 @@ impl State {
     #[inline(never)]
     fn make_conditional(&mut self, alloc: Global) -> CommandOutput
         ensures shows { IfOk result (λ shown. shown ≡ None) }
-        ensures bindings { bindings_of self.new ≡ bindings_of self.old }
         ensures made { OnOk result (ReplacesThree
             (λ a b c e. bare_expr e ≡ tree_ops.if_of (bare_expr a) (bare_expr b) (bare_expr c))
             (stack_of self.old) (stack_of self.new)) }
-        ensures depth { OnOk result (depth self.new + 2 ≡ depth self.old) }
+        ensures exchanges { Exchanges 3 1 self.old self.new result }
         ensures too_few { IsErrOf result CommandError.TooFewExpressions ↔ (depth self.old < 3) }
     {
         let else_expr = self.pop()?;
@@ -220,11 +214,10 @@ impl State {
     #[inline(never)]
     fn make_call(&mut self, alloc: Global, name: Name, count: usize) -> CommandOutput
         ensures shows { IfOk result (λ shown. shown ≡ None) }
-        ensures bindings { bindings_of self.new ≡ bindings_of self.old }
         ensures made { OnOk result (ReplacesMany count
             (λ args e. bare_expr e ≡ call_tree (bare_name name) (bare_exprs args))
             (stack_of self.old) (stack_of self.new)) }
-        ensures depth { OnOk result (depth self.new + count ≡ depth self.old + 1) }
+        ensures exchanges { Exchanges count 1 self.old self.new result }
         ensures too_few { IsErrOf result CommandError.TooFewExpressions ↔ (depth self.old < count) }
     {
         let args = self.pop_many(alloc, count)?;
@@ -235,11 +228,10 @@ impl State {
     #[inline(never)]
     fn make_set(&mut self, alloc: Global, count: usize) -> CommandOutput
         ensures shows { IfOk result (λ shown. shown ≡ None) }
-        ensures bindings { bindings_of self.new ≡ bindings_of self.old }
         ensures made { OnOk result (ReplacesMany count
             (λ es e. bare_expr e ≡ members (bare_exprs es))
             (stack_of self.old) (stack_of self.new)) }
-        ensures depth { OnOk result (depth self.new + count ≡ depth self.old + 1) }
+        ensures exchanges { Exchanges count 1 self.old self.new result }
         ensures too_few { IsErrOf result CommandError.TooFewExpressions ↔ (depth self.old < count) }
     {
         let members = self.pop_many(alloc, count)?;
@@ -250,11 +242,10 @@ impl State {
     #[inline(never)]
     fn make_record(&mut self, alloc: Global, keys: Vec<&str>) -> CommandOutput
         ensures shows { IfOk result (λ shown. shown ≡ None) }
-        ensures bindings { bindings_of self.new ≡ bindings_of self.old }
         ensures made { OnOk result (ReplacesMany (vec_len keys.entry)
             (λ values e. bare_expr e ≡ record_of keys.entry.items values)
             (stack_of self.old) (stack_of self.new)) }
-        ensures depth { OnOk result (depth self.new + vec_len keys.entry ≡ depth self.old + 1) }
+        ensures exchanges { Exchanges (vec_len keys.entry) 1 self.old self.new result }
         ensures too_few { IsErrOf result CommandError.TooFewExpressions
             ↔ (depth self.old < vec_len keys.entry) }
     {
@@ -297,12 +288,11 @@ impl State {
     #[inline(never)]
     fn substitute(&mut self, alloc: Global) -> CommandOutput
         ensures shows { IfOk result (λ shown. shown ≡ None) }
-        ensures bindings { bindings_of self.new ≡ bindings_of self.old }
         ensures made { OnOk result (ReplacesOne
             (λ a e. fold tree_ops (environment (bindings_of self.old)) (bare_expr a)
             ≡ Ok (bare_expr e))
             (stack_of self.old) (stack_of self.new)) }
-        ensures depth { OnOk result (depth self.new ≡ depth self.old) }
+        ensures exchanges { Exchanges 1 1 self.old self.new result }
         ensures too_few { IsErrOf result CommandError.TooFewExpressions ↔ (depth self.old < 1) }
     {
         let top = self.pop()?.substitute(alloc, &self.bindings)?;
@@ -313,34 +303,32 @@ impl State {
     #[inline(never)]
     fn substitute_typed(&mut self, alloc: Global) -> CommandOutput
         ensures shows { IfOk result (λ shown. shown ≡ None) }
-        ensures bindings { bindings_of self.new ≡ bindings_of self.old }
         ensures made { OnOk result (ReplacesOne
             (λ a e. (fold tree_ops (environment (bindings_of self.old)) (bare_expr a)
             ≡ Ok (bare_expr e))
             × (clash (environment (bindings_of self.old)) (bare_expr a) ≡ None))
             (stack_of self.old) (stack_of self.new)) }
-        ensures depth { OnOk result (depth self.new ≡ depth self.old) }
+        ensures exchanges { Exchanges 1 1 self.old self.new result }
         ensures too_few { IsErrOf result CommandError.TooFewExpressions ↔ (depth self.old < 1) }
     {
         let top = substitute_typed(alloc, &self.pop()?, &self.bindings)?;
         self.push(top)
     }
 
-    // Replaces the top by what is left of it.
+    // Replaces the top by its known value or its residual.
     #[inline(never)]
     fn simplify(&mut self, alloc: Global) -> CommandOutput
         ensures shows { IfOk result (λ shown. shown ≡ None) }
-        ensures bindings { bindings_of self.new ≡ bindings_of self.old }
         ensures made { OnOk result (ReplacesOne
             (λ a e. bare_expr e
-            ≡ what_is_left ⟦<Simplifier as Builder>⟧.ops (environment (bindings_of self.old))
+            ≡ residual_of ⟦<Simplifier as Builder>⟧.ops (environment (bindings_of self.old))
             (bare_expr a))
             (stack_of self.old) (stack_of self.new)) }
-        ensures depth { OnOk result (depth self.new ≡ depth self.old) }
+        ensures exchanges { Exchanges 1 1 self.old self.new result }
         ensures too_few { IsErrOf result CommandError.TooFewExpressions ↔ (depth self.old < 1) }
     {
-        let left = simplify(alloc, &self.pop()?, &self.bindings)?;
-        self.push(left.into_expr(alloc)?)
+        let simplified = simplify(alloc, &self.pop()?, &self.bindings)?;
+        self.push(simplified.into_expr(alloc)?)
     }
 
     // Shows the top, which stays.
@@ -371,10 +359,12 @@ impl State {
     fn write_outcome(&self, alloc: Global, expr: &Expr) -> Result<String, CommandError>
         ensures text { IfOk result (λ text.
             on_one outcome_text
-            (fold ⟦<Evaluator as Builder>⟧.ops (environment (bindings_of self.now)) (bare_expr expr.now))
+            (fold ⟦<Evaluator as Builder>⟧.ops (environment (bindings_of self.now))
+            (bare_expr expr.now))
             ≡ Ok (string_bytes text)) }
         ensures refused { IfErr result (IsCallError
-            (fold ⟦<Evaluator as Builder>⟧.ops (environment (bindings_of self.now)) (bare_expr expr.now))) }
+            (fold ⟦<Evaluator as Builder>⟧.ops (environment (bindings_of self.now))
+            (bare_expr expr.now))) }
     {
         match evaluate(alloc, expr, &self.bindings) {
             Ok(outcome) => Ok(outcome.to_string(alloc)?),

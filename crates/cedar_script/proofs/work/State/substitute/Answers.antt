@@ -10,5 +10,5 @@ pub returns-clause-made : goal.returns-clause-made
 returns-clause-made c =
     let a = c.in_ok-pop.field-0 in
     let e = c.in_ok-top.top in
-    let made = subst (λ b. fold tree_ops (environment b) (bare_expr a) ≡ Ok (bare_expr e)) c.in_ok-pop.ensures.bindings c.in_ok-top.ensures in
+    let made = subst (λ b. fold tree_ops (environment b) (bare_expr a) ≡ Ok (bare_expr e)) c.in_ok-pop.ensures.exchanges.0 c.in_ok-top.ensures in
     replaced_one (λ a e. fold tree_ops (environment (bindings_of c.args.self.now)) (bare_expr a) ≡ Ok (bare_expr e)) _ _ _ a e c.push.result c.in_ok-pop.ensures.popped made c.push.ensures.pushed

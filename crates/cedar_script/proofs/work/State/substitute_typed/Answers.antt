@@ -16,5 +16,5 @@ pub returns-clause-made : goal.returns-clause-made
 returns-clause-made c =
     let a = c.in_ok-pop.field-0 in
     let e = c.in_ok-top.top in
-    let made = subst (λ b. Is b a e) c.in_ok-pop.ensures.bindings (c.in_ok-top.ensures.substituted, c.in_ok-top.ensures.passed) in
+    let made = subst (λ b. Is b a e) c.in_ok-pop.ensures.exchanges.0 (c.in_ok-top.ensures.substituted, c.in_ok-top.ensures.passed) in
     replaced_one (Is (bindings_of c.args.self.now)) _ _ _ a e c.push.result c.in_ok-pop.ensures.popped made c.push.ensures.pushed
