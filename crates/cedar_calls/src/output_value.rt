@@ -33,7 +33,9 @@ impl<X: Drop> ExtensionOutputValue<X> {
 }
 
 impl<X> From<Value<X>> for ExtensionOutputValue<X> {
-    ghost use Rattle.cedar_calls.specs.declared.output_value.ExtensionOutputValue.TheVariants.{Known};
+    ghost use Rattle.cedar_calls.specs.declared.output_value.ExtensionOutputValue.TheVariants.{
+      Known,
+    };
 
     ghost from_gives = { λ v o. o ≡ Known v };
 

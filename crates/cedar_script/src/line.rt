@@ -1,5 +1,18 @@
 //! The lines of the script, read as commands.
-ghost use Rattle.std.specs.Prelude.{◌≡◌, ◌≢◌, ◌==◌, ◌⊎◌, ◌∷◌, [], IfOk, OnErr, IfErr, IsTrue, false, slice_index};
+ghost use Rattle.std.specs.Prelude.{
+  ◌≡◌,
+  ◌≢◌,
+  ◌==◌,
+  ◌⊎◌,
+  ◌∷◌,
+  [],
+  IfOk,
+  OnErr,
+  IfErr,
+  IsTrue,
+  false,
+  slice_index,
+};
 ghost use Rattle.std.specs.Result.{OkIff};
 ghost use Rattle.std.specs.Str.Parse.{digits_value, signed_digits_value};
 ghost use Rattle.cedar_names.specs.Names.{IsNameOf, has_reserved};

@@ -3,12 +3,39 @@
 //!
 //! No command of some size is inlined: else `work` would keep room for the locals of all commands,
 //! and set it to zero at each line.
-ghost use Rattle.std.specs.Prelude.{◌≡◌, ◌≢◌, [], ◌∷◌, Ok, None, drop, take, reverse, ◌+◌, ◌<◌, ◌↔◌, OnOk, IfOk, IsErrOf, IfErr, map, string_bytes, vec_len};
+ghost use Rattle.std.specs.Prelude.{
+  ◌≡◌,
+  ◌≢◌,
+  [],
+  ◌∷◌,
+  Ok,
+  None,
+  drop,
+  take,
+  reverse,
+  ◌+◌,
+  ◌<◌,
+  ◌↔◌,
+  OnOk,
+  IfOk,
+  IsErrOf,
+  IfErr,
+  map,
+  string_bytes,
+  vec_len,
+};
 ghost use Rattle.std.specs.Rc.{rc_str_bytes};
 ghost use Rattle.cedar_names.specs.PlainNames.{bare_name};
 ghost use Rattle.cedar_terms.specs.Literals.{StringLit};
 ghost use Rattle.cedar_terms.specs.Unknowns.{bare_annotation};
-ghost use Rattle.cedar_builders.specs.BareExpr.{Lit, Unknown as unknown_tree, And, Or, ExtensionFunctionApp as call_tree, Set as members};
+ghost use Rattle.cedar_builders.specs.BareExpr.{
+  Lit,
+  Unknown as unknown_tree,
+  And,
+  Or,
+  ExtensionFunctionApp as call_tree,
+  Set as members,
+};
 ghost use Rattle.cedar_builders.specs.TypeClash.{clash};
 ghost use Rattle.cedar_builders.specs.Environment.{empty, fold};
 ghost use Rattle.cedar_builders.specs.Fold.{on_one};
@@ -18,11 +45,34 @@ ghost use Rattle.cedar_builders.specs.Keys.{keyed};
 ghost use Rattle.semantics_values.specs.Reading.{IsValueOf};
 ghost use Rattle.cedar_values.specs.BareValues.{bare_value};
 ghost use Rattle.cedar_evaluator.specs.Texts.{outcome_text};
-ghost use Rattle.cedar_script.specs.CommandEffects.{needed_count, made_count, key_pairs, record_of, residual_of, Works, Binds, Shows};
+ghost use Rattle.cedar_script.specs.CommandEffects.{
+  needed_count,
+  made_count,
+  key_pairs,
+  record_of,
+  residual_of,
+  Works,
+  Binds,
+  Shows,
+};
 ghost use Rattle.cedar_script.specs.CommandWords.{texts_now};
 ghost use Rattle.cedar_script.specs.CommandErrors.{IsCallError, IsValueError};
 ghost use Rattle.cedar_sketch.specs.SketchTexts.{sketch_ops};
-ghost use Rattle.cedar_script.specs.Stack.{stack_of, depth, bindings_of, environment, binding_of, Exchanges, IsBoundTo, IsBoundToValueOf, TopHas, ReplacesOne, ReplacesTwo, ReplacesThree, ReplacesMany};
+ghost use Rattle.cedar_script.specs.Stack.{
+  stack_of,
+  depth,
+  bindings_of,
+  environment,
+  binding_of,
+  Exchanges,
+  IsBoundTo,
+  IsBoundToValueOf,
+  TopHas,
+  ReplacesOne,
+  ReplacesTwo,
+  ReplacesThree,
+  ReplacesMany,
+};
 ghost use Rattle.cedar_script.specs.declared.line.Command.{Command};
 
 use crate::command_error::CommandError;

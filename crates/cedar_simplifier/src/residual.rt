@@ -2,7 +2,17 @@
 ghost use Rattle.std.specs.Prelude.{◌≡◌, IfOk, map};
 ghost use Rattle.std.specs.Rc.{rc_str_bytes};
 ghost use Rattle.cedar_terms.specs.Entities.{bare_entity_type};
-ghost use Rattle.cedar_builders.specs.BareExpr.{And, BinaryApp, GetAttr, HasAttr, If, Is, Like, Or, UnaryApp};
+ghost use Rattle.cedar_builders.specs.BareExpr.{
+  And,
+  BinaryApp,
+  GetAttr,
+  HasAttr,
+  If,
+  Is,
+  Like,
+  Or,
+  UnaryApp,
+};
 ghost use Rattle.cedar_values.specs.Holders.{held_call};
 ghost use Rattle.semantics_simplify.specs.Simplified.{Residual, tree_of};
 ghost use Rattle.cedar_simplifier.specs.Simplified.{bare_tree, meaning_of};

@@ -37,7 +37,12 @@ impl Simplified {
     ghost use Rattle.cedar_values.specs.WellFormed.{well_formed};
     ghost use Rattle.semantics_values.specs.BareValue.{LitValue};
     ghost use Rattle.semantics_simplify.specs.Simplified as meant;
-    ghost use Rattle.cedar_simplifier.specs.Simplified.{bare_tree, held_value, known_value, meaning_of};
+    ghost use Rattle.cedar_simplifier.specs.Simplified.{
+      bare_tree,
+      held_value,
+      known_value,
+      meaning_of,
+    };
 
     /// The value, if it is known.
     pub fn as_value(&self) -> Option<&Value<NoExtension>>

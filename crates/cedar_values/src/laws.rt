@@ -36,7 +36,9 @@ ghost use Rattle.cedar_values.specs.WellFormed.{kind_well_formed, set_well_forme
 ghost use Rattle.cedar_values.specs.declared.value.ValueKind.TheVariants as kinds;
 ghost use Rattle.cedar_values.specs.ValueMaps.{HasPlainValues, ValueMap, values_env};
 ghost use Rattle.cedar_values.specs.declared.partial_value.PartialValue.{PartialValue};
-ghost use Rattle.cedar_values.specs.declared.extension_value.RepresentableExtensionValue.{RepresentableExtensionValue};
+ghost use Rattle.cedar_values.specs.declared.extension_value.RepresentableExtensionValue.{
+  RepresentableExtensionValue,
+};
 ghost use Rattle.cedar_values.specs.declared.set.Set.{Set};
 ghost use Rattle.cedar_values.specs.declared.value.Value.{Value};
 ghost use Rattle.cedar_values.specs.declared.value.ValueKind.{ValueKind};

@@ -11,7 +11,12 @@ ghost use Rattle.cedar_exprs.specs.RestrictedExprs.{bare_restricted_expr};
 ghost use Rattle.semantics_values.specs.Reading.{ReadsBack};
 ghost use Rattle.semantics_values.specs.ValueExpr.{call_expr, value_expr};
 ghost use Rattle.cedar_values.specs.BareCalls.{bare_call};
-ghost use Rattle.cedar_values.specs.BareValues.{bare_representable, bare_value, bare_value_kind, value_place};
+ghost use Rattle.cedar_values.specs.BareValues.{
+  bare_representable,
+  bare_value,
+  bare_value_kind,
+  value_place,
+};
 ghost use Rattle.cedar_values.specs.Conversions.{bare_pairs};
 ghost use Rattle.cedar_values.specs.Counts.{nodes, nodes_of, pair_nodes};
 ghost use Rattle.cedar_values.specs.Rows.{
