@@ -1,6 +1,7 @@
 pub mod Nodes
 pub mod RecordNodes
-pub mod KnownOperands
+pub mod Operands
+pub mod Made
 pub mod KnownChildren
 pub mod Branches
 pub mod OnePass

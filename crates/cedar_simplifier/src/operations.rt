@@ -44,7 +44,7 @@ fn tested(answer: Option<bool>) -> Option<Literal>
 }
 
 // An operator on one argument.
-#[tactic(auto, using(crate::proofs::KnownOperands::outcome_known, crate::proofs::KnownOperands::outcome_of_residual))]
+#[tactic(auto, using(crate::proofs::Operands::known, crate::proofs::Operands::residual))]
 pub(crate) fn apply_one(op: UnaryOp, arg: &Simplified) -> Option<Literal>
     ensures { literal_value result ≡ value_in (strict (one op) (outcome_of (meaning_of arg.now))) }
 {
@@ -55,7 +55,7 @@ pub(crate) fn apply_one(op: UnaryOp, arg: &Simplified) -> Option<Literal>
 }
 
 // An operator on two arguments.
-#[tactic(auto, using(crate::proofs::KnownOperands::outcome_known, crate::proofs::KnownOperands::outcome_of_residual))]
+#[tactic(auto, using(crate::proofs::Operands::known, crate::proofs::Operands::residual))]
 pub(crate) fn apply_two(op: BinaryOp, left: &Simplified, right: &Simplified) -> Option<Literal>
     ensures { literal_value result ≡ value_in
         (strict_two (two ⟦<NoExtension as Ord>⟧.cmp ⟦<NoExtension as PartialEq>⟧.eq op)
@@ -71,7 +71,7 @@ pub(crate) fn apply_two(op: BinaryOp, left: &Simplified, right: &Simplified) -> 
 }
 
 // The value of an attribute.
-#[tactic(auto, using(crate::proofs::KnownOperands::outcome_known, crate::proofs::KnownOperands::outcome_of_residual))]
+#[tactic(auto, using(crate::proofs::Operands::known, crate::proofs::Operands::residual))]
 pub(crate) fn get(
     alloc: Global,
     expr: &Simplified,
@@ -93,7 +93,7 @@ pub(crate) fn get(
 }
 
 // Whether a path of attributes is there.
-#[tactic(auto, using(crate::proofs::KnownOperands::outcome_known, crate::proofs::KnownOperands::outcome_of_residual))]
+#[tactic(auto, using(crate::proofs::Operands::known, crate::proofs::Operands::residual))]
 pub(crate) fn has(expr: &Simplified, attrs: &NonEmpty<RcStr>) -> Option<Literal>
     ensures { literal_value result ≡ value_in
         (path_in (outcome_of (meaning_of expr.now)) (rc_str_bytes attrs.now.head)
@@ -109,7 +109,7 @@ pub(crate) fn has(expr: &Simplified, attrs: &NonEmpty<RcStr>) -> Option<Literal>
 }
 
 // Whether a pattern matches the text.
-#[tactic(auto, using(crate::proofs::KnownOperands::outcome_known, crate::proofs::KnownOperands::outcome_of_residual))]
+#[tactic(auto, using(crate::proofs::Operands::known, crate::proofs::Operands::residual))]
 pub(crate) fn like(expr: &Simplified, pattern: &Pattern) -> Option<Literal>
     ensures { literal_value result
         ≡ value_in (strict (like_in pattern.now) (outcome_of (meaning_of expr.now))) }
@@ -121,7 +121,7 @@ pub(crate) fn like(expr: &Simplified, pattern: &Pattern) -> Option<Literal>
 }
 
 // Whether the entity is of a type.
-#[tactic(auto, using(crate::proofs::KnownOperands::outcome_known, crate::proofs::KnownOperands::outcome_of_residual))]
+#[tactic(auto, using(crate::proofs::Operands::known, crate::proofs::Operands::residual))]
 pub(crate) fn is_of_type(expr: &Simplified, ty: &EntityType) -> Option<Literal>
     ensures { literal_value result
         ≡ value_in (strict (is_in (bare_entity_type ty.now)) (outcome_of (meaning_of expr.now))) }

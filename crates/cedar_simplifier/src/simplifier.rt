@@ -151,7 +151,7 @@ impl ExprBuilder for Simplifier {
         }
     }
 
-    #[tactic(auto, using(crate::proofs::KnownOperands::made_known, crate::proofs::KnownOperands::made_residual))]
+    #[tactic(auto, using(crate::proofs::Made::known, crate::proofs::Made::residual))]
     fn unary_app(
         self,
         alloc: Global,
@@ -164,7 +164,7 @@ impl ExprBuilder for Simplifier {
         }
     }
 
-    #[tactic(auto, using(crate::proofs::KnownOperands::made_known, crate::proofs::KnownOperands::made_residual))]
+    #[tactic(auto, using(crate::proofs::Made::known, crate::proofs::Made::residual))]
     fn binary_app(
         self,
         alloc: Global,
@@ -192,7 +192,7 @@ impl ExprBuilder for Simplifier {
         Ok(self.residual(Tree::call(alloc, fn_name, children)?))
     }
 
-    #[tactic(auto, using(crate::proofs::KnownOperands::made_known, crate::proofs::KnownOperands::made_residual))]
+    #[tactic(auto, using(crate::proofs::Made::known, crate::proofs::Made::residual))]
     fn get_attr(
         self,
         alloc: Global,
@@ -205,7 +205,7 @@ impl ExprBuilder for Simplifier {
         }
     }
 
-    #[tactic(auto, using(crate::proofs::KnownOperands::made_known, crate::proofs::KnownOperands::made_residual))]
+    #[tactic(auto, using(crate::proofs::Made::known, crate::proofs::Made::residual))]
     fn extended_has_attr(
         self,
         alloc: Global,
@@ -218,7 +218,7 @@ impl ExprBuilder for Simplifier {
         }
     }
 
-    #[tactic(auto, using(crate::proofs::KnownOperands::made_known, crate::proofs::KnownOperands::made_residual))]
+    #[tactic(auto, using(crate::proofs::Made::known, crate::proofs::Made::residual))]
     fn like(
         self,
         alloc: Global,
@@ -231,7 +231,7 @@ impl ExprBuilder for Simplifier {
         }
     }
 
-    #[tactic(auto, using(crate::proofs::KnownOperands::made_known, crate::proofs::KnownOperands::made_residual))]
+    #[tactic(auto, using(crate::proofs::Made::known, crate::proofs::Made::residual))]
     fn is_entity_type(
         self,
         alloc: Global,

@@ -1,4 +1,4 @@
-use Rattle.cedar_simplifier.proofs.KnownOperands.{open_path}
+use Rattle.cedar_simplifier.proofs.Operands.{open_path}
 use Rattle.cedar_simplifier.proofs.operations.has.Goals as goal
 
 pub returns-in-None : goal.returns-in-None
