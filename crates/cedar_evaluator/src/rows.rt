@@ -1,4 +1,4 @@
-//! Rows of outcomes: their values, or the first fault.
+//! The outcomes of a node's children: their values, or the first fault.
 ghost use Rattle.std.specs.Prelude.{◌≡◌, IfOk, IsTrue, OnOk, map};
 ghost use Rattle.std.specs.BTreeMap.{insert_entry};
 ghost use Rattle.std.specs.List.{list_all};
@@ -21,7 +21,7 @@ use std::alloc::{AllocError, Global};
 use std::collections::BTreeMap;
 use std::rc::{Rc, RcStr};
 
-// The values of a row, or its first fault.
+// The values of a set's members, or the first fault.
 pub(crate) fn split_row(
     alloc: Global,
     row: Vec<Outcome>,
@@ -59,7 +59,7 @@ pub fn set_of(
     Ok(Value::new(ValueKind::Set(set), None))
 }
 
-// The keys and values of a row, or its first fault.
+// The keys and values of a record, or the first fault.
 pub(crate) fn split_pairs(
     alloc: Global,
     row: Vec<(RcStr, Outcome)>,

@@ -29,31 +29,22 @@ pub(crate) fn is_boolean_kind(expr: &Expr) -> bool
 fn is_boolean_literal(literal: &Literal) -> bool
     ensures { result ≡ is_some (literal_bool (bare_literal literal.now)) }
 {
-    match literal {
-        Literal::Bool(_) => true,
-        _ => false,
-    }
+    matches!(literal, Literal::Bool(_))
 }
 
 // Whether an operator on one argument gives only Booleans.
 fn is_unary_test(op: UnaryOp) -> bool
     ensures { result ≡ kinds.is_unary_test op }
 {
-    match op {
-        UnaryOp::Neg => false,
-        _ => true,
-    }
+    !matches!(op, UnaryOp::Neg)
 }
 
 // Whether an operator on two arguments gives only Booleans.
 fn is_binary_test(op: BinaryOp) -> bool
     ensures { result ≡ kinds.is_binary_test op }
 {
-    match op {
-        BinaryOp::Add => false,
-        BinaryOp::Sub => false,
-        BinaryOp::Mul => false,
-        BinaryOp::GetTag => false,
-        _ => true,
-    }
+    !matches!(
+        op,
+        BinaryOp::Add | BinaryOp::Sub | BinaryOp::Mul | BinaryOp::GetTag
+    )
 }
