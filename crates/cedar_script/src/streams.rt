@@ -3,8 +3,9 @@ ghost use Rattle.std.specs.Prelude.{◌≡◌, IfErr, IfOk, IfSome, OnOk};
 ghost use Rattle.std.specs.Io.KnownBytes.{IsAtEnd};
 ghost use Rattle.std.specs.IoError.{error_kind};
 ghost use Rattle.cedar_script.specs.StreamFaults.{IsInputFault, read_fault, write_fault};
+ghost use Rattle.cedar_script.specs.declared.streams.StreamFault.TheVariants.{Memory};
 
-use std::alloc::Global;
+use std::alloc::{AllocError, Global};
 use std::io::{self, Read};
 use thiserror::Error;
 
@@ -41,6 +42,14 @@ impl StreamFault {
             io::ErrorKind::OutOfMemory => StreamFault::Memory,
             _ => StreamFault::Output,
         }
+    }
+}
+
+impl From<AllocError> for StreamFault {
+    ghost from_gives = { λ _ e. e ≡ Memory };
+
+    fn from(_error: AllocError) -> StreamFault {
+        StreamFault::Memory
     }
 }
 
