@@ -1,4 +1,5 @@
-//! The functions that rows call, and the table that validation and types go by.
+//! The extension functions that recorded calls name, and the table that validation and types go
+//! by.
 use crate::keyed::{Echo, Keyed, NoValue, OneArgument, TwoArguments};
 use calls_syntax::{CallError, name};
 use cedar_calls::{Extension, ExtensionFunction, Extensions};

@@ -1,15 +1,15 @@
-//! The expressions, values and extension functions that parts of a row stand for, and how rows
-//! write expressions. `docs/CALLS.md` describes the language.
+//! The expressions, values and extension functions that the arguments of recorded calls stand for,
+//! and how answers write expressions. `docs/CALLS.md` describes the language.
 #![tactic(auto)]
 
-mod expr_parts;
+mod exprs;
 mod functions;
 mod keyed;
 mod sketched;
-mod value_parts;
+mod values;
 
-pub use crate::expr_parts::{attributes, binary, expr, exprs, unary};
+pub use crate::exprs::{attributes, binary, expr, exprs, unary};
 pub use crate::functions::{function, table};
 pub use crate::keyed::{Echo, Keyed, NoValue, OneArgument, TwoArguments};
 pub use crate::sketched::{placed, sketch};
-pub use crate::value_parts::{KeyedValue, bindings, literals, value, value_pairs, values};
+pub use crate::values::{KeyedValue, bindings, literals, value, value_pairs, values};

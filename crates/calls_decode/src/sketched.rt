@@ -1,4 +1,4 @@
-//! How rows write expressions.
+//! How answers write expressions.
 use calls_syntax::{CallError, join, place};
 use cedar_exprs::Expr;
 use cedar_sketch::Sketch;

@@ -2,7 +2,7 @@
 use Rattle.std.specs.Prelude.{ℕ, List, codes, if◌then◌else◌}
 use Rattle.std.specs.Str.{bytes_eq}
 
--- a bit for each function that rows have refused; all others have one bit
+-- a bit for each function that recorded calls have refused; all others have one bit
 abbrev pub bit_of : List ℕ → ℕ
 bit_of text =
     if bytes_eq text (codes "f") then 1 else

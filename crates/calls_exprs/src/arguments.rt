@@ -12,48 +12,48 @@ use std::rc::{Rc, RcStr};
 
 /// What the data of a tree may be.
 pub trait Data: Default + Copy {
-    /// The expression that a part stands for, which has the data of a new builder. With data it is
+    /// The expression that an argument stands for, which has the data of a new builder. With data it is
     /// a leaf.
-    fn read(alloc: Global, part: &Sexpr) -> Result<Expr<Self>, CallError>;
+    fn read(alloc: Global, sexpr: &Sexpr) -> Result<Expr<Self>, CallError>;
 }
 
 impl Data for () {
-    fn read(alloc: Global, part: &Sexpr) -> Result<Expr, CallError> {
-        expr(alloc, part)
+    fn read(alloc: Global, sexpr: &Sexpr) -> Result<Expr, CallError> {
+        expr(alloc, sexpr)
     }
 }
 
 impl Data for u8 {
-    fn read(alloc: Global, part: &Sexpr) -> Result<Expr<u8>, CallError> {
-        leaf_expr(alloc, ExprBuilder::new(), &expr(alloc, part)?)
+    fn read(alloc: Global, sexpr: &Sexpr) -> Result<Expr<u8>, CallError> {
+        leaf_expr(alloc, ExprBuilder::new(), &expr(alloc, sexpr)?)
     }
 }
 
-/// Each part, as an expression that is shared.
-pub fn shared<T: Data>(alloc: Global, part: &Sexpr) -> Result<Rc<Expr<T>>, CallError> {
-    Ok(Rc::new(alloc, T::read(alloc, part)?)?)
+/// The expression that an argument stands for, shared.
+pub fn shared<T: Data>(alloc: Global, sexpr: &Sexpr) -> Result<Rc<Expr<T>>, CallError> {
+    Ok(Rc::new(alloc, T::read(alloc, sexpr)?)?)
 }
 
-/// The expressions that parts stand for.
-pub fn members<T: Data>(alloc: Global, parts: &[Sexpr]) -> Result<Vec<Expr<T>>, CallError> {
+/// The expressions that arguments stand for.
+pub fn members<T: Data>(alloc: Global, sexprs: &[Sexpr]) -> Result<Vec<Expr<T>>, CallError> {
     let mut members = Vec::new(alloc);
-    for part in parts {
-        members.push(T::read(alloc, part)?)?;
+    for sexpr in sexprs {
+        members.push(T::read(alloc, sexpr)?)?;
     }
     Ok(members)
 }
 
-/// The pairs `("key" E)` that parts stand for.
-pub fn pairs<T: Data>(alloc: Global, parts: &[Sexpr]) -> Result<Vec<(RcStr, Expr<T>)>, CallError> {
+/// The pairs `("key" E)` that arguments stand for.
+pub fn pairs<T: Data>(alloc: Global, sexprs: &[Sexpr]) -> Result<Vec<(RcStr, Expr<T>)>, CallError> {
     let mut pairs = Vec::new(alloc);
-    for part in parts {
-        pairs.push(pair(alloc, part)?)?;
+    for sexpr in sexprs {
+        pairs.push(pair(alloc, sexpr)?)?;
     }
     Ok(pairs)
 }
 
-fn pair<T: Data>(alloc: Global, part: &Sexpr) -> Result<(RcStr, Expr<T>), CallError> {
-    match part.list()? {
+fn pair<T: Data>(alloc: Global, sexpr: &Sexpr) -> Result<(RcStr, Expr<T>), CallError> {
+    match sexpr.list()? {
         [key, value] => {
             let key = shared_text(alloc, key)?;
             Ok((key, T::read(alloc, value)?))
@@ -65,11 +65,11 @@ fn pair<T: Data>(alloc: Global, part: &Sexpr) -> Result<(RcStr, Expr<T>), CallEr
 /// The shared map of the pairs `("key" E)`; of equal keys the last stands.
 pub fn values<T: Data>(
     alloc: Global,
-    parts: &[Sexpr],
+    sexprs: &[Sexpr],
 ) -> Result<Rc<BTreeMap<RcStr, Expr<T>>>, CallError> {
     let mut values = BTreeMap::new(alloc);
-    for part in parts {
-        bind_value(alloc, &mut values, part)?;
+    for sexpr in sexprs {
+        bind_value(alloc, &mut values, sexpr)?;
     }
     Ok(Rc::new(alloc, values)?)
 }
@@ -77,26 +77,26 @@ pub fn values<T: Data>(
 fn bind_value<T: Data>(
     alloc: Global,
     values: &mut BTreeMap<RcStr, Expr<T>>,
-    part: &Sexpr,
+    sexpr: &Sexpr,
 ) -> Result<(), CallError> {
-    let (key, value) = pair(alloc, part)?;
+    let (key, value) = pair(alloc, sexpr)?;
     drop(values.insert(key, value)?);
     Ok(())
 }
 
 /// The name that a word spells.
-pub fn function(alloc: Global, part: &Sexpr) -> Result<Name, CallError> {
-    name(alloc, part.word()?)
+pub fn function(alloc: Global, sexpr: &Sexpr) -> Result<Name, CallError> {
+    name(alloc, sexpr.word()?)
 }
 
 /// The entity type that a word spells.
-pub fn entity_type(alloc: Global, part: &Sexpr) -> Result<EntityType, CallError> {
-    Ok(EntityType::from(function(alloc, part)?))
+pub fn entity_type(alloc: Global, sexpr: &Sexpr) -> Result<EntityType, CallError> {
+    Ok(EntityType::from(function(alloc, sexpr)?))
 }
 
-/// The leaf that a part stands for, where the call of this name makes such leaves.
-pub fn leaf_of(alloc: Global, call: &str, part: &Sexpr) -> Result<Expr, CallError> {
-    let leaf = expr(alloc, part)?;
+/// The leaf that an argument stands for, where the call of this name makes such leaves.
+pub fn leaf_of(alloc: Global, call: &str, sexpr: &Sexpr) -> Result<Expr, CallError> {
+    let leaf = expr(alloc, sexpr)?;
     if leaf_call(&leaf) == Some(call) {
         Ok(leaf)
     } else {

@@ -30,8 +30,8 @@ pub fn build(alloc: Global, names: &[Sexpr], e: &Expr) -> Result<String, CallErr
     answer(alloc, names, &Asked::Built(e))
 }
 
-/// What a lawful one makes after substitution: of the one call and of the two in turn. No `and` or
-/// `or` of two Booleans is left then, so the other makes the same.
+/// What a lawful one makes after substitution: of the one call and of the two in turn. No `and` and
+/// no `or` of two Booleans stays then, so the other makes the same.
 pub fn subst_build(
     alloc: Global,
     names: &Sexpr,
@@ -86,7 +86,7 @@ enum Asked<'a> {
     Typed(&'a Expr, &'a Values),
 }
 
-// A type stands here for each choice of functions that rows make.
+// A type stands here for each choice of functions that recorded calls make.
 fn answer(alloc: Global, names: &[Sexpr], asked: &Asked<'_>) -> Result<String, CallError> {
     match bits(names)? {
         0 => answered::<0>(alloc, asked),

@@ -1,4 +1,5 @@
-//! The calls that a row has refused. A builder is made of nothing, so its type says which.
+//! The functions whose calls a recorded call has refused. A builder is made of nothing, so its type
+//! says which.
 ghost use Rattle.std.specs.Prelude.{◌≡◌, ◌==◌, not};
 ghost use Rattle.std.specs.Int.Bits.{bit_and};
 ghost use Rattle.cedar_names.specs.Names.{name_text};

@@ -13,8 +13,8 @@ pub fn make(alloc: Global, call: &[Sexpr]) -> Result<String, CallError> {
 }
 
 /// The record of pairs, or why there is none.
-pub fn record(alloc: Global, parts: &[Sexpr]) -> Result<String, CallError> {
-    match Expr::record(alloc, pairs::<()>(alloc, parts)?) {
+pub fn record(alloc: Global, sexprs: &[Sexpr]) -> Result<String, CallError> {
+    match Expr::record(alloc, pairs::<()>(alloc, sexprs)?) {
         Ok(record) => ok(alloc, &sketch(alloc, &record)?),
         Err(ExpressionConstructionError::Memory) => Err(CallError::Memory),
         Err(e) => duplicate(alloc, &e),
@@ -36,7 +36,7 @@ pub fn constructed(alloc: Global, call: &[Sexpr]) -> Result<Expr, CallError> {
     }
 }
 
-// The constructors of any number of parts, or of a number that tells them apart.
+// The constructors of any number of arguments, or of a number that tells them apart.
 fn of_many(alloc: Global, f: &str, args: &[Sexpr]) -> Result<Expr, CallError> {
     match f {
         "set" => Ok(Expr::set(alloc, members(alloc, args)?)?),
@@ -126,8 +126,8 @@ fn has_attr(alloc: Global, e: Expr, attr: &Sexpr) -> Result<Expr, CallError> {
     Ok(Expr::has_attr(alloc, e, shared_text(alloc, attr)?)?)
 }
 
-fn like(alloc: Global, e: Expr, part: &Sexpr) -> Result<Expr, CallError> {
-    Ok(Expr::like(alloc, e, pattern(alloc, part)?)?)
+fn like(alloc: Global, e: Expr, sexpr: &Sexpr) -> Result<Expr, CallError> {
+    Ok(Expr::like(alloc, e, pattern(alloc, sexpr)?)?)
 }
 
 fn is_entity_type(alloc: Global, e: Expr, ty: &Sexpr) -> Result<Expr, CallError> {

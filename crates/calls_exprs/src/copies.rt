@@ -7,7 +7,7 @@ use std::alloc::Global;
 use std::hash::Hash;
 
 /// Each position of a copy with its place. The copies of its kind and of its shape agree with it,
-/// and so does the node that its parts make.
+/// and so does the node that is made of its kind, its place and its data.
 pub fn copy(alloc: Global, e: &Expr) -> Result<String, CallError> {
     is_kind(alloc, e.expr_kind())?;
     is_shape(alloc, e)?;
@@ -30,10 +30,10 @@ fn is_kind(alloc: Global, kind: &ExprKind) -> Result<(), CallError> {
     is_same(&copy, kind, "a kind and its copy")
 }
 
-// The copy of a shape that is lent is that of one that is owned.
+// The copy of a shape that is borrowed is that of one that is owned.
 fn is_shape(alloc: Global, e: &Expr) -> Result<(), CallError> {
-    let lent = ExprShapeOnly::new_from_borrowed(e);
-    is_shape_of(&lent.clone(alloc)?, e.clone(alloc)?)
+    let borrowed = ExprShapeOnly::new_from_borrowed(e);
+    is_shape_of(&borrowed.clone(alloc)?, e.clone(alloc)?)
 }
 
 fn is_shape_of(shape: &ExprShapeOnly, e: Expr) -> Result<(), CallError> {

@@ -57,8 +57,8 @@ pub fn rebuild(alloc: Global, args: &[Sexpr]) -> Result<String, CallError> {
     }
 }
 
-fn number(part: &Sexpr) -> Result<u8, CallError> {
-    part.word()?.parse().map_err(|_| CallError::BadArguments)
+fn number(sexpr: &Sexpr) -> Result<u8, CallError> {
+    sexpr.word()?.parse().map_err(|_| CallError::BadArguments)
 }
 
 fn with_data<T: Data>(alloc: Global, data: T, call: &[Sexpr]) -> Result<Expr<T>, CallError> {

@@ -1,4 +1,4 @@
-//! Rows of calls on expressions. `docs/CALLS.md` lists them.
+//! Recorded calls on expressions. `docs/CALLS.md` lists them.
 #![tactic(auto)]
 
 mod arguments;
@@ -20,7 +20,7 @@ use calls_decode::{expr, placed, sketch};
 use calls_syntax::{CallError, Sexpr};
 use std::alloc::Global;
 
-/// The answer to a call on expressions, by its first word and what follows.
+/// The answer to a call on expressions, by its name and its arguments.
 pub fn answer(alloc: Global, call: &str, args: &[Sexpr]) -> Result<String, CallError> {
     match call {
         "make" => constructors::make(alloc, args),
@@ -30,7 +30,7 @@ pub fn answer(alloc: Global, call: &str, args: &[Sexpr]) -> Result<String, CallE
         "data" => data::tree(alloc, args),
         "data-set" => data::set_data(alloc, args),
         "data-rebuild" => data::rebuild(alloc, args),
-        "ascending" => shapes::ascending(alloc, args),
+        "rising" => shapes::ascending(alloc, args),
         "restricted-call" => restricted::call(alloc, args),
         _ => match args {
             [] => of_nothing(alloc, call),

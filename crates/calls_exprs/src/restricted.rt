@@ -44,16 +44,16 @@ pub fn call(alloc: Global, args: &[Sexpr]) -> Result<String, CallError> {
     }
 }
 
-fn all(alloc: Global, parts: &[Sexpr]) -> Result<Vec<RestrictedExpr>, CallError> {
+fn all(alloc: Global, sexprs: &[Sexpr]) -> Result<Vec<RestrictedExpr>, CallError> {
     let mut all = Vec::new(alloc);
-    for part in parts {
-        all.push(one(alloc, part)?)?;
+    for sexpr in sexprs {
+        all.push(one(alloc, sexpr)?)?;
     }
     Ok(all)
 }
 
-fn one(alloc: Global, part: &Sexpr) -> Result<RestrictedExpr, CallError> {
-    match RestrictedExpr::new(alloc, expr(alloc, part)?) {
+fn one(alloc: Global, sexpr: &Sexpr) -> Result<RestrictedExpr, CallError> {
+    match RestrictedExpr::new(alloc, expr(alloc, sexpr)?) {
         Ok(e) => Ok(e),
         Err(RestrictedExprError::Memory) => Err(CallError::Memory),
         Err(RestrictedExprError::NotRestricted { .. }) => Err(CallError::BadArguments),

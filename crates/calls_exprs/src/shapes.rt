@@ -13,8 +13,8 @@ pub fn compare(alloc: Global, a: &Expr, b: &Expr) -> Result<String, CallError> {
 }
 
 /// Whether each of several expressions comes before all that follow it.
-pub fn ascending(alloc: Global, parts: &[Sexpr]) -> Result<String, CallError> {
-    let all = exprs(alloc, parts)?;
+pub fn ascending(alloc: Global, sexprs: &[Sexpr]) -> Result<String, CallError> {
+    let all = exprs(alloc, sexprs)?;
     for (index, e) in all.iter().enumerate() {
         if !is_before(alloc, e, all.as_slice(), index)? {
             return boolean(alloc, false);
@@ -54,7 +54,7 @@ fn are_equal(a: &Expr, b: &Expr, is_equal: bool) -> Result<(), CallError> {
     )
 }
 
-// A shape that is lent compares with one that is owned.
+// A shape that is borrowed compares with one that is owned.
 fn shapes_compare(a: &Expr, b: &ExprShapeOnly, order: Ordering) -> Result<(), CallError> {
     let a = ExprShapeOnly::new_from_borrowed(a);
     let is_equal = a == *b;

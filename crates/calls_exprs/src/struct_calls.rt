@@ -51,7 +51,7 @@ pub fn made_by<T: Data>(
     }
 }
 
-// The calls of any number of parts, or of a number that tells them apart.
+// The calls of any number of arguments, or of a number that tells them apart.
 fn of_many<T: Data>(
     alloc: Global,
     builder: ExprBuilder<T>,
@@ -224,9 +224,9 @@ fn like<T: Data>(
     alloc: Global,
     builder: ExprBuilder<T>,
     e: &Sexpr,
-    part: &Sexpr,
+    sexpr: &Sexpr,
 ) -> Result<Expr<T>, CallError> {
-    let pattern = pattern(alloc, part)?;
+    let pattern = pattern(alloc, sexpr)?;
     Ok(builder.like(alloc, T::read(alloc, e)?, pattern)?)
 }
 

@@ -32,11 +32,11 @@ pub fn slots(alloc: Global, e: &Expr) -> Result<String, CallError> {
     Ok(text)
 }
 
-// The slot has its own place as it is lent.
-fn slot_text(alloc: Global, lent: &SlotRef) -> Result<String, CallError> {
-    let slot = lent.to_slot(alloc)?;
+// The slot that is borrowed has its own place.
+fn slot_text(alloc: Global, borrowed: &SlotRef) -> Result<String, CallError> {
+    let slot = borrowed.to_slot(alloc)?;
     holds(
-        slot.loc.as_ref() == lent.loc && slot.id == lent.id,
+        slot.loc.as_ref() == borrowed.loc && slot.id == borrowed.id,
         "a slot and its copy",
     )?;
     Answer::new(alloc)

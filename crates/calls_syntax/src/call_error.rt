@@ -1,12 +1,12 @@
-//! Why a row has no answer.
+//! Why a recorded call has no answer.
 use std::alloc::{AllocError, AllocFailed};
 
-/// Why a row has no answer.
+/// Why a recorded call has no answer.
 #[derive(Drop)]
 pub enum CallError {
     /// Its first word names no call of these.
     UnknownCall,
-    /// What stands in it is not what the call takes.
+    /// Its arguments are not what the call takes, or the line is no call.
     BadArguments,
     /// Answers that have to agree do not.
     Mismatch(&'static str),

@@ -13,9 +13,9 @@ enum Escape {
     Digits(Option<u32>),
 }
 
-/// The text that a part in quotes stands for.
-pub fn text(alloc: Global, part: &Sexpr) -> Result<String, CallError> {
-    unescaped(alloc, part.escaped_text()?)
+/// The text that a quoted argument stands for.
+pub fn text(alloc: Global, sexpr: &Sexpr) -> Result<String, CallError> {
+    unescaped(alloc, sexpr.escaped_text()?)
 }
 
 /// The text that escapes stand for.
@@ -33,11 +33,11 @@ pub fn unescaped(alloc: Global, escaped: &str) -> Result<String, CallError> {
     Ok(text)
 }
 
-/// The pattern that a part in quotes stands for: `*` is the wildcard, `\*` the star.
-pub fn pattern(alloc: Global, part: &Sexpr) -> Result<Pattern, CallError> {
+/// The pattern that a quoted argument stands for: `*` is the wildcard, `\*` the star.
+pub fn pattern(alloc: Global, sexpr: &Sexpr) -> Result<Pattern, CallError> {
     let mut elems = Vec::new(alloc);
     let mut at = Escape::Nothing;
-    for c in part.escaped_text()?.chars() {
+    for c in sexpr.escaped_text()?.chars() {
         match (at, c) {
             (Escape::Nothing, '*') => elems.push(PatternElem::Wildcard)?,
             (Escape::Backslash, '*') => {

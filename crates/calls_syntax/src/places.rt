@@ -7,8 +7,8 @@ use std::alloc::Global;
 use std::rc::RcStr;
 
 /// The number that a word spells.
-pub fn count(part: &Sexpr) -> Result<usize, CallError> {
-    number(part.word()?)
+pub fn count(sexpr: &Sexpr) -> Result<usize, CallError> {
+    number(sexpr.word()?)
 }
 
 fn number(word: &str) -> Result<usize, CallError> {
@@ -28,8 +28,8 @@ fn in_source(alloc: Global, start: usize, stop: usize) -> Result<Loc, CallError>
 }
 
 /// The place that a word spells, `3..7` in the text `src`; none for `-`.
-pub fn maybe_place(alloc: Global, part: &Sexpr) -> Result<Option<Loc>, CallError> {
-    let word = part.word()?;
+pub fn maybe_place(alloc: Global, sexpr: &Sexpr) -> Result<Option<Loc>, CallError> {
+    let word = sexpr.word()?;
     if word == "-" {
         return Ok(None);
     }
@@ -39,15 +39,15 @@ pub fn maybe_place(alloc: Global, part: &Sexpr) -> Result<Option<Loc>, CallError
     }
 }
 
-/// The place and what stands there, where a part is `(@ START STOP PART)`.
+/// The place and what stands there, where an argument is `(@ START STOP INNER)`.
 pub fn at_place<'a, 'b>(
     alloc: Global,
-    part: &'b Sexpr<'a>,
+    sexpr: &'b Sexpr<'a>,
 ) -> Result<Option<(Loc, &'b Sexpr<'a>)>, CallError> {
-    let Sexpr::List(parts) = part else {
+    let Sexpr::List(sexprs) = sexpr else {
         return Ok(None);
     };
-    match parts.as_slice() {
+    match sexprs.as_slice() {
         [head, start, stop, inner] => match head.word()? {
             "@" => Ok(Some((loc(alloc, start, stop)?, inner))),
             _ => Ok(None),
@@ -56,10 +56,10 @@ pub fn at_place<'a, 'b>(
     }
 }
 
-/// The name that a part spells, at its own place where it is `(@ 3 7 N)`.
-pub fn placed_name(alloc: Global, part: &Sexpr) -> Result<InternalName, CallError> {
-    match at_place(alloc, part)? {
-        None => internal_name(alloc, part),
+/// The name that an argument spells, at its own place where it is `(@ 3 7 N)`.
+pub fn placed_name(alloc: Global, sexpr: &Sexpr) -> Result<InternalName, CallError> {
+    match at_place(alloc, sexpr)? {
+        None => internal_name(alloc, sexpr),
         Some((loc, inner)) => name_at(alloc, &internal_name(alloc, inner)?, loc),
     }
 }

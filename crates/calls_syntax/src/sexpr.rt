@@ -1,9 +1,9 @@
-//! The parts of a row, as they are written.
+//! The S-expressions of a line.
 use crate::call_error::CallError;
 use std::alloc::Global;
 use std::mem;
 
-/// A part of a row. What stands between quotes still has its escapes.
+/// An S-expression, as it is written. What stands between quotes still has its escapes.
 #[derive(Drop)]
 pub enum Sexpr<'a> {
     /// `word`
@@ -12,7 +12,7 @@ pub enum Sexpr<'a> {
     Text(&'a str),
     /// `N::T::"id"`, its type and its identifier.
     Entity(&'a str, &'a str),
-    /// `(part part ..)`
+    /// `(S-expression ..)`
     List(Vec<Sexpr<'a>>),
 }
 
@@ -33,17 +33,17 @@ impl<'a> Sexpr<'a> {
         }
     }
 
-    /// The parts of a list.
+    /// What stands in a list.
     pub fn list(&self) -> Result<&[Sexpr<'a>], CallError> {
         match self {
-            Sexpr::List(parts) => Ok(parts.as_slice()),
+            Sexpr::List(sexprs) => Ok(sexprs.as_slice()),
             _ => Err(CallError::BadArguments),
         }
     }
 }
 
-// Where the reader is: between two parts, in a word, or in a text behind a type, each since an
-// index.
+// Where the walk over the bytes is: between two S-expressions, in a word, or in a text behind a
+// type, each since an index.
 #[derive(Clone, Copy)]
 enum At<'a> {
     Between,
@@ -52,21 +52,22 @@ enum At<'a> {
     Escaped(Option<&'a str>, usize),
 }
 
-/// The parts of a row. To read them takes none of the machine's stack, however deep its lists are.
-pub fn parts<'a>(alloc: Global, row: &'a str) -> Result<Vec<Sexpr<'a>>, CallError> {
-    let mut parts = Vec::new(alloc);
+/// The S-expressions of a line: of a recorded call its name and its arguments. To read them takes
+/// none of the machine's stack, however deep the lists are.
+pub fn sexprs<'a>(alloc: Global, line: &'a str) -> Result<Vec<Sexpr<'a>>, CallError> {
+    let mut sexprs = Vec::new(alloc);
     let mut open = Vec::new(alloc);
     let mut at = At::Between;
-    for (index, byte) in row.bytes().enumerate() {
-        at = step(alloc, row, index, byte, at, &mut parts, &mut open)?;
+    for (index, byte) in line.bytes().enumerate() {
+        at = step(alloc, line, index, byte, at, &mut sexprs, &mut open)?;
     }
     match at {
         At::Between => {}
-        At::Word(start) => parts.push(Sexpr::Word(slice(row, start, row.len())?))?,
+        At::Word(start) => sexprs.push(Sexpr::Word(slice(line, start, line.len())?))?,
         _ => return Err(CallError::BadArguments),
     }
     if open.is_empty() {
-        Ok(parts)
+        Ok(sexprs)
     } else {
         Err(CallError::BadArguments)
     }
@@ -74,48 +75,48 @@ pub fn parts<'a>(alloc: Global, row: &'a str) -> Result<Vec<Sexpr<'a>>, CallErro
 
 fn step<'a>(
     alloc: Global,
-    row: &'a str,
+    line: &'a str,
     index: usize,
     byte: u8,
     at: At<'a>,
-    parts: &mut Vec<Sexpr<'a>>,
+    sexprs: &mut Vec<Sexpr<'a>>,
     open: &mut Vec<Vec<Sexpr<'a>>>,
 ) -> Result<At<'a>, CallError> {
     match at {
-        At::Between => between(alloc, index, byte, parts, open),
+        At::Between => between(alloc, index, byte, sexprs, open),
         At::Word(start) => {
             if !matches!(byte, b' ' | b'(' | b')' | b'"') {
                 return Ok(at);
             }
-            let word = slice(row, start, index)?;
+            let word = slice(line, start, index)?;
             if byte == b'"' {
                 if let Some(ty) = word.strip_suffix("::") {
                     return Ok(At::Quoted(Some(ty), index.saturating_add(1)));
                 }
             }
-            parts.push(Sexpr::Word(word))?;
-            between(alloc, index, byte, parts, open)
+            sexprs.push(Sexpr::Word(word))?;
+            between(alloc, index, byte, sexprs, open)
         }
-        At::Quoted(ty, start) => quoted(row, index, byte, ty, start, parts),
+        At::Quoted(ty, start) => quoted(line, index, byte, ty, start, sexprs),
         At::Escaped(ty, start) => Ok(At::Quoted(ty, start)),
     }
 }
 
 fn quoted<'a>(
-    row: &'a str,
+    line: &'a str,
     index: usize,
     byte: u8,
     ty: Option<&'a str>,
     start: usize,
-    parts: &mut Vec<Sexpr<'a>>,
+    sexprs: &mut Vec<Sexpr<'a>>,
 ) -> Result<At<'a>, CallError> {
     match byte {
         b'\\' => Ok(At::Escaped(ty, start)),
         b'"' => {
-            let escaped = slice(row, start, index)?;
+            let escaped = slice(line, start, index)?;
             match ty {
-                Some(ty) => parts.push(Sexpr::Entity(ty, escaped))?,
-                None => parts.push(Sexpr::Text(escaped))?,
+                Some(ty) => sexprs.push(Sexpr::Entity(ty, escaped))?,
+                None => sexprs.push(Sexpr::Text(escaped))?,
             }
             Ok(At::Between)
         }
@@ -127,13 +128,13 @@ fn between<'a>(
     alloc: Global,
     index: usize,
     byte: u8,
-    parts: &mut Vec<Sexpr<'a>>,
+    sexprs: &mut Vec<Sexpr<'a>>,
     open: &mut Vec<Vec<Sexpr<'a>>>,
 ) -> Result<At<'a>, CallError> {
     match byte {
         b' ' => Ok(At::Between),
         b'(' => {
-            let outer = mem::replace(parts, Vec::new(alloc));
+            let outer = mem::replace(sexprs, Vec::new(alloc));
             open.push(outer)?;
             Ok(At::Between)
         }
@@ -141,8 +142,8 @@ fn between<'a>(
             let Some(outer) = open.pop() else {
                 return Err(CallError::BadArguments);
             };
-            let inner = mem::replace(parts, outer);
-            parts.push(Sexpr::List(inner))?;
+            let inner = mem::replace(sexprs, outer);
+            sexprs.push(Sexpr::List(inner))?;
             Ok(At::Between)
         }
         b'"' => Ok(At::Quoted(None, index.saturating_add(1))),
@@ -150,8 +151,8 @@ fn between<'a>(
     }
 }
 
-fn slice(row: &str, start: usize, stop: usize) -> Result<&str, CallError> {
-    match row.get(start..stop) {
+fn slice(line: &str, start: usize, stop: usize) -> Result<&str, CallError> {
+    match line.get(start..stop) {
         Some(slice) => Ok(slice),
         None => Err(CallError::BadArguments),
     }

@@ -1,4 +1,4 @@
-//! The terms that parts of a row stand for.
+//! The terms that arguments stand for.
 use crate::call_error::CallError;
 use crate::escapes::unescaped;
 use crate::sexpr::Sexpr;
@@ -14,15 +14,15 @@ pub fn name(alloc: Global, word: &str) -> Result<Name, CallError> {
 }
 
 /// The internal name that a word spells.
-pub fn internal_name(alloc: Global, part: &Sexpr) -> Result<InternalName, CallError> {
-    parsed(InternalName::from_normalized_str(alloc, part.word()?))
+pub fn internal_name(alloc: Global, sexpr: &Sexpr) -> Result<InternalName, CallError> {
+    parsed(InternalName::from_normalized_str(alloc, sexpr.word()?))
 }
 
 /// The internal name that a word spells; none for `-`.
-pub fn namespace(alloc: Global, part: &Sexpr) -> Result<Option<InternalName>, CallError> {
-    match part.word()? {
+pub fn namespace(alloc: Global, sexpr: &Sexpr) -> Result<Option<InternalName>, CallError> {
+    match sexpr.word()? {
         "-" => Ok(None),
-        _ => Ok(Some(internal_name(alloc, part)?)),
+        _ => Ok(Some(internal_name(alloc, sexpr)?)),
     }
 }
 
@@ -43,9 +43,9 @@ pub fn parsed<T: Drop>(read: Result<T, ParseErrors>) -> Result<T, CallError> {
     }
 }
 
-/// The literal that a part stands for, if it does.
-pub fn literal(alloc: Global, part: &Sexpr) -> Result<Option<Literal>, CallError> {
-    match part {
+/// The literal that an argument stands for, if it does.
+pub fn literal(alloc: Global, sexpr: &Sexpr) -> Result<Option<Literal>, CallError> {
+    match sexpr {
         Sexpr::Word(word) => Ok(word_literal(word)),
         Sexpr::Text(escaped) => Ok(Some(Literal::from_string(alloc, unescaped(alloc, escaped)?)?)),
         Sexpr::Entity(ty, escaped) => {
@@ -74,16 +74,16 @@ pub fn word_literal(word: &str) -> Option<Literal> {
     }
 }
 
-/// The text that a part in quotes stands for.
-pub fn shared_text(alloc: Global, part: &Sexpr) -> Result<RcStr, CallError> {
-    Ok(RcStr::from_string(unescaped(alloc, part.escaped_text()?)?)?)
+/// The text that a quoted argument stands for, shared.
+pub fn shared_text(alloc: Global, sexpr: &Sexpr) -> Result<RcStr, CallError> {
+    Ok(RcStr::from_string(unescaped(alloc, sexpr.escaped_text()?)?)?)
 }
 
-/// The type that a part stands for: a word, `(entity N)` or `(extension N)`.
-pub fn term_type(alloc: Global, part: &Sexpr) -> Result<Type, CallError> {
-    match part {
+/// The type that an argument stands for: a word, `(entity N)` or `(extension N)`.
+pub fn term_type(alloc: Global, sexpr: &Sexpr) -> Result<Type, CallError> {
+    match sexpr {
         Sexpr::Word(word) => plain_type(word),
-        Sexpr::List(parts) => match parts.as_slice() {
+        Sexpr::List(sexprs) => match sexprs.as_slice() {
             [head, ty] => named_type(head.word()?, name(alloc, ty.word()?)?),
             _ => Err(CallError::BadArguments),
         },

@@ -30,8 +30,8 @@ fn ways_by_kind(alloc: Global, kind: &str, word: &Sexpr) -> Result<String, CallE
 }
 
 // What a text is read as.
-fn read<T: FromNormalizedStr + Drop>(alloc: Global, part: &Sexpr) -> Result<T, CallError> {
-    let text = text(alloc, part)?;
+fn read<T: FromNormalizedStr + Drop>(alloc: Global, sexpr: &Sexpr) -> Result<T, CallError> {
+    let text = text(alloc, sexpr)?;
     parsed(T::from_normalized_str(alloc, text.as_str()))
 }
 

@@ -1,16 +1,16 @@
-//! Recorded calls on names and on the terms over them: identifiers, names, references to types, places,
-//! slots, literals, entities, types, operators and patterns. `docs/CALLS.md` lists them.
+//! Recorded calls on names and on the terms over them: identifiers, names, references to types,
+//! places, slots, literals, entities, types, operators and patterns. `docs/CALLS.md` lists them.
 #![tactic(auto)]
 
 mod identifiers;
 mod literals;
 mod names;
+mod parsing;
 mod patterns;
 mod placed;
 mod places;
 mod qualified;
 mod raw_names;
-mod readers;
 mod references;
 mod told;
 mod types;
@@ -18,7 +18,7 @@ mod types;
 use calls_syntax::{CallError, Sexpr};
 use std::alloc::Global;
 
-/// The answer to a call on names or terms, by its first word and what follows.
+/// The answer to a call on names or terms, by its name and its arguments.
 ///
 /// `CallError::UnknownCall` where it is none of these calls.
 pub fn answer(alloc: Global, call: &str, args: &[Sexpr]) -> Result<String, CallError> {
@@ -62,5 +62,5 @@ fn on_names(alloc: Global, call: &str, args: &[Sexpr]) -> Result<String, CallErr
         Err(CallError::UnknownCall) => {}
         answered => return answered,
     }
-    readers::answer(alloc, call, args)
+    parsing::answer(alloc, call, args)
 }

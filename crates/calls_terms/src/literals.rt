@@ -11,11 +11,11 @@ use std::rc::{Rc, RcStr};
 /// The answer to a call on literals or entities.
 pub fn answer(alloc: Global, call: &str, args: &[Sexpr]) -> Result<String, CallError> {
     match args {
-        [part] => match call {
-            "literal" => given_literal(alloc, part),
-            "sources" => sources(alloc, part),
-            "entity" => given_entity(alloc, part),
-            "with-eid" => with_eid(alloc, part),
+        [sexpr] => match call {
+            "literal" => given_literal(alloc, sexpr),
+            "sources" => sources(alloc, sexpr),
+            "entity" => given_entity(alloc, sexpr),
+            "with-eid" => with_eid(alloc, sexpr),
             _ => Err(CallError::UnknownCall),
         },
         [a, b] => match call {
@@ -29,15 +29,15 @@ pub fn answer(alloc: Global, call: &str, args: &[Sexpr]) -> Result<String, CallE
     }
 }
 
-fn entity(alloc: Global, part: &Sexpr) -> Result<Rc<EntityUID>, CallError> {
-    match placed_literal(alloc, part)? {
+fn entity(alloc: Global, sexpr: &Sexpr) -> Result<Rc<EntityUID>, CallError> {
+    match placed_literal(alloc, sexpr)? {
         Literal::EntityUID(uid) => Ok(uid),
         _ => Err(CallError::BadArguments),
     }
 }
 
-fn entity_type(alloc: Global, part: &Sexpr) -> Result<EntityType, CallError> {
-    Ok(EntityType::from(plain(placed_name(alloc, part)?)?))
+fn entity_type(alloc: Global, sexpr: &Sexpr) -> Result<EntityType, CallError> {
+    Ok(EntityType::from(plain(placed_name(alloc, sexpr)?)?))
 }
 
 fn compared_literals(alloc: Global, a: &Sexpr, b: &Sexpr) -> Result<String, CallError> {
@@ -53,8 +53,8 @@ fn compared_entity_types(alloc: Global, a: &Sexpr, b: &Sexpr) -> Result<String, 
 }
 
 // What a copy of the literal says of itself.
-fn given_literal(alloc: Global, part: &Sexpr) -> Result<String, CallError> {
-    let copy = copy_of(alloc, placed_literal(alloc, part))?;
+fn given_literal(alloc: Global, sexpr: &Sexpr) -> Result<String, CallError> {
+    let copy = copy_of(alloc, placed_literal(alloc, sexpr))?;
     Answer::new(alloc)
         .word(&copy)
         .labelled("ref=", &copy.is_ref())
@@ -62,18 +62,18 @@ fn given_literal(alloc: Global, part: &Sexpr) -> Result<String, CallError> {
         .end()
 }
 
-fn given_entity(alloc: Global, part: &Sexpr) -> Result<String, CallError> {
-    let uid = entity(alloc, part)?;
+fn given_entity(alloc: Global, sexpr: &Sexpr) -> Result<String, CallError> {
+    let uid = entity(alloc, sexpr)?;
     told_copy(alloc, &uid)
 }
 
-fn with_eid(alloc: Global, part: &Sexpr) -> Result<String, CallError> {
-    let uid = entity_with_eid(alloc, part)?;
+fn with_eid(alloc: Global, sexpr: &Sexpr) -> Result<String, CallError> {
+    let uid = entity_with_eid(alloc, sexpr)?;
     told_copy(alloc, &uid)
 }
 
-fn entity_with_eid(alloc: Global, part: &Sexpr) -> Result<EntityUID, CallError> {
-    let eid = text(alloc, part)?;
+fn entity_with_eid(alloc: Global, sexpr: &Sexpr) -> Result<EntityUID, CallError> {
+    let eid = text(alloc, sexpr)?;
     Ok(EntityUID::with_eid(alloc, eid.as_str())?)
 }
 
@@ -96,8 +96,8 @@ fn told(alloc: Global, uid: &EntityUID) -> Result<String, CallError> {
 
 // What a literal holds, made a literal by each call that does so: a text by three, an entity owned
 // and shared.
-fn sources(alloc: Global, part: &Sexpr) -> Result<String, CallError> {
-    match placed_literal(alloc, part)? {
+fn sources(alloc: Global, sexpr: &Sexpr) -> Result<String, CallError> {
+    match placed_literal(alloc, sexpr)? {
         Literal::Bool(truth) => Answer::new(alloc).word(&Literal::from(truth)).end(),
         Literal::Long(number) => Answer::new(alloc).word(&Literal::from(number)).end(),
         Literal::String(text) => text_sources(alloc, text),

@@ -42,8 +42,8 @@ fn of_one(alloc: Global, call: &str, name: &Sexpr) -> Result<String, CallError> 
     }
 }
 
-fn to_name(alloc: Global, part: &Sexpr) -> Result<String, CallError> {
-    match Name::try_from(internal_name(alloc, part)?) {
+fn to_name(alloc: Global, sexpr: &Sexpr) -> Result<String, CallError> {
+    match Name::try_from(internal_name(alloc, sexpr)?) {
         Ok(name) => ok(alloc, &name),
         Err(e) => refused(alloc, &e),
     }
@@ -56,26 +56,26 @@ fn refused(alloc: Global, e: &ReservedNameError) -> Result<String, CallError> {
         .end()
 }
 
-fn to_id(alloc: Global, part: &Sexpr) -> Result<String, CallError> {
-    ok_or_refused(alloc, Id::try_from(internal_name(alloc, part)?))
+fn to_id(alloc: Global, sexpr: &Sexpr) -> Result<String, CallError> {
+    ok_or_refused(alloc, Id::try_from(internal_name(alloc, sexpr)?))
 }
 
-fn to_unreserved_id(alloc: Global, part: &Sexpr) -> Result<String, CallError> {
-    match Id::try_from(internal_name(alloc, part)?) {
+fn to_unreserved_id(alloc: Global, sexpr: &Sexpr) -> Result<String, CallError> {
+    match Id::try_from(internal_name(alloc, sexpr)?) {
         Ok(id) => ok_or_refused(alloc, UnreservedId::try_from(id)),
         Err(e) => e.told(alloc),
     }
 }
 
-fn plain_to_id(alloc: Global, part: &Sexpr) -> Result<String, CallError> {
-    match Name::try_from(internal_name(alloc, part)?) {
+fn plain_to_id(alloc: Global, sexpr: &Sexpr) -> Result<String, CallError> {
+    match Name::try_from(internal_name(alloc, sexpr)?) {
         Ok(name) => ok_or_refused(alloc, UnreservedId::try_from(name)),
         Err(e) => e.told(alloc),
     }
 }
 
-fn of_plain(alloc: Global, part: &Sexpr) -> Result<String, CallError> {
-    match Name::try_from(internal_name(alloc, part)?) {
+fn of_plain(alloc: Global, sexpr: &Sexpr) -> Result<String, CallError> {
+    match Name::try_from(internal_name(alloc, sexpr)?) {
         Ok(name) => told_plain(alloc, &name),
         Err(e) => e.told(alloc),
     }
@@ -103,8 +103,8 @@ fn is_back(alloc: Global, name: &Name) -> Result<bool, CallError> {
     Ok(internal == *name.as_ref())
 }
 
-fn components(alloc: Global, part: &Sexpr) -> Result<String, CallError> {
-    let name = internal_name(alloc, part)?;
+fn components(alloc: Global, sexpr: &Sexpr) -> Result<String, CallError> {
+    let name = internal_name(alloc, sexpr)?;
     let mut components = Answer::new(alloc);
     for id in name.namespace_components() {
         components = components.word(id);
@@ -112,8 +112,8 @@ fn components(alloc: Global, part: &Sexpr) -> Result<String, CallError> {
     components.end()
 }
 
-fn source(alloc: Global, part: &Sexpr) -> Result<String, CallError> {
-    let name = internal_name(alloc, part)?;
+fn source(alloc: Global, sexpr: &Sexpr) -> Result<String, CallError> {
+    let name = internal_name(alloc, sexpr)?;
     told_copy(alloc, &name)
 }
 
@@ -127,8 +127,8 @@ pub fn told_copy(alloc: Global, name: &InternalName) -> Result<String, CallError
 }
 
 /// The identifier that a word spells.
-pub fn id(alloc: Global, part: &Sexpr) -> Result<Id, CallError> {
-    match Id::try_from(internal_name(alloc, part)?) {
+pub fn id(alloc: Global, sexpr: &Sexpr) -> Result<Id, CallError> {
+    match Id::try_from(internal_name(alloc, sexpr)?) {
         Ok(id) => Ok(id),
         Err(()) => Err(CallError::BadArguments),
     }
@@ -162,6 +162,6 @@ fn compared_plain(alloc: Global, a: &Sexpr, b: &Sexpr) -> Result<String, CallErr
     )
 }
 
-fn plain_name(alloc: Global, part: &Sexpr) -> Result<Name, CallError> {
-    plain(placed_name(alloc, part)?)
+fn plain_name(alloc: Global, sexpr: &Sexpr) -> Result<Name, CallError> {
+    plain(placed_name(alloc, sexpr)?)
 }

@@ -6,10 +6,11 @@ use std::alloc::Global;
 use std::convert::AsRef;
 use std::rc::{Rc, RcStr};
 
-/// The literal that a part stands for; `(@ 3 7 T::"id")` is an entity whose type is at this place.
-pub fn placed_literal(alloc: Global, part: &Sexpr) -> Result<Literal, CallError> {
-    match at_place(alloc, part)? {
-        None => given(literal(alloc, part)?),
+/// The literal that an argument stands for; `(@ 3 7 T::"id")` is an entity whose type is at this
+/// place.
+pub fn placed_literal(alloc: Global, sexpr: &Sexpr) -> Result<Literal, CallError> {
+    match at_place(alloc, sexpr)? {
+        None => given(literal(alloc, sexpr)?),
         Some((loc, inner)) => Ok(Literal::EntityUID(entity_at(alloc, inner, loc)?)),
     }
 }
@@ -21,17 +22,17 @@ fn given(literal: Option<Literal>) -> Result<Literal, CallError> {
     }
 }
 
-fn entity_at(alloc: Global, part: &Sexpr, loc: Loc) -> Result<Rc<EntityUID>, CallError> {
-    match literal(alloc, part)? {
+fn entity_at(alloc: Global, sexpr: &Sexpr, loc: Loc) -> Result<Rc<EntityUID>, CallError> {
+    match literal(alloc, sexpr)? {
         Some(Literal::EntityUID(uid)) => moved_entity(alloc, &uid, loc),
         _ => Err(CallError::BadArguments),
     }
 }
 
-/// The type that a part stands for; `(@ 3 7 (entity N))` has its name at this place.
-pub fn placed_type(alloc: Global, part: &Sexpr) -> Result<Type, CallError> {
-    match at_place(alloc, part)? {
-        None => term_type(alloc, part),
+/// The type that an argument stands for; `(@ 3 7 (entity N))` has its name at this place.
+pub fn placed_type(alloc: Global, sexpr: &Sexpr) -> Result<Type, CallError> {
+    match at_place(alloc, sexpr)? {
+        None => term_type(alloc, sexpr),
         Some((loc, inner)) => moved_type(alloc, &term_type(alloc, inner)?, loc),
     }
 }

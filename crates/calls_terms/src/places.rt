@@ -30,8 +30,8 @@ pub fn answer(alloc: Global, call: &str, args: &[Sexpr]) -> Result<String, CallE
 }
 
 // `(START STOP "TEXT")`
-fn place_in(alloc: Global, part: &Sexpr) -> Result<Loc, CallError> {
-    match part.list()? {
+fn place_in(alloc: Global, sexpr: &Sexpr) -> Result<Loc, CallError> {
+    match sexpr.list()? {
         [start, stop, text] => {
             Ok(Loc::new(count(start)?, count(stop)?, shared_text(alloc, text)?))
         }
@@ -48,16 +48,16 @@ fn compared_places(alloc: Global, a: &Sexpr, b: &Sexpr) -> Result<String, CallEr
     )
 }
 
-fn principal_or_resource(part: &Sexpr) -> Result<PrincipalOrResource, CallError> {
-    match part.word()? {
+fn principal_or_resource(sexpr: &Sexpr) -> Result<PrincipalOrResource, CallError> {
+    match sexpr.word()? {
         "principal" => Ok(PrincipalOrResource::Principal),
         "resource" => Ok(PrincipalOrResource::Resource),
         _ => Err(CallError::BadArguments),
     }
 }
 
-fn slot_id(part: &Sexpr) -> Result<SlotId, CallError> {
-    match principal_or_resource(part)? {
+fn slot_id(sexpr: &Sexpr) -> Result<SlotId, CallError> {
+    match principal_or_resource(sexpr)? {
         PrincipalOrResource::Principal => Ok(SlotId::principal()),
         PrincipalOrResource::Resource => Ok(SlotId::resource()),
     }
@@ -101,18 +101,18 @@ fn compared_slots(
         .end()
 }
 
-fn list(alloc: Global, part: &Sexpr) -> Result<NonEmpty<RcStr>, CallError> {
-    let [head, rest @ ..] = part.list()? else {
+fn list(alloc: Global, sexpr: &Sexpr) -> Result<NonEmpty<RcStr>, CallError> {
+    let [head, rest @ ..] = sexpr.list()? else {
         return Err(CallError::BadArguments);
     };
     let head = shared_text(alloc, head)?;
     Ok(NonEmpty::new(head, texts(alloc, rest)?))
 }
 
-fn texts(alloc: Global, parts: &[Sexpr]) -> Result<Vec<RcStr>, CallError> {
+fn texts(alloc: Global, sexprs: &[Sexpr]) -> Result<Vec<RcStr>, CallError> {
     let mut texts = Vec::new(alloc);
-    for part in parts {
-        texts.push(shared_text(alloc, part)?)?;
+    for sexpr in sexprs {
+        texts.push(shared_text(alloc, sexpr)?)?;
     }
     Ok(texts)
 }
@@ -122,8 +122,8 @@ fn compared_lists(alloc: Global, a: &Sexpr, b: &Sexpr) -> Result<String, CallErr
     compare(alloc, copy_of(alloc, list(alloc, a)), list(alloc, b))
 }
 
-fn items_of(alloc: Global, part: &Sexpr) -> Result<String, CallError> {
-    let list = list(alloc, part)?;
+fn items_of(alloc: Global, sexpr: &Sexpr) -> Result<String, CallError> {
+    let list = list(alloc, sexpr)?;
     told_items(alloc, &list)
 }
 

@@ -27,8 +27,8 @@ pub fn answer(alloc: Global, call: &str, args: &[Sexpr]) -> Result<String, CallE
     }
 }
 
-fn qualified(alloc: Global, part: &Sexpr, within: &Sexpr) -> Result<String, CallError> {
-    let name = placed_name(alloc, part)?;
+fn qualified(alloc: Global, sexpr: &Sexpr, within: &Sexpr) -> Result<String, CallError> {
+    let name = placed_name(alloc, sexpr)?;
     let namespace = namespace(alloc, within)?;
     told_qualified(alloc, &name, namespace.as_ref())
 }
@@ -63,8 +63,8 @@ fn told(alloc: Global, qualified: Result<InternalName, CallError>) -> Result<Str
         .end()
 }
 
-fn within(alloc: Global, part: &Sexpr, within: &Sexpr) -> Result<String, CallError> {
-    let name = internal_name(alloc, part)?;
+fn within(alloc: Global, sexpr: &Sexpr, within: &Sexpr) -> Result<String, CallError> {
+    let name = internal_name(alloc, sexpr)?;
     match namespace(alloc, within)? {
         None => each_within(alloc, &name, None, None),
         Some(namespace) => within_both(alloc, &name, &namespace),

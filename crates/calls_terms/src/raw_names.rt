@@ -19,8 +19,8 @@ pub fn answer(alloc: Global, call: &str, args: &[Sexpr]) -> Result<String, CallE
     }
 }
 
-fn placed_raw(alloc: Global, part: &Sexpr) -> Result<RawName, CallError> {
-    Ok(RawName::from_name(placed_name(alloc, part)?))
+fn placed_raw(alloc: Global, sexpr: &Sexpr) -> Result<RawName, CallError> {
+    Ok(RawName::from_name(placed_name(alloc, sexpr)?))
 }
 
 /// The raw name of this name.
@@ -28,9 +28,9 @@ pub fn raw_of_name(alloc: Global, name: &InternalName) -> Result<RawName, CallEr
     Ok(RawName::from_name(name.clone(alloc)?))
 }
 
-fn raw_names(alloc: Global, part: &Sexpr, at: &Sexpr) -> Result<String, CallError> {
+fn raw_names(alloc: Global, sexpr: &Sexpr, at: &Sexpr) -> Result<String, CallError> {
     let loc = maybe_place(alloc, at)?;
-    let name = internal_name(alloc, part)?;
+    let name = internal_name(alloc, sexpr)?;
     each_raw(alloc, &name, loc.as_ref())
 }
 

@@ -26,8 +26,8 @@ pub fn answer(alloc: Global, call: &str, args: &[Sexpr]) -> Result<String, CallE
             "eqcond1" => equals_alone(alloc, name, kind, args),
             _ => Err(CallError::UnknownCall),
         },
-        [reader, _, _, _, common, entity] => match call {
-            "refusal" => refusal(alloc, reader, args, common, entity),
+        [parser, _, _, _, common, entity] => match call {
+            "refusal" => refusal(alloc, parser, args, common, entity),
             "eqcond" => equals(alloc, args),
             _ => Err(CallError::UnknownCall),
         },
@@ -35,7 +35,7 @@ pub fn answer(alloc: Global, call: &str, args: &[Sexpr]) -> Result<String, CallE
     }
 }
 
-// The raw name where it stands in the namespace: the first three parts from here on.
+// The raw name where it stands in the namespace: the first three arguments from here on.
 fn conditional(alloc: Global, from_here: &[Sexpr]) -> Result<ConditionalName, CallError> {
     let [raw, ns, kind, ..] = from_here else {
         return Err(CallError::BadArguments);
@@ -76,9 +76,9 @@ fn all_defs(alloc: Global, common: &Sexpr, entity: &Sexpr) -> Result<AllDefs, Ca
     Ok(AllDefs::new(common, declared(alloc, entity)?))
 }
 
-fn declared(alloc: Global, part: &Sexpr) -> Result<BTreeSet<InternalName>, CallError> {
+fn declared(alloc: Global, sexpr: &Sexpr) -> Result<BTreeSet<InternalName>, CallError> {
     let mut names = BTreeSet::new(alloc);
-    for name in part.list()? {
+    for name in sexpr.list()? {
         names.insert(internal_name(alloc, name)?)?;
     }
     Ok(names)
@@ -161,15 +161,15 @@ fn not_defined(
         .end()
 }
 
-// What the reference behind the reader's name is answered with, and the text of the error.
+// What the reference behind the parser's name is answered with, or the text of the error.
 fn refusal(
     alloc: Global,
-    reader: &Sexpr,
+    parser: &Sexpr,
     args: &[Sexpr],
     common: &Sexpr,
     entity: &Sexpr,
 ) -> Result<String, CallError> {
-    let "resolve" = reader.word()? else {
+    let "resolve" = parser.word()? else {
         return Err(CallError::UnknownCall);
     };
     let [_, reference @ ..] = args else {

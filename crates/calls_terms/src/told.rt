@@ -5,7 +5,7 @@ use std::alloc::Global;
 use std::convert::AsRef;
 use std::fmt::Display;
 
-/// What says of itself what a row asks.
+/// What says of itself what a call asks.
 pub trait Told: Drop {
     fn told(&self, alloc: Global) -> Result<String, CallError>;
 }

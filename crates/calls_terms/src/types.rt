@@ -35,9 +35,9 @@ pub fn answer(alloc: Global, call: &str, args: &[Sexpr]) -> Result<String, CallE
 }
 
 // The text of a copy.
-fn given(alloc: Global, part: &Sexpr) -> Result<String, CallError> {
+fn given(alloc: Global, sexpr: &Sexpr) -> Result<String, CallError> {
     Answer::new(alloc)
-        .made(copy_of(alloc, placed_type(alloc, part)))
+        .made(copy_of(alloc, placed_type(alloc, sexpr)))
         .end()
 }
 
@@ -75,10 +75,10 @@ fn equal_unknowns(
 // The type as a schema has it: a word, `(set S)`, `(record ("k" S) ..)`, `(entity N)`,
 // `(extension N)`.
 #[cycle(schema)]
-fn schema_type(alloc: Global, part: &Sexpr) -> Result<SchemaType, CallError> {
-    match part {
+fn schema_type(alloc: Global, sexpr: &Sexpr) -> Result<SchemaType, CallError> {
+    match sexpr {
         Sexpr::Word(word) => plain(word),
-        Sexpr::List(parts) => match parts.as_slice() {
+        Sexpr::List(sexprs) => match sexprs.as_slice() {
             [head, inner @ ..] => compound(alloc, head.word()?, inner),
             [] => Err(CallError::BadArguments),
         },
@@ -128,10 +128,10 @@ fn named(alloc: Global, head: &str, word: &str) -> Result<SchemaType, CallError>
 }
 
 #[cycle(schema)]
-fn record(alloc: Global, parts: &[Sexpr]) -> Result<SchemaType, CallError> {
+fn record(alloc: Global, sexprs: &[Sexpr]) -> Result<SchemaType, CallError> {
     let mut attrs = BTreeMap::new(alloc);
-    for part in parts {
-        let Sexpr::List(pair) = part else {
+    for sexpr in sexprs {
+        let Sexpr::List(pair) = sexpr else {
             return Err(CallError::BadArguments);
         };
         let [key, ty] = pair.as_slice() else {
@@ -153,8 +153,8 @@ fn insert(
 }
 
 // The type of the values of a copy, and the extension types inside it.
-fn told_schema(alloc: Global, part: &Sexpr) -> Result<String, CallError> {
-    let copy = copy_of(alloc, schema_type(alloc, part))?;
+fn told_schema(alloc: Global, sexpr: &Sexpr) -> Result<String, CallError> {
+    let copy = copy_of(alloc, schema_type(alloc, sexpr))?;
     let told = Answer::new(alloc).allocated(copy.to_type(alloc));
     with_extensions(alloc, told, &copy)
 }

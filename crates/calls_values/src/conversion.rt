@@ -9,10 +9,14 @@ use std::alloc::{AllocError, Global};
 /// The answer to a call that makes an expression of a value, or a value of an expression.
 pub fn answer(alloc: Global, call: &str, args: &[Sexpr]) -> Result<String, CallError> {
     match args {
-        [part] => match call {
-            "toexpr" | "toexpr-placed" | "roundtrip" => of_value(alloc, call, &value(alloc, part)?),
-            "tryvalue" | "tryvalue-placed" | "trykind" => of_expr(alloc, call, expr(alloc, part)?),
-            "notvalue" => not_value(alloc, part),
+        [sexpr] => match call {
+            "toexpr" | "toexpr-placed" | "roundtrip" => of_value(
+                alloc,
+                call,
+                &value(alloc, sexpr)?,
+            ),
+            "tryvalue" | "tryvalue-placed" | "trykind" => of_expr(alloc, call, expr(alloc, sexpr)?),
+            "notvalue" => not_value(alloc, sexpr),
             _ => Err(CallError::UnknownCall),
         },
         _ => Err(CallError::UnknownCall),
@@ -115,11 +119,11 @@ fn placed_made(alloc: Global, e: Result<Expr, AllocError>) -> Result<String, Cal
     placed(alloc, &e?)
 }
 
-fn not_value(alloc: Global, part: &Sexpr) -> Result<String, CallError> {
-    match part.word()? {
+fn not_value(alloc: Global, sexpr: &Sexpr) -> Result<String, CallError> {
+    match sexpr.word()? {
         "memory" => not_value_text(alloc, &NotValue::Memory),
         _ => {
-            let loc = maybe_place(alloc, part)?;
+            let loc = maybe_place(alloc, sexpr)?;
             not_value_text(alloc, &NotValue::NotValue { loc })
         }
     }

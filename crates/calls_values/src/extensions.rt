@@ -23,8 +23,8 @@ pub fn answer(alloc: Global, call: &str, args: &[Sexpr]) -> Result<String, CallE
 }
 
 // `(NAME (F ..) (N ..))`.
-fn extension(alloc: Global, part: &Sexpr) -> Result<Extension<Keyed>, CallError> {
-    match part.list()? {
+fn extension(alloc: Global, sexpr: &Sexpr) -> Result<Extension<Keyed>, CallError> {
+    match sexpr.list()? {
         [x, functions, types] => {
             let x = name(alloc, x.word()?)?;
             made(alloc, x, functions.list()?, named(alloc, types.list()?)?)
@@ -36,28 +36,28 @@ fn extension(alloc: Global, part: &Sexpr) -> Result<Extension<Keyed>, CallError>
 fn made(
     alloc: Global,
     x: Name,
-    parts: &[Sexpr],
+    sexprs: &[Sexpr],
     types: Vec<Name>,
 ) -> Result<Extension<Keyed>, CallError> {
     let mut functions = Vec::new(alloc);
-    for part in parts {
-        functions.push(named_function(alloc, part)?)?;
+    for sexpr in sexprs {
+        functions.push(named_function(alloc, sexpr)?)?;
     }
     Ok(Extension::new(alloc, x, functions, types)?)
 }
 
-fn named(alloc: Global, parts: &[Sexpr]) -> Result<Vec<Name>, CallError> {
+fn named(alloc: Global, sexprs: &[Sexpr]) -> Result<Vec<Name>, CallError> {
     let mut names = Vec::new(alloc);
-    for part in parts {
-        names.push(name(alloc, part.word()?)?)?;
+    for sexpr in sexprs {
+        names.push(name(alloc, sexpr.word()?)?)?;
     }
     Ok(names)
 }
 
-fn table(alloc: Global, parts: &[Sexpr]) -> Result<Extensions<Keyed>, CallError> {
+fn table(alloc: Global, sexprs: &[Sexpr]) -> Result<Extensions<Keyed>, CallError> {
     let mut extensions = Vec::new(alloc);
-    for part in parts {
-        extensions.push(extension(alloc, part)?)?;
+    for sexpr in sexprs {
+        extensions.push(extension(alloc, sexpr)?)?;
     }
     Ok(Extensions::new(extensions))
 }

@@ -39,8 +39,8 @@ fn of_call(
 }
 
 /// The function `(NAME WORD)`.
-pub fn named_function(alloc: Global, part: &Sexpr) -> Result<ExtensionFunction<Keyed>, CallError> {
-    match part.list()? {
+pub fn named_function(alloc: Global, sexpr: &Sexpr) -> Result<ExtensionFunction<Keyed>, CallError> {
+    match sexpr.list()? {
         [name, word] => function(alloc, name.word()?, word.word()?),
         _ => Err(CallError::BadArguments),
     }
@@ -173,8 +173,8 @@ fn type_text(alloc: Global, ty: &SchemaType) -> Result<String, CallError> {
 }
 
 // A copy of what a function answers: `(v V)` a value, `(u NAME)` an unknown.
-fn output(alloc: Global, part: &Sexpr) -> Result<String, CallError> {
-    match part.list()? {
+fn output(alloc: Global, sexpr: &Sexpr) -> Result<String, CallError> {
+    match sexpr.list()? {
         [head, inner] => copied(alloc, &of_word(alloc, head.word()?, inner)?),
         _ => Err(CallError::BadArguments),
     }

@@ -24,8 +24,8 @@ pub fn answer(alloc: Global, call: &str, args: &[Sexpr]) -> Result<String, CallE
     }
 }
 
-fn number(part: &Sexpr) -> Result<i64, CallError> {
-    part.word()?.parse().map_err(|_| CallError::BadArguments)
+fn number(sexpr: &Sexpr) -> Result<i64, CallError> {
+    sexpr.word()?.parse().map_err(|_| CallError::BadArguments)
 }
 
 fn many(alloc: Global, times: usize, v: &KeyedValue) -> Result<String, CallError> {
@@ -172,7 +172,7 @@ fn about(alloc: Global, v: &KeyedValue) -> Result<String, CallError> {
 fn counted(alloc: Global, pairs: &BTreeMap<RcStr, KeyedValue>) -> Result<String, CallError> {
     Answer::new(alloc)
         .labelled("keys=", &pairs.len())
-        .labelled("ascending=", &ascends(pairs))
+        .labelled("rising=", &ascends(pairs))
         .labelled("numbered=", &numbered(pairs))
         .end()
 }

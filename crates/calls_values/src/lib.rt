@@ -1,4 +1,4 @@
-//! Rows of calls on values, partial values and stored functions. `docs/CALLS.md` lists them.
+//! Recorded calls on values, partial values and stored functions. `docs/CALLS.md` lists them.
 #![tactic(auto)]
 
 mod conversion;
@@ -18,7 +18,7 @@ mod values;
 use calls_syntax::{CallError, Sexpr};
 use std::alloc::Global;
 
-/// The answer to a call on values or of a function, by its first word and what follows.
+/// The answer to a call on values or of a function, by its name and its arguments.
 pub fn answer(alloc: Global, call: &str, args: &[Sexpr]) -> Result<String, CallError> {
     match call {
         "cmpval" | "eqval" | "eqloc" | "valtype" | "uids" | "extval" => {

@@ -34,16 +34,16 @@ pub fn answer(alloc: Global, call: &str, args: &[Sexpr]) -> Result<String, CallE
     }
 }
 
-fn items(alloc: Global, parts: &[Sexpr]) -> Result<Vec<Item>, CallError> {
+fn items(alloc: Global, sexprs: &[Sexpr]) -> Result<Vec<Item>, CallError> {
     let mut items = Vec::new(alloc);
-    for part in parts {
-        items.push(item(alloc, part)?)?;
+    for sexpr in sexprs {
+        items.push(item(alloc, sexpr)?)?;
     }
     Ok(items)
 }
 
-fn item(alloc: Global, part: &Sexpr) -> Result<Item, CallError> {
-    match part.list()? {
+fn item(alloc: Global, sexpr: &Sexpr) -> Result<Item, CallError> {
+    match sexpr.list()? {
         [head, inner] => match head.word()? {
             "v" => Ok(PartialValue::from(value(alloc, inner)?)),
             "r" => Ok(PartialValue::Residual(expr(alloc, inner)?)),
@@ -60,8 +60,8 @@ fn unknown(alloc: Global, name: &str) -> Result<Item, CallError> {
     Ok(PartialValue::unknown(Unknown::new_untyped(name)))
 }
 
-fn with_unknown(alloc: Global, part: &Sexpr) -> Result<Item, CallError> {
-    let e = expr(alloc, part)?;
+fn with_unknown(alloc: Global, sexpr: &Sexpr) -> Result<Item, CallError> {
+    let e = expr(alloc, sexpr)?;
     if e.contains_unknown(alloc)? {
         Ok(PartialValue::from_expr(e))
     } else {

@@ -15,8 +15,8 @@ pub fn answer(alloc: Global, call: &str, args: &[Sexpr]) -> Result<String, CallE
     }
 }
 
-fn number(alloc: Global, part: &Sexpr) -> Result<i64, CallError> {
-    match literal(alloc, part)? {
+fn number(alloc: Global, sexpr: &Sexpr) -> Result<i64, CallError> {
+    match literal(alloc, sexpr)? {
         Some(Literal::Long(number)) => Ok(number),
         _ => Err(CallError::BadArguments),
     }
@@ -28,24 +28,24 @@ fn flip(alloc: Global, number: i64) -> Result<Value<Flip>, CallError> {
 }
 
 // The set of these, which those gathered twice have to make too.
-fn set(alloc: Global, part: &Sexpr) -> Result<Set<Flip>, CallError> {
-    let parts = part.list()?;
-    let set = Set::new(alloc, flips(alloc, parts, 1)?)?;
-    is_gathered(alloc, parts, &set)?;
+fn set(alloc: Global, sexpr: &Sexpr) -> Result<Set<Flip>, CallError> {
+    let sexprs = sexpr.list()?;
+    let set = Set::new(alloc, flips(alloc, sexprs, 1)?)?;
+    is_gathered(alloc, sexprs, &set)?;
     Ok(set)
 }
 
-fn is_gathered(alloc: Global, parts: &[Sexpr], set: &Set<Flip>) -> Result<(), CallError> {
-    let gathered = Set::from_values(alloc, flips(alloc, parts, 2)?)?;
+fn is_gathered(alloc: Global, sexprs: &[Sexpr], set: &Set<Flip>) -> Result<(), CallError> {
+    let gathered = Set::from_values(alloc, flips(alloc, sexprs, 2)?)?;
     holds(gathered == *set, "sets made and gathered")
 }
 
 // The values of the numbers, each so many times.
-fn flips(alloc: Global, parts: &[Sexpr], times: usize) -> Result<Vec<Value<Flip>>, CallError> {
+fn flips(alloc: Global, sexprs: &[Sexpr], times: usize) -> Result<Vec<Value<Flip>>, CallError> {
     let mut flips = Vec::new(alloc);
     for _ in 0..times {
-        for part in parts {
-            flips.push(flip(alloc, number(alloc, part)?)?)?;
+        for sexpr in sexprs {
+            flips.push(flip(alloc, number(alloc, sexpr)?)?)?;
         }
     }
     Ok(flips)

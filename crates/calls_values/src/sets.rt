@@ -88,8 +88,8 @@ fn listed(alloc: Global, text: String, set: &Set<Keyed>) -> Result<String, CallE
     Ok(text)
 }
 
-fn set_of(alloc: Global, parts: &[Sexpr]) -> Result<Set<Keyed>, CallError> {
-    Ok(Set::new(alloc, values(alloc, parts)?)?)
+fn set_of(alloc: Global, sexprs: &[Sexpr]) -> Result<Set<Keyed>, CallError> {
+    Ok(Set::new(alloc, values(alloc, sexprs)?)?)
 }
 
 fn kept(alloc: Global, given: &[KeyedValue], set: &Set<Keyed>) -> Result<String, CallError> {

@@ -52,7 +52,7 @@ fn simplified(
     expr: &Expr,
     values: &HashMap<RcStr, Value>,
 ) -> Result<Simplified, CaseFault> {
-    let part = simplify(alloc, expr, values)?;
-    expect(part.is_known() == matches!(rest, Rest::Closed))?;
-    Ok(part)
+    let simplified = simplify(alloc, expr, values)?;
+    expect(simplified.is_known() == matches!(rest, Rest::Closed))?;
+    Ok(simplified)
 }

@@ -131,7 +131,7 @@ fn number(number: usize) -> Result<Expr, CaseFault> {
     }
 }
 
-// What is left of the expressions when level after level was made of them until there is one.
+// The one expression that is made of these, level after level.
 fn tree_of_level(alloc: Global, leaves: Vec<Expr>, level: Level) -> Result<Expr, CaseFault> {
     let mut exprs = leaves;
     for _ in 0..usize::BITS {

@@ -1,12 +1,12 @@
 //! Reads recorded calls, and answers each with a line. `docs/CALLS.md` describes the language.
 use crate::{outcomes, simplified};
-use calls_syntax::{CallError, Sexpr, parts};
+use calls_syntax::{CallError, Sexpr, sexprs};
 use std::alloc::{AllocError, Global};
 use std::io::{self, Read, Write};
 use std::str;
 use thiserror::Error;
 
-/// Why rows are not answered to their end.
+/// Why recorded calls are not answered to their end.
 #[derive(Debug, PartialEq, Eq, Drop, Error)]
 pub enum CallsFault {
     /// The input can't be read, or is not UTF-8.
@@ -26,21 +26,21 @@ impl From<AllocError> for CallsFault {
     }
 }
 
-/// Reads rows to the end, and writes a line for each: the row itself where it is empty or a heading
-/// (`#` in front), else its answer.
+/// Reads lines to the end, and writes one for each: the line itself where it is empty or a heading
+/// (`#` in front), else the answer to the call.
 ///
-/// Where memory runs out in a row, it is answered again, and the answer stands behind
-/// `refused, then `. What is no call gives `?? ROW`, answers that have to agree and do not give
-/// `!! WHAT: ROW`.
+/// Where memory runs out in a call, it is answered again, and the answer stands behind
+/// `refused, then `. What is no call gives `?? LINE`, answers that have to agree and do not give
+/// `!! WHAT: LINE`.
 pub fn run<R: Read, W: Write>(
     alloc: Global,
     reader: &mut R,
     writer: &mut W,
 ) -> Result<(), CallsFault> {
     let input = read_input(alloc, reader)?;
-    let rows = str::from_utf8(input.as_slice()).map_err(|_| CallsFault::Input)?;
-    for row in rows.lines() {
-        write_line(alloc, writer, row)?;
+    let lines = str::from_utf8(input.as_slice()).map_err(|_| CallsFault::Input)?;
+    for line in lines.lines() {
+        write_line(alloc, writer, line)?;
     }
     Ok(())
 }
@@ -55,17 +55,17 @@ fn read_input<R: Read>(alloc: Global, reader: &mut R) -> Result<Vec<u8>, CallsFa
     }
 }
 
-fn write_line<W: Write>(alloc: Global, writer: &mut W, row: &str) -> Result<(), CallsFault> {
-    if row.is_empty() || row.starts_with('#') {
-        return write(writer, row);
+fn write_line<W: Write>(alloc: Global, writer: &mut W, line: &str) -> Result<(), CallsFault> {
+    if line.is_empty() || line.starts_with('#') {
+        return write(writer, line);
     }
-    let line = match answer(alloc, row) {
+    let answer = match answer(alloc, line) {
         Ok(answer) => answer,
         Err(CallError::Memory) => return Err(CallsFault::Memory),
-        Err(CallError::Mismatch(what)) => format!(in alloc; "!! {what}: {row}")?,
-        Err(CallError::UnknownCall | CallError::BadArguments) => format!(in alloc; "?? {row}")?,
+        Err(CallError::Mismatch(what)) => format!(in alloc; "!! {what}: {line}")?,
+        Err(CallError::UnknownCall | CallError::BadArguments) => format!(in alloc; "?? {line}")?,
     };
-    write(writer, line.as_str())
+    write(writer, answer.as_str())
 }
 
 fn write<W: Write>(writer: &mut W, line: &str) -> Result<(), CallsFault> {
@@ -76,10 +76,10 @@ fn write<W: Write>(writer: &mut W, line: &str) -> Result<(), CallsFault> {
     }
 }
 
-// The answer to a row, which is answered twice where memory is refused the first time.
-fn answer(alloc: Global, row: &str) -> Result<String, CallError> {
-    let parts = parts(alloc, row)?;
-    let [call, args @ ..] = parts.as_slice() else {
+// The answer to a call, which is answered twice where memory is refused the first time.
+fn answer(alloc: Global, line: &str) -> Result<String, CallError> {
+    let sexprs = sexprs(alloc, line)?;
+    let [call, args @ ..] = sexprs.as_slice() else {
         return Err(CallError::BadArguments);
     };
     let call = call.word()?;

@@ -1,4 +1,4 @@
-//! Answers rows of calls from standard input. Of the answers that are stored here the first were
+//! Answers recorded calls from standard input. Of the answers that are stored here the first were
 //! worked by hand, those of evaluations given by two evaluators written by hand in other languages,
 //! and the last recorded of the crate's own code.
 #![tactic(auto)]

@@ -1,4 +1,4 @@
-//! The plain values that parts of a row stand for: those without extension values.
+//! The plain values that arguments stand for: those without extension values.
 use calls_decode::{KeyedValue, value_pairs};
 use calls_syntax::{CallError, Sexpr};
 use cedar_exprs::Expr;
@@ -14,9 +14,9 @@ pub type PlainValue = Value<NoExtension>;
 pub type PlainValues = HashMap<RcStr, PlainValue>;
 
 /// What unknowns are bound to: `(("x" V) ..)`; of equal names the last stands.
-pub fn plain_bindings(alloc: Global, part: &Sexpr) -> Result<PlainValues, CallError> {
+pub fn plain_bindings(alloc: Global, sexpr: &Sexpr) -> Result<PlainValues, CallError> {
     let mut values = HashMap::new(alloc);
-    for (name, bound) in value_pairs(alloc, part.list()?)? {
+    for (name, bound) in value_pairs(alloc, sexpr.list()?)? {
         bind_value(alloc, &mut values, name, &bound)?;
     }
     Ok(values)

@@ -24,14 +24,14 @@ fn answered(alloc: Global, e: &Expr, values: &PlainValues) -> Result<String, Cal
         text == text_of(alloc, in_turn(alloc, e, values)?)?,
         "at once and in turn",
     )?;
-    let left = at_once(alloc, e, values)?.into_expr(alloc)?;
+    let residual = at_once(alloc, e, values)?.into_expr(alloc)?;
     agree(
-        text == text_of(alloc, by_itself(alloc, &left)?)?,
+        text == text_of(alloc, by_itself(alloc, &residual)?)?,
         "simplified once and twice",
     )?;
     agree(
-        outcome(alloc, e, values)? == outcome(alloc, &left, &HashMap::new(alloc))?,
-        "what it means and what is left means",
+        outcome(alloc, e, values)? == outcome(alloc, &residual, &HashMap::new(alloc))?,
+        "what it means and what the residual means",
     )?;
     Ok(text)
 }
@@ -53,8 +53,8 @@ fn text_of(alloc: Global, simplified: Simplified) -> Result<String, CallError> {
     if let Some(value) = simplified.as_value() {
         return Ok(format!(in alloc; "known {value}")?);
     }
-    let left = sketch(alloc, &simplified.into_expr(alloc)?)?;
-    Ok(format!(in alloc; "left {left}")?)
+    let residual = sketch(alloc, &simplified.into_expr(alloc)?)?;
+    Ok(format!(in alloc; "left {residual}")?)
 }
 
 // The outcome, or the call that is refused, as a text.

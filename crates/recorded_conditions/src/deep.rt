@@ -5,7 +5,7 @@ use cedar_printer::policy_text;
 use std::alloc::{AllocError, Global};
 use std::io;
 
-/// Shows that depth, of so many levels, ends neither reading nor printing.
+/// Shows that depth, of so many levels, ends neither parsing nor printing.
 pub fn show(rt: &HostRuntime, levels: usize) -> io::Result<()> {
     let text = nested(rt.alloc(), levels)?;
     match parse_expr(rt.alloc(), &text) {

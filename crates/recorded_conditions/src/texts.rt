@@ -1,4 +1,4 @@
-//! Texts that are read.
+//! Texts that are parsed.
 use cedar_exprs::Expr;
 use cedar_parser::{ParseError, SyntaxError, parse_expr};
 use cedar_printer::policy_text;
@@ -6,7 +6,7 @@ use cedar_sketch::Sketch;
 use std::alloc::{AllocError, Global};
 use std::io;
 
-/// Shows what is read of each text of a file.
+/// Shows what each text of a file is parsed to.
 pub fn show(rt: &HostRuntime, texts: &str) -> io::Result<()> {
     for text in texts.split("\n\n") {
         let text = text.trim_end();

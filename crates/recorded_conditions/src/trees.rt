@@ -1,6 +1,6 @@
-//! Trees that are printed and read again.
+//! Trees that are printed and parsed again.
 use calls_decode::expr;
-use calls_syntax::{CallError, parts};
+use calls_syntax::{CallError, sexprs};
 use cedar_exprs::Expr;
 use cedar_parser::{ParseError, SyntaxError, parse_expr};
 use cedar_printer::policy_text;
@@ -8,22 +8,23 @@ use std::alloc::{AllocError, Global};
 use std::io::{self, BufRead as _, BufReader};
 use thiserror::Error;
 
-/// Compares each tree of standard input with what is read of its text, and shows those that differ.
+/// Compares each tree of standard input with what its text is parsed to, and shows those that
+/// differ.
 pub fn read_back(rt: &HostRuntime) -> io::Result<()> {
     let mut trees = 0_u64;
     let mut failed = 0_u64;
-    for row in BufReader::new(rt.alloc(), rt.reader())?.lines(rt.alloc()) {
-        let row = row?;
+    for line in BufReader::new(rt.alloc(), rt.reader())?.lines(rt.alloc()) {
+        let line = line?;
         trees = trees.saturating_add(1);
-        if let Some(failure) = compare(rt.alloc(), &row)? {
+        if let Some(failure) = compare(rt.alloc(), &line)? {
             failed = failed.saturating_add(1);
-            println!(rt; "{failure}: {row}")?;
+            println!(rt; "{failure}: {line}")?;
         }
     }
     println!(rt; "{trees} trees, {failed} failed")
 }
 
-// What may become of a row.
+// What may be wrong with a line.
 #[derive(Debug, Drop, Error)]
 enum Failure {
     #[error("another tree is read")]
@@ -34,9 +35,9 @@ enum Failure {
     NoTree,
 }
 
-// Prints the tree of a row, reads that and compares.
-fn compare(alloc: Global, row: &str) -> Result<Option<Failure>, AllocError> {
-    match tree(alloc, row) {
+// Prints the tree of a line, parses that and compares.
+fn compare(alloc: Global, line: &str) -> Result<Option<Failure>, AllocError> {
+    match tree(alloc, line) {
         Ok(tree) => compare_tree(alloc, &tree),
         Err(CallError::Memory) => Err(AllocError),
         Err(_) => Ok(Some(Failure::NoTree)),
@@ -53,10 +54,10 @@ fn compare_tree(alloc: Global, tree: &Expr) -> Result<Option<Failure>, AllocErro
     }
 }
 
-// The tree of a row.
-fn tree(alloc: Global, row: &str) -> Result<Expr, CallError> {
-    match parts(alloc, row)?.as_slice() {
-        [part] => expr(alloc, part),
+// The tree of a line.
+fn tree(alloc: Global, line: &str) -> Result<Expr, CallError> {
+    match sexprs(alloc, line)?.as_slice() {
+        [sexpr] => expr(alloc, sexpr),
         _ => Err(CallError::BadArguments),
     }
 }

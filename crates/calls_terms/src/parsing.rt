@@ -1,4 +1,4 @@
-//! Readers of texts.
+//! Names and identifiers, parsed from texts.
 use crate::told::Told;
 use calls_syntax::{Answer, CallError, Sexpr, boolean, ok, text};
 use cedar_names::{
@@ -14,7 +14,7 @@ enum Refusal {
     Text,
 }
 
-/// The answer to a reader's call.
+/// The answer to a parser's call.
 pub fn answer(alloc: Global, call: &str, args: &[Sexpr]) -> Result<String, CallError> {
     match args {
         [] => match call {
@@ -26,31 +26,31 @@ pub fn answer(alloc: Global, call: &str, args: &[Sexpr]) -> Result<String, CallE
             "ident" => ident(alloc, text),
             _ => read(alloc, call, text, Refusal::Kind),
         },
-        [reader, text] => match call {
-            "refusal" => read(alloc, reader.word()?, text, Refusal::Text),
+        [parser, text] => match call {
+            "refusal" => read(alloc, parser.word()?, text, Refusal::Text),
             _ => Err(CallError::UnknownCall),
         },
         _ => Err(CallError::UnknownCall),
     }
 }
 
-fn read(alloc: Global, reader: &str, part: &Sexpr, refusal: Refusal) -> Result<String, CallError> {
-    match reader {
-        "id" => read_as::<Id>(alloc, part, refusal),
-        "uid" => read_as::<UnreservedId>(alloc, part, refusal),
-        "anyid" => read_as::<AnyId>(alloc, part, refusal),
-        "iname" => read_as::<InternalName>(alloc, part, refusal),
-        "unq-iname" => unqualified_internal(alloc, part, refusal),
-        "name" => read_as::<Name>(alloc, part, refusal),
-        "unq-name" => unqualified_plain(alloc, part, refusal),
-        "rawname" => raw(alloc, part, refusal),
-        "unq-rawname" => unqualified_raw(alloc, part, refusal),
+fn read(alloc: Global, parser: &str, sexpr: &Sexpr, refusal: Refusal) -> Result<String, CallError> {
+    match parser {
+        "id" => read_as::<Id>(alloc, sexpr, refusal),
+        "uid" => read_as::<UnreservedId>(alloc, sexpr, refusal),
+        "anyid" => read_as::<AnyId>(alloc, sexpr, refusal),
+        "iname" => read_as::<InternalName>(alloc, sexpr, refusal),
+        "unq-iname" => unqualified_internal(alloc, sexpr, refusal),
+        "name" => read_as::<Name>(alloc, sexpr, refusal),
+        "unq-name" => unqualified_plain(alloc, sexpr, refusal),
+        "rawname" => raw(alloc, sexpr, refusal),
+        "unq-rawname" => unqualified_raw(alloc, sexpr, refusal),
         _ => Err(CallError::UnknownCall),
     }
 }
 
-fn ident(alloc: Global, part: &Sexpr) -> Result<String, CallError> {
-    let text = text(alloc, part)?;
+fn ident(alloc: Global, sexpr: &Sexpr) -> Result<String, CallError> {
+    let text = text(alloc, sexpr)?;
     boolean(alloc, is_normalized_ident(text.as_str()))
 }
 
@@ -66,15 +66,15 @@ fn kinds(alloc: Global) -> Result<String, CallError> {
 
 fn read_as<T: FromNormalizedStr + Told>(
     alloc: Global,
-    part: &Sexpr,
+    sexpr: &Sexpr,
     refusal: Refusal,
 ) -> Result<String, CallError> {
-    let text = text(alloc, part)?;
+    let text = text(alloc, sexpr)?;
     told(alloc, T::from_normalized_str(alloc, text.as_str()), refusal)
 }
 
-fn raw(alloc: Global, part: &Sexpr, refusal: Refusal) -> Result<String, CallError> {
-    let text = text(alloc, part)?;
+fn raw(alloc: Global, sexpr: &Sexpr, refusal: Refusal) -> Result<String, CallError> {
+    let text = text(alloc, sexpr)?;
     told(
         alloc,
         RawName::from_normalized_str(alloc, text.as_str()),
@@ -84,10 +84,10 @@ fn raw(alloc: Global, part: &Sexpr, refusal: Refusal) -> Result<String, CallErro
 
 fn unqualified_internal(
     alloc: Global,
-    part: &Sexpr,
+    sexpr: &Sexpr,
     refusal: Refusal,
 ) -> Result<String, CallError> {
-    let text = text(alloc, part)?;
+    let text = text(alloc, sexpr)?;
     told(
         alloc,
         InternalName::parse_unqualified_name(alloc, text.as_str()),
@@ -95,8 +95,8 @@ fn unqualified_internal(
     )
 }
 
-fn unqualified_plain(alloc: Global, part: &Sexpr, refusal: Refusal) -> Result<String, CallError> {
-    let text = text(alloc, part)?;
+fn unqualified_plain(alloc: Global, sexpr: &Sexpr, refusal: Refusal) -> Result<String, CallError> {
+    let text = text(alloc, sexpr)?;
     told(
         alloc,
         Name::parse_unqualified_name(alloc, text.as_str()),
@@ -104,8 +104,8 @@ fn unqualified_plain(alloc: Global, part: &Sexpr, refusal: Refusal) -> Result<St
     )
 }
 
-fn unqualified_raw(alloc: Global, part: &Sexpr, refusal: Refusal) -> Result<String, CallError> {
-    let text = text(alloc, part)?;
+fn unqualified_raw(alloc: Global, sexpr: &Sexpr, refusal: Refusal) -> Result<String, CallError> {
+    let text = text(alloc, sexpr)?;
     match RawName::parse_unqualified_name(alloc, text.as_str()) {
         Ok(name) => ok(alloc, &name),
         Err(e) => refused(alloc, &e, refusal),

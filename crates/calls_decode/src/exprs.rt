@@ -1,4 +1,4 @@
-//! The expressions that parts of a row stand for, each node as it is written and never simplified.
+//! The expressions that arguments stand for, each node as it is written and never simplified.
 use calls_syntax::{
     CallError, Sexpr, literal, loc, name, pattern, shared_text, term_type, word_literal,
 };
@@ -9,24 +9,24 @@ use cedar_terms::{BinaryOp, EntityType, Pattern, UnaryOp, Unknown, Var};
 use std::alloc::Global;
 use std::rc::{Rc, RcStr};
 
-/// The expression that a part stands for: as the sketch writes it, beside it `(exthas E "a" ..)`
+/// The expression that an argument stands for: as the sketch writes it, beside it `(exthas E "a" ..)`
 /// and `(@ 3 7 E)`, E at the place 3..7; and of shared nodes `(thrice E)`, an `if` of E three
-/// times, and `(thirds E)`, an `if` of a set of E twice and of another set of the same row.
+/// times, and `(thirds E)`, an `if` of a set of E twice and of another set with the same children.
 #[cycle(trees)]
-pub fn expr(alloc: Global, part: &Sexpr) -> Result<Expr, CallError> {
-    match part {
-        Sexpr::List(parts) => match parts.as_slice() {
+pub fn expr(alloc: Global, sexpr: &Sexpr) -> Result<Expr, CallError> {
+    match sexpr {
+        Sexpr::List(sexprs) => match sexprs.as_slice() {
             [head, args @ ..] => compound(alloc, head.word()?, args),
             [] => Err(CallError::BadArguments),
         },
         Sexpr::Word(word) => word_expr(word),
-        _ => text_expr(alloc, part),
+        _ => text_expr(alloc, sexpr),
     }
 }
 
 // The literal of a text or an entity.
-fn text_expr(alloc: Global, part: &Sexpr) -> Result<Expr, CallError> {
-    match literal(alloc, part)? {
+fn text_expr(alloc: Global, sexpr: &Sexpr) -> Result<Expr, CallError> {
+    match literal(alloc, sexpr)? {
         Some(literal) => Ok(Expr::val(literal)),
         None => Err(CallError::BadArguments),
     }
@@ -65,7 +65,7 @@ fn compound(alloc: Global, head: &str, args: &[Sexpr]) -> Result<Expr, CallError
     }
 }
 
-// The lists of one part, two or three behind the word.
+// The lists with one, two or three behind the word.
 #[cycle(trees)]
 fn of_few(alloc: Global, head: &str, args: &[Sexpr]) -> Result<Expr, CallError> {
     match args {
@@ -87,10 +87,10 @@ fn of_few(alloc: Global, head: &str, args: &[Sexpr]) -> Result<Expr, CallError> 
     }
 }
 
-// The shared expression that a part stands for.
+// The shared expression that an argument stands for.
 #[cycle(trees)]
-fn child(alloc: Global, part: &Sexpr) -> Result<Rc<Expr>, CallError> {
-    Ok(Rc::new(alloc, expr(alloc, part)?)?)
+fn child(alloc: Global, sexpr: &Sexpr) -> Result<Rc<Expr>, CallError> {
+    Ok(Rc::new(alloc, expr(alloc, sexpr)?)?)
 }
 
 fn of_child(alloc: Global, head: &str, child: Expr) -> Result<Expr, CallError> {
@@ -112,16 +112,16 @@ fn thrice(alloc: Global, child: Expr) -> Result<Expr, CallError> {
     Ok(Expr::ite_arc(child.clone()?, child.clone()?, child))
 }
 
-// An `if` of one shared set twice, and of a set that shares its row.
+// An `if` of one shared set twice, and of a set that shares its children.
 fn thirds(alloc: Global, member: Expr) -> Result<Expr, CallError> {
-    let row = Rc::new(alloc, vec![in alloc; member]?)?;
-    let twice = shared_set(alloc, row.clone()?)?;
-    let last = shared_set(alloc, row)?;
+    let members = Rc::new(alloc, vec![in alloc; member]?)?;
+    let twice = shared_set(alloc, members.clone()?)?;
+    let last = shared_set(alloc, members)?;
     Ok(Expr::ite_arc(twice.clone()?, twice, last))
 }
 
-fn shared_set(alloc: Global, row: Rc<Vec<Expr>>) -> Result<Rc<Expr>, CallError> {
-    Ok(Rc::new(alloc, made(ExprKind::Set(row)))?)
+fn shared_set(alloc: Global, members: Rc<Vec<Expr>>) -> Result<Rc<Expr>, CallError> {
+    Ok(Rc::new(alloc, made(ExprKind::Set(members)))?)
 }
 
 fn at_place(place: Loc, inner: Expr) -> Result<Expr, CallError> {
@@ -203,7 +203,7 @@ fn has(alloc: Global, expr: Rc<Expr>, first: &Sexpr, further: &[Sexpr]) -> Resul
     Ok(made(ExprKind::HasAttr { expr, attrs }))
 }
 
-/// The attributes that parts in quotes stand for.
+/// The attributes that texts in quotes stand for.
 pub fn attributes(
     alloc: Global,
     first: &Sexpr,
@@ -218,30 +218,30 @@ fn made(kind: ExprKind) -> Expr {
     ExprBuilder::new().with_expr_kind(kind)
 }
 
-/// The expressions that parts stand for.
+/// The expressions that arguments stand for.
 #[cycle(trees)]
-pub fn exprs(alloc: Global, parts: &[Sexpr]) -> Result<Vec<Expr>, CallError> {
+pub fn exprs(alloc: Global, sexprs: &[Sexpr]) -> Result<Vec<Expr>, CallError> {
     let mut exprs = Vec::new(alloc);
-    for part in parts {
-        exprs.push(expr(alloc, part)?)?;
+    for sexpr in sexprs {
+        exprs.push(expr(alloc, sexpr)?)?;
     }
     Ok(exprs)
 }
 
-// The pairs `("key" E)` that parts stand for.
+// The pairs `("key" E)` that arguments stand for.
 #[cycle(trees)]
-fn pairs(alloc: Global, parts: &[Sexpr]) -> Result<Vec<(RcStr, Expr)>, CallError> {
+fn pairs(alloc: Global, sexprs: &[Sexpr]) -> Result<Vec<(RcStr, Expr)>, CallError> {
     let mut pairs = Vec::new(alloc);
-    for part in parts {
-        pairs.push(pair(alloc, part)?)?;
+    for sexpr in sexprs {
+        pairs.push(pair(alloc, sexpr)?)?;
     }
     Ok(pairs)
 }
 
 #[cycle(trees)]
-fn pair(alloc: Global, part: &Sexpr) -> Result<(RcStr, Expr), CallError> {
-    match part {
-        Sexpr::List(parts) => match parts.as_slice() {
+fn pair(alloc: Global, sexpr: &Sexpr) -> Result<(RcStr, Expr), CallError> {
+    match sexpr {
+        Sexpr::List(sexprs) => match sexprs.as_slice() {
             [key, value] => {
                 let key = shared_text(alloc, key)?;
                 Ok((key, expr(alloc, value)?))
@@ -252,11 +252,11 @@ fn pair(alloc: Global, part: &Sexpr) -> Result<(RcStr, Expr), CallError> {
     }
 }
 
-// The texts that parts in quotes stand for.
-fn texts(alloc: Global, parts: &[Sexpr]) -> Result<Vec<RcStr>, CallError> {
+// The texts that quoted arguments stand for.
+fn texts(alloc: Global, sexprs: &[Sexpr]) -> Result<Vec<RcStr>, CallError> {
     let mut texts = Vec::new(alloc);
-    for part in parts {
-        texts.push(shared_text(alloc, part)?)?;
+    for sexpr in sexprs {
+        texts.push(shared_text(alloc, sexpr)?)?;
     }
     Ok(texts)
 }

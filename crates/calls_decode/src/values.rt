@@ -1,5 +1,5 @@
-//! The values that parts of a row stand for.
-use crate::expr_parts::expr;
+//! The values that arguments stand for.
+use crate::exprs::expr;
 use crate::keyed::Keyed;
 use crate::sketched::sketch;
 use calls_syntax::{CallError, Sexpr, count, literal, loc, name, shared_text, text};
@@ -15,10 +15,10 @@ use std::rc::{Rc, RcStr};
 pub type KeyedValue = Value<Keyed>;
 
 /// What unknowns are bound to: `(("x" V) ..)`; of equal names the last stands.
-pub fn bindings(alloc: Global, part: &Sexpr) -> Result<HashMap<RcStr, KeyedValue>, CallError> {
+pub fn bindings(alloc: Global, sexpr: &Sexpr) -> Result<HashMap<RcStr, KeyedValue>, CallError> {
     let mut values = HashMap::new(alloc);
-    for part in part.list()? {
-        insert_value(alloc, &mut values, part)?;
+    for sexpr in sexpr.list()? {
+        insert_value(alloc, &mut values, sexpr)?;
     }
     Ok(values)
 }
@@ -26,24 +26,24 @@ pub fn bindings(alloc: Global, part: &Sexpr) -> Result<HashMap<RcStr, KeyedValue
 fn insert_value(
     alloc: Global,
     values: &mut HashMap<RcStr, KeyedValue>,
-    part: &Sexpr,
+    sexpr: &Sexpr,
 ) -> Result<(), CallError> {
-    let (key, bound) = pair(alloc, part)?;
+    let (key, bound) = pair(alloc, sexpr)?;
     drop(values.insert(key, bound)?);
     Ok(())
 }
 
-/// The value that a part stands for: a literal, `(set V ..)`, `(setfrom V ..)`, `(setlits V ..)`,
+/// The value that an argument stands for: a literal, `(set V ..)`, `(setfrom V ..)`, `(setlits V ..)`,
 /// `(record ("k" V) ..)`, `(@ 3 7 V)` at a place, `(@ - V)` at none, `(ext K "NOTE")`,
 /// `(lazy K "NOTE")`, `(extas K CALL)`, or `(within 3 V)`, V in three sets inside one another.
 #[cycle(values)]
-pub fn value(alloc: Global, part: &Sexpr) -> Result<KeyedValue, CallError> {
-    match part {
-        Sexpr::List(parts) => match parts.as_slice() {
+pub fn value(alloc: Global, sexpr: &Sexpr) -> Result<KeyedValue, CallError> {
+    match sexpr {
+        Sexpr::List(sexprs) => match sexprs.as_slice() {
             [head, args @ ..] => compound(alloc, head.word()?, args),
             [] => Err(CallError::BadArguments),
         },
-        _ => Ok(Value::from(given_literal(alloc, part)?)),
+        _ => Ok(Value::from(given_literal(alloc, sexpr)?)),
     }
 }
 
@@ -59,7 +59,7 @@ fn compound(alloc: Global, head: &str, args: &[Sexpr]) -> Result<KeyedValue, Cal
     }
 }
 
-// The lists of two parts or three behind the word.
+// The lists with two or three behind the word.
 #[cycle(values)]
 fn of_few(alloc: Global, head: &str, args: &[Sexpr]) -> Result<KeyedValue, CallError> {
     match args {
@@ -135,30 +135,30 @@ fn lazy(alloc: Global, key: i64) -> Result<KeyedValue, CallError> {
     extension(alloc, RepresentableExtensionValue::new_lazy(keyed))
 }
 
-/// The values that parts stand for.
+/// The values that arguments stand for.
 #[cycle(values)]
-pub fn values(alloc: Global, parts: &[Sexpr]) -> Result<Vec<KeyedValue>, CallError> {
+pub fn values(alloc: Global, sexprs: &[Sexpr]) -> Result<Vec<KeyedValue>, CallError> {
     let mut values = Vec::new(alloc);
-    for part in parts {
-        values.push(value(alloc, part)?)?;
+    for sexpr in sexprs {
+        values.push(value(alloc, sexpr)?)?;
     }
     Ok(values)
 }
 
-/// The pairs `("key" V)` that parts stand for.
+/// The pairs `("key" V)` that arguments stand for.
 #[cycle(values)]
-pub fn value_pairs(alloc: Global, parts: &[Sexpr]) -> Result<Vec<(RcStr, KeyedValue)>, CallError> {
+pub fn value_pairs(alloc: Global, sexprs: &[Sexpr]) -> Result<Vec<(RcStr, KeyedValue)>, CallError> {
     let mut pairs = Vec::new(alloc);
-    for part in parts {
-        pairs.push(pair(alloc, part)?)?;
+    for sexpr in sexprs {
+        pairs.push(pair(alloc, sexpr)?)?;
     }
     Ok(pairs)
 }
 
 #[cycle(values)]
-fn pair(alloc: Global, part: &Sexpr) -> Result<(RcStr, KeyedValue), CallError> {
-    match part {
-        Sexpr::List(parts) => match parts.as_slice() {
+fn pair(alloc: Global, sexpr: &Sexpr) -> Result<(RcStr, KeyedValue), CallError> {
+    match sexpr {
+        Sexpr::List(sexprs) => match sexprs.as_slice() {
             [key, bound] => {
                 let key = shared_text(alloc, key)?;
                 Ok((key, value(alloc, bound)?))
@@ -169,21 +169,21 @@ fn pair(alloc: Global, part: &Sexpr) -> Result<(RcStr, KeyedValue), CallError> {
     }
 }
 
-/// The literals that parts stand for.
-pub fn literals(alloc: Global, parts: &[Sexpr]) -> Result<Vec<Literal>, CallError> {
+/// The literals that arguments stand for.
+pub fn literals(alloc: Global, sexprs: &[Sexpr]) -> Result<Vec<Literal>, CallError> {
     let mut literals = Vec::new(alloc);
-    for part in parts {
-        literals.push(given_literal(alloc, part)?)?;
+    for sexpr in sexprs {
+        literals.push(given_literal(alloc, sexpr)?)?;
     }
     Ok(literals)
 }
 
-fn given_literal(alloc: Global, part: &Sexpr) -> Result<Literal, CallError> {
-    literal(alloc, part)?.ok_or(CallError::BadArguments)
+fn given_literal(alloc: Global, sexpr: &Sexpr) -> Result<Literal, CallError> {
+    literal(alloc, sexpr)?.ok_or(CallError::BadArguments)
 }
 
-fn number(alloc: Global, part: &Sexpr) -> Result<i64, CallError> {
-    match literal(alloc, part)? {
+fn number(alloc: Global, sexpr: &Sexpr) -> Result<i64, CallError> {
+    match literal(alloc, sexpr)? {
         Some(Literal::Long(key)) => Ok(key),
         _ => Err(CallError::BadArguments),
     }
