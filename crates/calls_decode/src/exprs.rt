@@ -9,9 +9,10 @@ use cedar_terms::{BinaryOp, EntityType, Pattern, UnaryOp, Unknown, Var};
 use std::alloc::Global;
 use std::rc::{Rc, RcStr};
 
-/// The expression that an argument stands for: as the sketch writes it, beside it `(exthas E "a" ..)`
-/// and `(@ 3 7 E)`, E at the place 3..7; and of shared nodes `(thrice E)`, an `if` of E three
-/// times, and `(thirds E)`, an `if` of a set of E twice and of another set with the same children.
+/// The expression that an argument stands for: as the sketch writes it, beside it
+/// `(exthas E "a" ..)` and `(@ 3 7 E)`, E at the place 3..7; and of shared nodes `(thrice E)`, an
+/// `if` of E three times, and `(thirds E)`, an `if` of a set of E twice and of another set with the
+/// same children.
 #[cycle(trees)]
 pub fn expr(alloc: Global, sexpr: &Sexpr) -> Result<Expr, CallError> {
     match sexpr {
@@ -36,11 +37,10 @@ fn word_expr(word: &str) -> Result<Expr, CallError> {
     if let Some(literal) = word_literal(word) {
         return Ok(Expr::val(literal));
     }
+    if let Some(var) = Var::from_text(word) {
+        return Ok(Expr::var(var));
+    }
     match word {
-        "principal" => Ok(Expr::var(Var::Principal)),
-        "action" => Ok(Expr::var(Var::Action)),
-        "resource" => Ok(Expr::var(Var::Resource)),
-        "context" => Ok(Expr::var(Var::Context)),
         "?principal" => Ok(Expr::slot(SlotId::principal())),
         "?resource" => Ok(Expr::slot(SlotId::resource())),
         _ => Err(CallError::BadArguments),
@@ -184,7 +184,8 @@ fn set(alloc: Global, members: Vec<Expr>) -> Result<Expr, CallError> {
     Ok(made(ExprKind::Set(Rc::new(alloc, members)?)))
 }
 
-fn record(alloc: Global, pairs: Vec<(RcStr, Expr)>) -> Result<Expr, CallError> {
+/// The record of these pairs, where no key repeats.
+pub fn record(alloc: Global, pairs: Vec<(RcStr, Expr)>) -> Result<Expr, CallError> {
     match Expr::record(alloc, pairs) {
         Ok(record) => Ok(record),
         Err(ExpressionConstructionError::DuplicateKey(_)) => Err(CallError::BadArguments),
@@ -263,29 +264,10 @@ fn texts(alloc: Global, sexprs: &[Sexpr]) -> Result<Vec<RcStr>, CallError> {
 
 /// The operator on one argument that a word spells.
 pub fn unary(op: &str) -> Result<UnaryOp, CallError> {
-    match op {
-        "!" => Ok(UnaryOp::Not),
-        "-" => Ok(UnaryOp::Neg),
-        "isEmpty" => Ok(UnaryOp::IsEmpty),
-        _ => Err(CallError::BadArguments),
-    }
+    UnaryOp::from_text(op).ok_or(CallError::BadArguments)
 }
 
 /// The operator on two arguments that a word spells.
 pub fn binary(op: &str) -> Result<BinaryOp, CallError> {
-    match op {
-        "==" => Ok(BinaryOp::Eq),
-        "<" => Ok(BinaryOp::Less),
-        "<=" => Ok(BinaryOp::LessEq),
-        "+" => Ok(BinaryOp::Add),
-        "-" => Ok(BinaryOp::Sub),
-        "*" => Ok(BinaryOp::Mul),
-        "in" => Ok(BinaryOp::In),
-        "contains" => Ok(BinaryOp::Contains),
-        "containsAll" => Ok(BinaryOp::ContainsAll),
-        "containsAny" => Ok(BinaryOp::ContainsAny),
-        "getTag" => Ok(BinaryOp::GetTag),
-        "hasTag" => Ok(BinaryOp::HasTag),
-        _ => Err(CallError::BadArguments),
-    }
+    BinaryOp::from_text(op).ok_or(CallError::BadArguments)
 }

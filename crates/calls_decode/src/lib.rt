@@ -8,8 +8,10 @@ mod keyed;
 mod sketched;
 mod values;
 
-pub use crate::exprs::{attributes, binary, expr, exprs, unary};
+pub use crate::exprs::{attributes, binary, expr, exprs, record, unary};
 pub use crate::functions::{function, table};
 pub use crate::keyed::{Echo, Keyed, NoValue, OneArgument, TwoArguments};
 pub use crate::sketched::{placed, sketch};
-pub use crate::values::{KeyedValue, bindings, literals, value, value_pairs, values};
+pub use crate::values::{
+    KeyedValue, bindings, literals, number, restricted_expr, value, value_pairs, values,
+};

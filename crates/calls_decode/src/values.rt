@@ -33,9 +33,10 @@ fn insert_value(
     Ok(())
 }
 
-/// The value that an argument stands for: a literal, `(set V ..)`, `(setfrom V ..)`, `(setlits V ..)`,
-/// `(record ("k" V) ..)`, `(@ 3 7 V)` at a place, `(@ - V)` at none, `(ext K "NOTE")`,
-/// `(lazy K "NOTE")`, `(extas K CALL)`, or `(within 3 V)`, V in three sets inside one another.
+/// The value that an argument stands for: a literal, `(set V ..)`, `(setfrom V ..)`,
+/// `(setlits V ..)`, `(record ("k" V) ..)`, `(@ 3 7 V)` at a place, `(@ - V)` at none,
+/// `(ext K "NOTE")`, `(lazy K "NOTE")`, `(extas K CALL)`, or `(within 3 V)`, V in three sets inside
+/// one another.
 #[cycle(values)]
 pub fn value(alloc: Global, sexpr: &Sexpr) -> Result<KeyedValue, CallError> {
     match sexpr {
@@ -182,7 +183,8 @@ fn given_literal(alloc: Global, sexpr: &Sexpr) -> Result<Literal, CallError> {
     literal(alloc, sexpr)?.ok_or(CallError::BadArguments)
 }
 
-fn number(alloc: Global, sexpr: &Sexpr) -> Result<i64, CallError> {
+/// The number that an argument stands for.
+pub fn number(alloc: Global, sexpr: &Sexpr) -> Result<i64, CallError> {
     match literal(alloc, sexpr)? {
         Some(Literal::Long(key)) => Ok(key),
         _ => Err(CallError::BadArguments),
@@ -223,7 +225,8 @@ fn restricted(alloc: Global, args: &[Expr]) -> Result<Vec<RestrictedExpr>, CallE
     Ok(restricted)
 }
 
-fn restricted_expr(alloc: Global, e: Expr) -> Result<RestrictedExpr, CallError> {
+/// The restricted expression, where it is one.
+pub fn restricted_expr(alloc: Global, e: Expr) -> Result<RestrictedExpr, CallError> {
     match RestrictedExpr::new(alloc, e) {
         Ok(e) => Ok(e),
         Err(RestrictedExprError::NotRestricted { .. }) => Err(CallError::BadArguments),

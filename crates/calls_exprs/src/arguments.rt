@@ -12,8 +12,8 @@ use std::rc::{Rc, RcStr};
 
 /// What the data of a tree may be.
 pub trait Data: Default + Copy {
-    /// The expression that an argument stands for, which has the data of a new builder. With data it is
-    /// a leaf.
+    /// The expression that an argument stands for, which has the data of a new builder. With data
+    /// it is a leaf.
     fn read(alloc: Global, sexpr: &Sexpr) -> Result<Expr<Self>, CallError>;
 }
 

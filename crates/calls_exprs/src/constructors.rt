@@ -40,7 +40,7 @@ pub fn constructed(alloc: Global, call: &[Sexpr]) -> Result<Expr, CallError> {
 fn of_many(alloc: Global, f: &str, args: &[Sexpr]) -> Result<Expr, CallError> {
     match f {
         "set" => Ok(Expr::set(alloc, members(alloc, args)?)?),
-        "record" => new_record(alloc, args),
+        "record" => calls_decode::record(alloc, pairs(alloc, args)?),
         "record_arc" => Ok(Expr::record_arc(values(alloc, args)?)),
         "call_extension_fn" => call(alloc, args),
         "extended_has_attr" => path(alloc, args),
@@ -50,14 +50,6 @@ fn of_many(alloc: Global, f: &str, args: &[Sexpr]) -> Result<Expr, CallError> {
             [a, b, c] => of_three(alloc, f, a, b, c),
             _ => Err(CallError::BadArguments),
         },
-    }
-}
-
-fn new_record(alloc: Global, args: &[Sexpr]) -> Result<Expr, CallError> {
-    match Expr::record(alloc, pairs(alloc, args)?) {
-        Ok(record) => Ok(record),
-        Err(ExpressionConstructionError::Memory) => Err(CallError::Memory),
-        Err(ExpressionConstructionError::DuplicateKey(_)) => Err(CallError::BadArguments),
     }
 }
 

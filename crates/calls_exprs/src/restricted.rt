@@ -1,6 +1,6 @@
 //! Restricted expressions.
 use crate::arguments::function;
-use calls_decode::{expr, placed, sketch};
+use calls_decode::{expr, placed, restricted_expr, sketch};
 use calls_syntax::{Answer, CallError, Sexpr, ok, place};
 use cedar_exprs::{Expr, RestrictedExpr, RestrictedExprError};
 use std::alloc::Global;
@@ -47,15 +47,7 @@ pub fn call(alloc: Global, args: &[Sexpr]) -> Result<String, CallError> {
 fn all(alloc: Global, sexprs: &[Sexpr]) -> Result<Vec<RestrictedExpr>, CallError> {
     let mut all = Vec::new(alloc);
     for sexpr in sexprs {
-        all.push(one(alloc, sexpr)?)?;
+        all.push(restricted_expr(alloc, expr(alloc, sexpr)?)?)?;
     }
     Ok(all)
-}
-
-fn one(alloc: Global, sexpr: &Sexpr) -> Result<RestrictedExpr, CallError> {
-    match RestrictedExpr::new(alloc, expr(alloc, sexpr)?) {
-        Ok(e) => Ok(e),
-        Err(RestrictedExprError::Memory) => Err(CallError::Memory),
-        Err(RestrictedExprError::NotRestricted { .. }) => Err(CallError::BadArguments),
-    }
 }

@@ -1,6 +1,6 @@
-//! What recorded calls are written in: S-expressions, which are words, texts, entities and lists, and
-//! the names, literals, types, patterns and places that they stand for. `docs/CALLS.md` describes the
-//! language.
+//! What recorded calls are written in: S-expressions, which are words, texts, entities and lists,
+//! and the names, literals, types, patterns and places that they stand for. `docs/CALLS.md`
+//! describes the language.
 #![tactic(auto)]
 
 mod answer;

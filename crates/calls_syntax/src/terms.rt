@@ -82,22 +82,11 @@ pub fn shared_text(alloc: Global, sexpr: &Sexpr) -> Result<RcStr, CallError> {
 /// The type that an argument stands for: a word, `(entity N)` or `(extension N)`.
 pub fn term_type(alloc: Global, sexpr: &Sexpr) -> Result<Type, CallError> {
     match sexpr {
-        Sexpr::Word(word) => plain_type(word),
+        Sexpr::Word(word) => Type::from_text(word).ok_or(CallError::BadArguments),
         Sexpr::List(sexprs) => match sexprs.as_slice() {
             [head, ty] => named_type(head.word()?, name(alloc, ty.word()?)?),
             _ => Err(CallError::BadArguments),
         },
-        _ => Err(CallError::BadArguments),
-    }
-}
-
-fn plain_type(word: &str) -> Result<Type, CallError> {
-    match word {
-        "bool" => Ok(Type::Bool),
-        "long" => Ok(Type::Long),
-        "string" => Ok(Type::String),
-        "set" => Ok(Type::Set),
-        "record" => Ok(Type::Record),
         _ => Err(CallError::BadArguments),
     }
 }

@@ -1,7 +1,7 @@
 //! Sets of values that are ordered in reverse.
 use crate::flip::Flip;
-use calls_syntax::{Answer, CallError, Sexpr, boolean, holds, join, literal};
-use cedar_terms::Literal;
+use calls_decode::number;
+use calls_syntax::{Answer, CallError, Sexpr, boolean, holds, join};
 use cedar_values::{RepresentableExtensionValue, Set, Value, ValueKind};
 use std::alloc::Global;
 use std::rc::Rc;
@@ -12,13 +12,6 @@ pub fn answer(alloc: Global, call: &str, args: &[Sexpr]) -> Result<String, CallE
         ("flips", [a, b]) => compared(alloc, &set(alloc, a)?, &set(alloc, b)?),
         ("flipin", [k, a]) => found(alloc, number(alloc, k)?, &set(alloc, a)?),
         _ => Err(CallError::UnknownCall),
-    }
-}
-
-fn number(alloc: Global, sexpr: &Sexpr) -> Result<i64, CallError> {
-    match literal(alloc, sexpr)? {
-        Some(Literal::Long(number)) => Ok(number),
-        _ => Err(CallError::BadArguments),
     }
 }
 

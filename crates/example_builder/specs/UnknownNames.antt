@@ -1,4 +1,5 @@
--- What the example's builder makes of each kind of expression: the names of the unknowns in it, in field order.
+-- What the example's builder makes of each kind of expression: the names of the unknowns in it, in
+-- field order.
 use Rattle.std.specs.Prelude.{List, [], ◌∷◌, ◌++◌, map, Err}
 use Rattle.std.specs.List.{flat_map}
 use Rattle.std.specs.Rc.{rc_str_bytes}
@@ -11,8 +12,8 @@ use Rattle.example_builder.specs.declared.names.Names.{Names}
 abbrev pub texts_of : Names → List Text
 texts_of found = map rc_str_bytes found.names.items
 
--- an unknown gives its name; any other leaf gives none; a node joins what its children gave, the values of a record by
--- key; a call is refused, by the name of the function
+-- an unknown gives its name; any other leaf gives none; a node joins what its children gave, the
+-- values of a record by key; a call is refused, by the name of the function
 abbrev pub unknown_names_ops : Ops (List Text) BareName
 unknown_names_ops = record {
   lit_of = λ literal. [];

@@ -30,8 +30,10 @@ abbrev pub Says : Type 0 → BareValue Decimal → Type 0
 Says P (LitValue (BoolLit b)) = IsTrue b ↔ P
 Says P v = ⊥
 
--- what is answered of two decimals is whether the comparison holds of them, or a refusal; of anything else a refusal
+-- what is answered of two decimals is whether the comparison holds of them, or a refusal; of
+-- anything else a refusal
 abbrev pub Compares : Comparison → Option Decimal → Option Decimal → Answer Decimal → Type 0
-Compares f (Some d) (Some e) (Ok (Known v)) = Says (Holds f d.ten_thousandths e.ten_thousandths) (bare_value v)
+Compares f (Some d) (Some e) (Ok (Known v)) =
+    Says (Holds f d.ten_thousandths e.ten_thousandths) (bare_value v)
 Compares f d e (Ok o) = ⊥
 Compares f d e (Err refusal) = ⊤

@@ -167,7 +167,8 @@ fn make_comparison(
 
 // The type of decimals, as a schema has it.
 fn ty(alloc: Global) -> Result<SchemaType, AllocError>
-    ensures { IfOk result (λ t. bare_schema_type t ≡ SchemaExtension (unqualified (codes "decimal"))) }
+    ensures { IfOk result
+        (λ t. bare_schema_type t ≡ SchemaExtension (unqualified (codes "decimal"))) }
 {
     let name = name(alloc, "decimal")?;
     Ok(SchemaType::Extension { name })

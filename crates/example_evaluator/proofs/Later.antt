@@ -1,4 +1,4 @@
--- To evaluate what is left of a rule is to evaluate the rule.
+-- To evaluate the residual of a rule is to evaluate the rule.
 use Rattle.std.proofs.Common.{◌≡◌, Result, ap, subst, ◌∙◌}
 use Rattle.cedar_ast.specs.Answers.{Gives}
 use Rattle.cedar_ast.specs.BareExpr.{BareExpr}
@@ -6,7 +6,7 @@ use Rattle.cedar_ast.specs.Environment.{Env, fold}
 use Rattle.cedar_ast.specs.Ops.{Ops}
 use Rattle.cedar_ast.specs.declared.BuildFault.{BuildFault}
 
--- where what is left means the same
+-- where the residual means the same
 pub gives_later : {E D M F : Type 0} (meaning_of : E → M) (fault_of : D → F) (B : Ops M F)
     (later envs : Env) (rule rest left : BareExpr) (answer : Result E (BuildFault D))
     → left ≡ rest → fold B later rest ≡ fold B envs rule

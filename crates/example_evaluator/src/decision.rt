@@ -51,7 +51,7 @@ fn is_open(answer: &Result<Outcome, BuildFault<CallRefused>>) -> bool
     }
 }
 
-// Puts what the first map binds into the rule, and evaluates what is left of it.
+// Puts what the first map binds into the rule, and evaluates that with the second one.
 fn decide_in_both(
     alloc: Global,
     rule: &Expr,

@@ -1,4 +1,4 @@
-//! What is left of a rule where only a part of its unknowns is known.
+//! The residual of a rule where only some of its unknowns are known.
 ghost use Rattle.cedar_ast.specs.Answers.{Gives};
 ghost use Rattle.cedar_ast.specs.Environment.{fold};
 ghost use Rattle.cedar_ast.specs.Evaluations.{both, plain_env};
@@ -13,23 +13,24 @@ use std::alloc::{AllocError, Global};
 use std::collections::HashMap;
 use std::rc::RcStr;
 
-/// The text of the rule's value, if it is known, or of the expression that is left.
+/// The text of the rule's value, if it is known, or of its residual.
 pub fn what_is_left(
     alloc: Global,
     rule: &Expr,
     now: &HashMap<RcStr, Value>,
 ) -> Result<String, AllocError> {
-    let part = simplify(alloc, rule, now)?;
-    if let Some(value) = part.as_value() {
+    let simplified = simplify(alloc, rule, now)?;
+    if let Some(value) = simplified.as_value() {
         return format!(in alloc; "{value}");
     }
-    part.into_expr(alloc)?
+    simplified
+        .into_expr(alloc)?
         .into_expr::<Sketch>(alloc)?
         .to_text(alloc)
 }
 
-/// What a rule comes to where two maps bind its unknowns: of what the first one leaves, the outcome
-/// with the second one.
+/// What a rule comes to where two maps bind its unknowns: the outcome, with the second one, of the
+/// residual by the first one.
 pub fn outcome_of_rest(
     alloc: Global,
     rule: &Expr,

@@ -1,5 +1,5 @@
 //! Values, the evaluator and the partial evaluator: makes and reads values, and asks what a rule
-//! comes to, or what is left of it, before all of its unknowns are known, and again when they are.
+//! comes to, or for its residual, before all of its unknowns are known, and again when they are.
 #![tactic(auto)]
 
 mod decision;

@@ -1,4 +1,5 @@
--- How deep a tree is: a leaf is 1 deep, any other node one more than its deepest child; no number is above 2 ^ 64 - 1.
+-- How deep a tree is: a leaf is 1 deep, any other node one more than its deepest child; no number
+-- is above 2 ^ 64 - 1.
 use Rattle.std.specs.Prelude.{ℕ, ◌+◌, ◌-◌, ◌^◌, min, max, List, [], ◌∷◌, map, Ok}
 use Rattle.cedar_ast.specs.Ops.{Ops}
 

@@ -1,7 +1,7 @@
 //! Outcomes of expressions.
 use crate::plain_values::{PlainValue, PlainValues, plain_bindings};
 use calls_decode::expr;
-use calls_syntax::{CallError, Sexpr};
+use calls_syntax::{CallError, Sexpr, holds};
 use cedar_builders::BuildFault;
 use cedar_evaluator::{CallRefused, Evaluator, Outcome, evaluate};
 use cedar_exprs::Expr;
@@ -17,11 +17,11 @@ pub fn eval(alloc: Global, e: &Sexpr, env: &Sexpr) -> Result<String, CallError> 
 
 fn evaluated(alloc: Global, e: &Expr, values: &PlainValues) -> Result<String, CallError> {
     let at_once = at_once(alloc, e, values)?;
-    agree(
+    holds(
         are_same(&at_once, &in_turn(alloc, e, values)?),
         "at once and in turn",
     )?;
-    agree(
+    holds(
         are_same(&at_once, &by_one_call(alloc, e, values)?),
         "at once and by one call",
     )?;
@@ -66,18 +66,10 @@ fn are_same(a: &Evaluated, b: &Evaluated) -> bool {
     }
 }
 
-fn agree(holds: bool, what: &'static str) -> Result<(), CallError> {
-    if holds {
-        Ok(())
-    } else {
-        Err(CallError::Mismatch(what))
-    }
-}
-
 // Refuses a value that is not that of its own expression.
 fn is_kept(alloc: Global, evaluated: &Evaluated) -> Result<(), CallError> {
     match value_of(evaluated) {
-        Some(value) => agree(
+        Some(value) => holds(
             are_same(&again(alloc, value)?, evaluated),
             "a value and its expression",
         ),

@@ -1,7 +1,7 @@
 //! What expressions are simplified to.
 use crate::plain_values::{PlainValues, plain_bindings};
 use calls_decode::{expr, sketch};
-use calls_syntax::{CallError, Sexpr};
+use calls_syntax::{CallError, Sexpr, holds};
 use cedar_builders::BuildFault;
 use cedar_evaluator::evaluate;
 use cedar_exprs::Expr;
@@ -20,16 +20,16 @@ pub fn simplify(alloc: Global, e: &Sexpr, env: &Sexpr) -> Result<String, CallErr
 
 fn answered(alloc: Global, e: &Expr, values: &PlainValues) -> Result<String, CallError> {
     let text = text_of(alloc, at_once(alloc, e, values)?)?;
-    agree(
+    holds(
         text == text_of(alloc, in_turn(alloc, e, values)?)?,
         "at once and in turn",
     )?;
     let residual = at_once(alloc, e, values)?.into_expr(alloc)?;
-    agree(
+    holds(
         text == text_of(alloc, by_itself(alloc, &residual)?)?,
         "simplified once and twice",
     )?;
-    agree(
+    holds(
         outcome(alloc, e, values)? == outcome(alloc, &residual, &HashMap::new(alloc))?,
         "what it means and what the residual means",
     )?;
@@ -63,13 +63,5 @@ fn outcome(alloc: Global, e: &Expr, values: &PlainValues) -> Result<String, Call
         Ok(outcome) => Ok(outcome.to_string(alloc)?),
         Err(BuildFault::Build(refused)) => Ok(refused.to_string(alloc)?),
         Err(BuildFault::Memory) => Err(CallError::Memory),
-    }
-}
-
-fn agree(holds: bool, what: &'static str) -> Result<(), CallError> {
-    if holds {
-        Ok(())
-    } else {
-        Err(CallError::Mismatch(what))
     }
 }

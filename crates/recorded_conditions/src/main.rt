@@ -3,10 +3,10 @@
 //!
 //! The first argument names a file of conditions, one a line: each is shown with its answer. Each
 //! line of standard input is a tree, written as `docs/CALLS.md` says: it is printed, what was
-//! printed is parsed, and the two trees are compared. The second argument names a file of texts with
-//! blank lines between them: each is parsed, and the program shows its tree, and how it is printed
-//! again, or why it is no expression. At last it parses a text as many levels deep as the third
-//! argument says.
+//! printed is parsed, and the two trees are compared. The second argument names a file of texts
+//! with blank lines between them: each is parsed, and the program shows its tree, and how it is
+//! printed again, or why it is no expression. At last it parses a text as many levels deep as the
+//! third argument says.
 #![tactic(auto)]
 
 mod conditions;

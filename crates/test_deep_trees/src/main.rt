@@ -38,6 +38,14 @@ fn main(rt: HostRuntime) -> io::Result<()> {
     let levels = levels(&rt)?;
     // Records take most memory.
     let records = levels / 10;
+    show_chains(&rt, levels, records)?;
+    show_innermost(&rt, levels)?;
+    show_values(&rt, levels, records)?;
+    work_scripts(&rt, levels)
+}
+
+// Shows what is made of a chain of each kind.
+fn show_chains(rt: &HostRuntime, levels: usize, records: usize) -> io::Result<()> {
     let chains = [
         (Chain::Not, "not", levels),
         (Chain::Left, "left operand", levels),
@@ -54,6 +62,11 @@ fn main(rt: HostRuntime) -> io::Result<()> {
         let text = work(rt.alloc(), chain, levels)?;
         println!(rt; "{name}: shown in {} bytes a level", each(&text, levels))?;
     }
+    Ok(())
+}
+
+// Shows what is found of sets in one another, by what stands in the innermost.
+fn show_innermost(rt: &HostRuntime, levels: usize) -> io::Result<()> {
     let innermost = [
         ("unknown in sets", unknown(rt.alloc())?),
         ("variable in sets", Expr::var(Var::Context)),
@@ -66,6 +79,11 @@ fn main(rt: HostRuntime) -> io::Result<()> {
             found.is_restricted, found.is_valid
         )?;
     }
+    Ok(())
+}
+
+// Shows values in one another.
+fn show_values(rt: &HostRuntime, levels: usize, records: usize) -> io::Result<()> {
     let nests = [
         (Nest::Set, "set of values", levels),
         (Nest::Record, "record of values", records),
@@ -78,7 +96,7 @@ fn main(rt: HostRuntime) -> io::Result<()> {
             each(&shown.text, levels)
         )?;
     }
-    work_scripts(&rt, levels)
+    Ok(())
 }
 
 // How many levels the argument asks for.

@@ -25,7 +25,8 @@ impl Nest {
             beginning: "unknown x\n",
             level,
             levels,
-            ending: "show\ntyped\neval\nsimplify\nbool true\nbind x\ntyped\nsubstitute\nsimplify\nshow\n",
+            ending: "show\ntyped\neval\nsimplify\n\
+                bool true\nbind x\ntyped\nsubstitute\nsimplify\nshow\n",
         }
     }
 
@@ -47,7 +48,8 @@ impl Nest {
             beginning: "bool true\n",
             level,
             levels,
-            ending: "bind x\nunknown x\ntyped\nshow\nunknown x\nsubstitute\nshow\nunknown x\nsimplify\nshow\n",
+            ending: "bind x\nunknown x\ntyped\nshow\n\
+                unknown x\nsubstitute\nshow\nunknown x\nsimplify\nshow\n",
         }
     }
 

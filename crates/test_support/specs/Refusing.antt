@@ -8,9 +8,10 @@ use Rattle.cedar_builders.specs.Trees.{sure}
 abbrev pub numbered : ℕ → BareName
 numbered k = unqualified (codes "f" ++ decimal k)
 
--- the operations B, with others for `and` and `or`; which calls are refused goes by their name and by
--- how many arguments they have, and the name is the error
-abbrev pub refusing : {M : Type 0} → Ops M ⊥ → (M → M → M) → (M → M → M) → (BareName → ℕ → Bool) → Ops M BareName
+-- the operations B, with others for `and` and `or`; which calls are refused goes by their name and
+-- by how many arguments they have, and the name is the error
+abbrev pub refusing : {M : Type 0} → Ops M ⊥ → (M → M → M) → (M → M → M)
+    → (BareName → ℕ → Bool) → Ops M BareName
 refusing B and_of or_of refuses = record {
   lit_of = B.lit_of;
   var_of = B.var_of;

@@ -1,5 +1,5 @@
-//! A builder of expressions that refuses some calls, for recorded calls and tests of what comes of a
-//! refusal. It is lawful where it makes `and` and `or` as the struct does.
+//! A builder of expressions that refuses some calls, for recorded calls and tests of what comes of
+//! a refusal. It is lawful where it makes `and` and `or` as the struct does.
 #![tactic(auto)]
 
 mod connectives;

@@ -1,5 +1,5 @@
-//! Each item of the layers is reached through `cedar_ast` by the name that it has in Cedar, and each
-//! law by its own.
+//! Each item of the layers is reached through `cedar_ast` by the name that it has in Cedar, and
+//! each law by its own.
 use cedar_ast::AllDefs;
 use cedar_ast::AnyId;
 use cedar_ast::BinaryExtensionFunctionObject;
