@@ -232,9 +232,13 @@ def read_library(name: str) -> Library:
         begin = [module] if module else []
         passed_on += [(of[0], "::".join([*begin, of[-1]])) for of in paths if of[0] not in own]
     read = {file: read_file(file, text) for file, text in files.items()}
-    is_open = {file: file == "src/lib.rt" or module_of(file) in public for file in files}
-    items = {item.name: item for file, found in read.items() for item in found[0]
-             if is_open[file] or item.name in names}
+    is_open = {"src/lib.rt", *(f"src/{module}.rt" for module in public)}
+    items = {
+        item.name: item
+        for file, (found, _, _) in read.items()
+        for item in found
+        if file in is_open or item.name in names
+    }
     free = []
     for file, (_, calls, impls) in read.items():
         for of, trait in impls:
@@ -243,7 +247,7 @@ def read_library(name: str) -> Library:
         for call in calls:
             if call.owner in items:
                 items[call.owner].calls.append(call)
-            elif not call.owner and (is_open[file] or call.name in names):
+            elif not call.owner and (file in is_open or call.name in names):
                 free.append(call)
     about = comment("\n".join(re.findall(r"^//!.*", root, re.M)), "//!")
     return Library(name, about, list(items.values()), free, passed_on, modules)
