@@ -20,11 +20,8 @@ CLAUSE = re.compile(r" {4}(requires|ensures)\b")
 USE = re.compile(r"^pub use ([^;]*);", re.M)
 
 
-def function(indent: str) -> re.Pattern[str]:
-    return re.compile(DOCS.format(indent) + indent + r"(pub )?(?:const |final )*fn (\w+)", re.M)
-
-
-FREE, INNER = function(""), function("    ")
+FN = r"(pub )?(?:const |final )*fn (\w+)"
+FREE, INNER = (re.compile(DOCS.format(it) + it + FN, re.M) for it in ("", "    "))
 
 
 @dataclass
@@ -62,15 +59,10 @@ class Item:
     file: str
     docs: list[str]
     text: str
-    marks: str = ""
+    traits: list[str]
+    # Of an error that is a struct, as its `#[error("..")]` has it; else none.
+    error_text: str
     calls: list[Call] = field(default_factory=list)
-    traits: list[str] = field(default_factory=list)
-
-    @property
-    def error_text(self) -> str:
-        """The text of an error that is a struct, as its `#[error("..")]` has it; else none."""
-        found = re.search(r'^#\[error\("(.*?)"', self.marks, re.M)
-        return found[1] if found else ""
 
 
 @dataclass
@@ -186,9 +178,9 @@ def read_file(file: str, text: str) -> tuple[list[Item], list[Call], list[tuple[
     """The items, the functions, and the impls of traits (type and trait) of one file."""
     items, calls, impls = [], read_calls(text, file), []
     for at in ITEM.finditer(text):
-        declared = text[at.end(2) : at.end()]
-        item = Item(at[3], at[4], file, comment(at[1], "///"), declared, at[2])
-        item.traits = derived(at[2])
+        declared, error = text[at.end(2) : at.end()], re.findall(r'^#\[error\("(.*?)"', at[2], re.M)
+        docs, traits = comment(at[1], "///"), derived(at[2])
+        item = Item(at[3], at[4], file, docs, declared, traits, "".join(error))
         if item.kind == "trait":
             item.calls = read_calls(declared, file, item.name)
         items.append(item)
