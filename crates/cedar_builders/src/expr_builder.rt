@@ -341,249 +341,188 @@ pub trait ExprBuilder: Sized + Drop {
         self.unary_app(alloc, UnaryOp::IsEmpty, arg)
     }
 
-    /// `arg1 == arg2`.
-    fn is_eq(
-        self,
-        alloc: Global,
-        arg1: Self::Expr,
-        arg2: Self::Expr,
-    ) -> Result<Self::Expr, AllocError>
-        ensures means { is_new self
-            → Means meaning_of (ops.binary_of BinaryOp.Eq (meaning_of arg1) (meaning_of arg2))
-            result }
-        ensures makes { IfOk result (makes_binary self BinaryOp.Eq arg1 arg2) }
+    /// `e1 == e2`.
+    fn is_eq(self, alloc: Global, e1: Self::Expr, e2: Self::Expr) -> Result<Self::Expr, AllocError>
+        ensures means { is_new self → Means meaning_of
+            (ops.binary_of BinaryOp.Eq (meaning_of e1) (meaning_of e2)) result }
+        ensures makes { IfOk result (makes_binary self BinaryOp.Eq e1 e2) }
     {
-        self.binary_app(alloc, BinaryOp::Eq, arg1, arg2)
+        self.binary_app(alloc, BinaryOp::Eq, e1, e2)
     }
 
-    /// `arg1 < arg2`.
-    fn less(
-        self,
-        alloc: Global,
-        arg1: Self::Expr,
-        arg2: Self::Expr,
-    ) -> Result<Self::Expr, AllocError>
-        ensures means { is_new self
-            → Means meaning_of (ops.binary_of BinaryOp.Less (meaning_of arg1) (meaning_of arg2))
-            result }
-        ensures makes { IfOk result (makes_binary self BinaryOp.Less arg1 arg2) }
+    /// `e1 < e2`.
+    fn less(self, alloc: Global, e1: Self::Expr, e2: Self::Expr) -> Result<Self::Expr, AllocError>
+        ensures means { is_new self → Means meaning_of
+            (ops.binary_of BinaryOp.Less (meaning_of e1) (meaning_of e2)) result }
+        ensures makes { IfOk result (makes_binary self BinaryOp.Less e1 e2) }
     {
-        self.binary_app(alloc, BinaryOp::Less, arg1, arg2)
+        self.binary_app(alloc, BinaryOp::Less, e1, e2)
     }
 
-    /// `arg1 <= arg2`.
-    fn lesseq(
-        self,
-        alloc: Global,
-        arg1: Self::Expr,
-        arg2: Self::Expr,
-    ) -> Result<Self::Expr, AllocError>
-        ensures means { is_new self
-            → Means meaning_of
-            (ops.binary_of BinaryOp.LessEq (meaning_of arg1) (meaning_of arg2)) result }
-        ensures makes { IfOk result (makes_binary self BinaryOp.LessEq arg1 arg2) }
+    /// `e1 <= e2`.
+    fn lesseq(self, alloc: Global, e1: Self::Expr, e2: Self::Expr) -> Result<Self::Expr, AllocError>
+        ensures means { is_new self → Means meaning_of
+            (ops.binary_of BinaryOp.LessEq (meaning_of e1) (meaning_of e2)) result }
+        ensures makes { IfOk result (makes_binary self BinaryOp.LessEq e1 e2) }
     {
-        self.binary_app(alloc, BinaryOp::LessEq, arg1, arg2)
+        self.binary_app(alloc, BinaryOp::LessEq, e1, e2)
     }
 
-    /// `arg1 + arg2`.
-    fn add(
-        self,
-        alloc: Global,
-        arg1: Self::Expr,
-        arg2: Self::Expr,
-    ) -> Result<Self::Expr, AllocError>
-        ensures means { is_new self
-            → Means meaning_of (ops.binary_of BinaryOp.Add (meaning_of arg1) (meaning_of arg2))
-            result }
-        ensures makes { IfOk result (makes_binary self BinaryOp.Add arg1 arg2) }
+    /// `e1 + e2`.
+    fn add(self, alloc: Global, e1: Self::Expr, e2: Self::Expr) -> Result<Self::Expr, AllocError>
+        ensures means { is_new self → Means meaning_of
+            (ops.binary_of BinaryOp.Add (meaning_of e1) (meaning_of e2)) result }
+        ensures makes { IfOk result (makes_binary self BinaryOp.Add e1 e2) }
     {
-        self.binary_app(alloc, BinaryOp::Add, arg1, arg2)
+        self.binary_app(alloc, BinaryOp::Add, e1, e2)
     }
 
-    /// `arg1 - arg2`.
-    fn sub(
-        self,
-        alloc: Global,
-        arg1: Self::Expr,
-        arg2: Self::Expr,
-    ) -> Result<Self::Expr, AllocError>
-        ensures means { is_new self
-            → Means meaning_of (ops.binary_of BinaryOp.Sub (meaning_of arg1) (meaning_of arg2))
-            result }
-        ensures makes { IfOk result (makes_binary self BinaryOp.Sub arg1 arg2) }
+    /// `e1 - e2`.
+    fn sub(self, alloc: Global, e1: Self::Expr, e2: Self::Expr) -> Result<Self::Expr, AllocError>
+        ensures means { is_new self → Means meaning_of
+            (ops.binary_of BinaryOp.Sub (meaning_of e1) (meaning_of e2)) result }
+        ensures makes { IfOk result (makes_binary self BinaryOp.Sub e1 e2) }
     {
-        self.binary_app(alloc, BinaryOp::Sub, arg1, arg2)
+        self.binary_app(alloc, BinaryOp::Sub, e1, e2)
     }
 
-    /// `arg1 * arg2`.
-    fn mul(
-        self,
-        alloc: Global,
-        arg1: Self::Expr,
-        arg2: Self::Expr,
-    ) -> Result<Self::Expr, AllocError>
-        ensures means { is_new self
-            → Means meaning_of (ops.binary_of BinaryOp.Mul (meaning_of arg1) (meaning_of arg2))
-            result }
-        ensures makes { IfOk result (makes_binary self BinaryOp.Mul arg1 arg2) }
+    /// `e1 * e2`.
+    fn mul(self, alloc: Global, e1: Self::Expr, e2: Self::Expr) -> Result<Self::Expr, AllocError>
+        ensures means { is_new self → Means meaning_of
+            (ops.binary_of BinaryOp.Mul (meaning_of e1) (meaning_of e2)) result }
+        ensures makes { IfOk result (makes_binary self BinaryOp.Mul e1 e2) }
     {
-        self.binary_app(alloc, BinaryOp::Mul, arg1, arg2)
+        self.binary_app(alloc, BinaryOp::Mul, e1, e2)
     }
 
-    /// `arg1 in arg2`: membership in the hierarchy.
-    fn is_in(
-        self,
-        alloc: Global,
-        arg1: Self::Expr,
-        arg2: Self::Expr,
-    ) -> Result<Self::Expr, AllocError>
-        ensures means { is_new self
-            → Means meaning_of (ops.binary_of BinaryOp.In (meaning_of arg1) (meaning_of arg2))
-            result }
-        ensures makes { IfOk result (makes_binary self BinaryOp.In arg1 arg2) }
+    /// `e1 in e2`: membership in the hierarchy.
+    fn is_in(self, alloc: Global, e1: Self::Expr, e2: Self::Expr) -> Result<Self::Expr, AllocError>
+        ensures means { is_new self → Means meaning_of
+            (ops.binary_of BinaryOp.In (meaning_of e1) (meaning_of e2)) result }
+        ensures makes { IfOk result (makes_binary self BinaryOp.In e1 e2) }
     {
-        self.binary_app(alloc, BinaryOp::In, arg1, arg2)
+        self.binary_app(alloc, BinaryOp::In, e1, e2)
     }
 
-    /// `arg1.contains(arg2)`: whether the set has the member.
+    /// `e1.contains(e2)`: whether the set has the member.
     fn contains(
         self,
         alloc: Global,
-        arg1: Self::Expr,
-        arg2: Self::Expr,
+        e1: Self::Expr,
+        e2: Self::Expr,
     ) -> Result<Self::Expr, AllocError>
-        ensures means { is_new self
-            → Means meaning_of
-            (ops.binary_of BinaryOp.Contains (meaning_of arg1) (meaning_of arg2)) result }
-        ensures makes { IfOk result (makes_binary self BinaryOp.Contains arg1 arg2) }
+        ensures means { is_new self → Means meaning_of
+            (ops.binary_of BinaryOp.Contains (meaning_of e1) (meaning_of e2)) result }
+        ensures makes { IfOk result (makes_binary self BinaryOp.Contains e1 e2) }
     {
-        self.binary_app(alloc, BinaryOp::Contains, arg1, arg2)
+        self.binary_app(alloc, BinaryOp::Contains, e1, e2)
     }
 
-    /// `arg1.containsAll(arg2)`: whether the first set contains the second.
+    /// `e1.containsAll(e2)`: whether the first set contains the second.
     fn contains_all(
         self,
         alloc: Global,
-        arg1: Self::Expr,
-        arg2: Self::Expr,
+        e1: Self::Expr,
+        e2: Self::Expr,
     ) -> Result<Self::Expr, AllocError>
-        ensures means { is_new self
-            → Means meaning_of
-            (ops.binary_of BinaryOp.ContainsAll (meaning_of arg1) (meaning_of arg2)) result }
-        ensures makes { IfOk result (makes_binary self BinaryOp.ContainsAll arg1 arg2) }
+        ensures means { is_new self → Means meaning_of
+            (ops.binary_of BinaryOp.ContainsAll (meaning_of e1) (meaning_of e2)) result }
+        ensures makes { IfOk result (makes_binary self BinaryOp.ContainsAll e1 e2) }
     {
-        self.binary_app(alloc, BinaryOp::ContainsAll, arg1, arg2)
+        self.binary_app(alloc, BinaryOp::ContainsAll, e1, e2)
     }
 
-    /// `arg1.containsAny(arg2)`: whether the sets share a member.
+    /// `e1.containsAny(e2)`: whether the sets share a member.
     fn contains_any(
         self,
         alloc: Global,
-        arg1: Self::Expr,
-        arg2: Self::Expr,
+        e1: Self::Expr,
+        e2: Self::Expr,
     ) -> Result<Self::Expr, AllocError>
-        ensures means { is_new self
-            → Means meaning_of
-            (ops.binary_of BinaryOp.ContainsAny (meaning_of arg1) (meaning_of arg2)) result }
-        ensures makes { IfOk result (makes_binary self BinaryOp.ContainsAny arg1 arg2) }
+        ensures means { is_new self → Means meaning_of
+            (ops.binary_of BinaryOp.ContainsAny (meaning_of e1) (meaning_of e2)) result }
+        ensures makes { IfOk result (makes_binary self BinaryOp.ContainsAny e1 e2) }
     {
-        self.binary_app(alloc, BinaryOp::ContainsAny, arg1, arg2)
+        self.binary_app(alloc, BinaryOp::ContainsAny, e1, e2)
     }
 
-    /// `arg1.getTag(arg2)`: the tag of an entity.
+    /// `e1.getTag(e2)`: the tag of an entity.
     fn get_tag(
         self,
         alloc: Global,
-        arg1: Self::Expr,
-        arg2: Self::Expr,
+        e1: Self::Expr,
+        e2: Self::Expr,
     ) -> Result<Self::Expr, AllocError>
-        ensures means { is_new self
-            → Means meaning_of
-            (ops.binary_of BinaryOp.GetTag (meaning_of arg1) (meaning_of arg2)) result }
-        ensures makes { IfOk result (makes_binary self BinaryOp.GetTag arg1 arg2) }
+        ensures means { is_new self → Means meaning_of
+            (ops.binary_of BinaryOp.GetTag (meaning_of e1) (meaning_of e2)) result }
+        ensures makes { IfOk result (makes_binary self BinaryOp.GetTag e1 e2) }
     {
-        self.binary_app(alloc, BinaryOp::GetTag, arg1, arg2)
+        self.binary_app(alloc, BinaryOp::GetTag, e1, e2)
     }
 
-    /// `arg1.hasTag(arg2)`: whether an entity has the tag.
+    /// `e1.hasTag(e2)`: whether an entity has the tag.
     fn has_tag(
         self,
         alloc: Global,
-        arg1: Self::Expr,
-        arg2: Self::Expr,
+        e1: Self::Expr,
+        e2: Self::Expr,
     ) -> Result<Self::Expr, AllocError>
-        ensures means { is_new self
-            → Means meaning_of
-            (ops.binary_of BinaryOp.HasTag (meaning_of arg1) (meaning_of arg2)) result }
-        ensures makes { IfOk result (makes_binary self BinaryOp.HasTag arg1 arg2) }
+        ensures means { is_new self → Means meaning_of
+            (ops.binary_of BinaryOp.HasTag (meaning_of e1) (meaning_of e2)) result }
+        ensures makes { IfOk result (makes_binary self BinaryOp.HasTag e1 e2) }
     {
-        self.binary_app(alloc, BinaryOp::HasTag, arg1, arg2)
+        self.binary_app(alloc, BinaryOp::HasTag, e1, e2)
     }
 
-    /// `!(arg1 == arg2)`: two nodes, of which the inner one has the builder's place and the data of
+    /// `!(e1 == e2)`: two nodes, of which the inner one has the builder's place and the data of
     /// a new builder.
-    fn noteq(
-        self,
-        alloc: Global,
-        arg1: Self::Expr,
-        arg2: Self::Expr,
-    ) -> Result<Self::Expr, AllocError>
-        ensures means { is_new self
-            → Means meaning_of
-            (ops.unary_of UnaryOp.Not
-            (ops.binary_of BinaryOp.Eq (meaning_of arg1) (meaning_of arg2)))
-            result }
+    fn noteq(self, alloc: Global, e1: Self::Expr, e2: Self::Expr) -> Result<Self::Expr, AllocError>
+        ensures means { is_new self → Means meaning_of (ops.unary_of UnaryOp.Not
+            (ops.binary_of BinaryOp.Eq (meaning_of e1) (meaning_of e2))) result }
         ensures makes { IfOk result
             (MakesNegated is_new place_of kept_place makes_unary makes_binary self BinaryOp.Eq
-            arg1 arg2) }
+            e1 e2) }
     {
         let inner = Self::new().with_maybe_source_loc(Loc::clone_option(alloc, self.loc())?);
-        let inner = inner.is_eq(alloc, arg1, arg2)?;
+        let inner = inner.is_eq(alloc, e1, e2)?;
         self.not(alloc, inner)
     }
 
-    /// `!(arg1 <= arg2)`: two nodes, of which the inner one has the builder's place and the data of
+    /// `!(e1 <= e2)`: two nodes, of which the inner one has the builder's place and the data of
     /// a new builder.
     fn greater(
         self,
         alloc: Global,
-        arg1: Self::Expr,
-        arg2: Self::Expr,
+        e1: Self::Expr,
+        e2: Self::Expr,
     ) -> Result<Self::Expr, AllocError>
-        ensures means { is_new self
-            → Means meaning_of
-            (ops.unary_of UnaryOp.Not
-            (ops.binary_of BinaryOp.LessEq (meaning_of arg1) (meaning_of arg2)))
-            result }
+        ensures means { is_new self → Means meaning_of (ops.unary_of UnaryOp.Not
+            (ops.binary_of BinaryOp.LessEq (meaning_of e1) (meaning_of e2))) result }
         ensures makes { IfOk result
-            (MakesNegated is_new place_of kept_place makes_unary makes_binary self
-            BinaryOp.LessEq arg1 arg2) }
+            (MakesNegated is_new place_of kept_place makes_unary makes_binary self BinaryOp.LessEq
+            e1 e2) }
     {
         let inner = Self::new().with_maybe_source_loc(Loc::clone_option(alloc, self.loc())?);
-        let inner = inner.lesseq(alloc, arg1, arg2)?;
+        let inner = inner.lesseq(alloc, e1, e2)?;
         self.not(alloc, inner)
     }
 
-    /// `!(arg1 < arg2)`: two nodes, of which the inner one has the builder's place and the data of
+    /// `!(e1 < e2)`: two nodes, of which the inner one has the builder's place and the data of
     /// a new builder.
     fn greatereq(
         self,
         alloc: Global,
-        arg1: Self::Expr,
-        arg2: Self::Expr,
+        e1: Self::Expr,
+        e2: Self::Expr,
     ) -> Result<Self::Expr, AllocError>
-        ensures means { is_new self
-            → Means meaning_of
-            (ops.unary_of UnaryOp.Not
-            (ops.binary_of BinaryOp.Less (meaning_of arg1) (meaning_of arg2)))
-            result }
+        ensures means { is_new self → Means meaning_of (ops.unary_of UnaryOp.Not
+            (ops.binary_of BinaryOp.Less (meaning_of e1) (meaning_of e2))) result }
         ensures makes { IfOk result
             (MakesNegated is_new place_of kept_place makes_unary makes_binary self BinaryOp.Less
-            arg1 arg2) }
+            e1 e2) }
     {
         let inner = Self::new().with_maybe_source_loc(Loc::clone_option(alloc, self.loc())?);
-        let inner = inner.less(alloc, arg1, arg2)?;
+        let inner = inner.less(alloc, e1, e2)?;
         self.not(alloc, inner)
     }
 }
