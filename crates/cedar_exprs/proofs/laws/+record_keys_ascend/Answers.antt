@@ -8,7 +8,7 @@ use Rattle.cedar_exprs.proofs.laws.+record_keys_ascend.Goals as goal
 pub loop-child-init : goal.loop-child-init
 loop-child-init g t c =
     let e = c.args.expr.now in
-    let all : children e ≡ children_left c.into_iter-child-iterator.result = sym (ap children_left c.into_iter-child-iterator.ensures.into_iter_gives ∙ c.of-child-items.ensures) in (
+    let all : children e ≡ children_left c.into_iter-child-iterator.result = sym (ap children_left c.into_iter-child-iterator.ensures.into_iter_gives ∙ c.of-child-items.ensures.all) in (
       tt,
       tt,
       (λ h. ascends e c.node_keys_ascend.ensures (subst AscendIn (sym all) h)),

@@ -15,7 +15,7 @@ returns-then-not-is_restricted_node g t c =
 pub loop-child-init : goal.loop-child-init
 loop-child-init g t c =
     let e = c.args.expr.now in
-    let all : children e ≡ children_left c.into_iter-child-iterator.result = sym (ap children_left c.into_iter-child-iterator.ensures.into_iter_gives ∙ c.of-child-items.ensures) in (
+    let all : children e ≡ children_left c.into_iter-child-iterator.result = sym (ap children_left c.into_iter-child-iterator.ensures.into_iter_gives ∙ c.of-child-items.ensures.all) in (
       tt,
       tt,
       sym (ap first_not_restricted_of all) ∙ first_below e (sym c.is_restricted_node.ensures ∙ c.if-not-is_restricted_node.false),
