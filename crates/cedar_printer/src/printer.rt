@@ -13,8 +13,8 @@ ghost use Rattle.cedar_printer.specs.PolicyTexts.{policy_text_ops};
 ghost use Rattle.cedar_terms.specs.declared.precedence.Precedence.{Precedence};
 
 use crate::phrase::{
-    Phrase, RopePhrase, make_attribute, make_call, make_conditional, make_fields,
-    make_infix, make_method, make_path, make_prefix, make_row,
+    Phrase, RopePhrase, make_attribute, make_call, make_conditional, make_fields, make_infix,
+    make_method, make_path, make_prefix, make_row,
 };
 use cedar_builders::{
     BuildFault, ExprBuilder, ExprBuilderInfallibleBuild, ExpressionConstructionError, Rope,
