@@ -151,7 +151,7 @@ impl<'a> Corpus<'a> {
         ensures lines { last_line self.new ≡ last_line self.old }
         ensures shorter { IfOk result (λ _. length (left self.new) < length (left self.old)) }
     {
-        let refused = self.refusal(Fault::Count);
+        let refused = self.malformed(Fault::Count);
         let count = parse_number(self.head(word)?).ok_or(refused)?;
         self.lines(count)
     }
@@ -162,7 +162,7 @@ impl<'a> Corpus<'a> {
         ensures lines { last_line self.new ≡ last_line self.old }
         ensures shorter { IfOk result (λ _. length (left self.new) < length (left self.old)) }
     {
-        let refused = self.refusal(Fault::Status);
+        let refused = self.malformed(Fault::Status);
         let words = self.head("ends")?;
         let mut parts = words.splitn(2, |byte| *byte == b' ');
         let status = parts.next().and_then(parse_status).ok_or(refused)?;
@@ -175,7 +175,7 @@ impl<'a> Corpus<'a> {
         ensures lines { last_line self.new ≡ last_line self.old }
         ensures shorter { IfOk result (λ _. length (left self.new) < length (left self.old)) }
     {
-        let refused = self.refusal(Fault::Head(word));
+        let refused = self.malformed(Fault::Head(word));
         let line = self.lines(1)?;
         line.strip_suffix(b"\n")
             .and_then(|line| line.strip_prefix(word.as_bytes()))
@@ -198,12 +198,12 @@ impl<'a> Corpus<'a> {
                 };
                 Ok(lines)
             }
-            None => Err(self.refusal(Fault::End(count))),
+            None => Err(self.malformed(Fault::End(count))),
         }
     }
 
     // The error that names the first line.
-    fn refusal(&self, fault: Fault) -> Malformed
+    fn malformed(&self, fault: Fault) -> Malformed
         ensures { result.line ≤ last_line self.now }
     {
         Malformed {
