@@ -1,5 +1,5 @@
 //! The values that arguments stand for.
-use crate::exprs::expr;
+use crate::expr_arguments::expr;
 use crate::keyed::Keyed;
 use crate::sketched::sketch;
 use calls_syntax::{CallError, Sexpr, count, literal, loc, name, shared_text, text};
