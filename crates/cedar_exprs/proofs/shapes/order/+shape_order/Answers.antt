@@ -36,7 +36,7 @@ cmp_shape-returns-in-Equal-cmp g t c =
 pub cmp_shape-returns-in_default : goal.cmp_shape-returns-in_default
 cmp_shape-returns-in_default g t c =
     elim c.in_default.branch [
-        cmp_shape-in_default-via-in-Lit+in_default w ↦ unlike c.args.a.now c.args.b.now _ _ w.in_default.is-0 (no_lit _ w.in_default.not-Lit-1) c.cmp_kinds.ensures
+      | cmp_shape-in_default-via-in-Lit+in_default w ↦ unlike c.args.a.now c.args.b.now _ _ w.in_default.is-0 (no_lit _ w.in_default.not-Lit-1) c.cmp_kinds.ensures
       | cmp_shape-in_default-via-in-Var+in_default w ↦ unlike c.args.a.now c.args.b.now _ _ w.in_default.is-0 (no_var _ w.in_default.not-Var-1) c.cmp_kinds.ensures
       | cmp_shape-in_default-via-in-Slot+in_default w ↦ unlike c.args.a.now c.args.b.now _ _ w.in_default.is-0 (no_slot _ w.in_default.not-Slot-1) c.cmp_kinds.ensures
       | cmp_shape-in_default-via-in-Unknown+in_default w ↦ unlike c.args.a.now c.args.b.now _ _ w.in_default.is-0 (no_unknown _ w.in_default.not-Unknown-1) c.cmp_kinds.ensures
