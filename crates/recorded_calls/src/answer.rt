@@ -1,30 +1,10 @@
 //! Reads recorded calls, and answers each with a line. `docs/CALLS.md` describes the language.
 use crate::{outcomes, simplified};
 use calls_syntax::{CallError, Sexpr, sexprs};
-use std::alloc::{AllocError, Global};
-use std::io::{self, Read, Write};
+use cedar_script::{StreamFault, read_input};
+use std::alloc::Global;
+use std::io::{Read, Write};
 use std::str;
-use thiserror::Error;
-
-/// Why recorded calls are not answered to their end.
-#[derive(Debug, PartialEq, Eq, Drop, Error)]
-pub enum CallsFault {
-    /// The input can't be read, or is not UTF-8.
-    #[error("input fault")]
-    Input,
-    /// An answer can't be written.
-    #[error("output fault")]
-    Output,
-    /// Memory was wanted, and none was given.
-    #[error("no memory")]
-    Memory,
-}
-
-impl From<AllocError> for CallsFault {
-    fn from(_: AllocError) -> CallsFault {
-        CallsFault::Memory
-    }
-}
 
 /// Reads lines to the end, and writes one for each: the line itself where it is empty or a heading
 /// (`#` in front), else the answer to the call.
@@ -36,44 +16,30 @@ pub fn run<R: Read, W: Write>(
     alloc: Global,
     reader: &mut R,
     writer: &mut W,
-) -> Result<(), CallsFault> {
+) -> Result<(), StreamFault> {
     let input = read_input(alloc, reader)?;
-    let lines = str::from_utf8(input.as_slice()).map_err(|_| CallsFault::Input)?;
+    let lines = str::from_utf8(input.as_slice()).map_err(|_| StreamFault::Input)?;
     for line in lines.lines() {
         write_line(alloc, writer, line)?;
     }
     Ok(())
 }
 
-// All that the reader gives.
-fn read_input<R: Read>(alloc: Global, reader: &mut R) -> Result<Vec<u8>, CallsFault> {
-    let mut input = Vec::new(alloc);
-    match reader.read_to_end(&mut input) {
-        Ok(_) => Ok(input),
-        Err(error) if error.kind() == io::ErrorKind::OutOfMemory => Err(CallsFault::Memory),
-        Err(_) => Err(CallsFault::Input),
-    }
-}
-
-fn write_line<W: Write>(alloc: Global, writer: &mut W, line: &str) -> Result<(), CallsFault> {
+fn write_line<W: Write>(alloc: Global, writer: &mut W, line: &str) -> Result<(), StreamFault> {
     if line.is_empty() || line.starts_with('#') {
         return write(writer, line);
     }
     let answer = match answer(alloc, line) {
         Ok(answer) => answer,
-        Err(CallError::Memory) => return Err(CallsFault::Memory),
+        Err(CallError::Memory) => return Err(StreamFault::Memory),
         Err(CallError::Mismatch(what)) => format!(in alloc; "!! {what}: {line}")?,
         Err(CallError::UnknownCall | CallError::BadArguments) => format!(in alloc; "?? {line}")?,
     };
     write(writer, answer.as_str())
 }
 
-fn write<W: Write>(writer: &mut W, line: &str) -> Result<(), CallsFault> {
-    match writeln!(writer, "{line}") {
-        Ok(()) => Ok(()),
-        Err(error) if error.kind() == io::ErrorKind::OutOfMemory => Err(CallsFault::Memory),
-        Err(_) => Err(CallsFault::Output),
-    }
+fn write<W: Write>(writer: &mut W, line: &str) -> Result<(), StreamFault> {
+    writeln!(writer, "{line}").map_err(|error| StreamFault::of_writer(&error))
 }
 
 // The answer to a call, which is answered twice where memory is refused the first time.
