@@ -42,7 +42,7 @@ fn drop_near<X: Drop>(kind: ValueKind<X>, levels: u32) {
 // with the items that it still has: the first of them is the row that waits below it.
 #[cycle(dropped)]
 fn drop_branch<X: Drop>(kind: ValueKind<X>) {
-    let mut left = remaining(kind);
+    let mut left = remaining_of(kind);
     'down: loop {
         match enter_kind(left) {
             Step::Into(next) => left = next,
@@ -115,13 +115,13 @@ fn resume_waiting<X: Drop>(waiting: Option<ValueKind<X>>) -> Option<Remaining<X>
     match waiting {
         Some(ValueKind::Set(set)) => Some(resume_members(set.into_row())),
         Some(ValueKind::Record(pairs)) => Some(resume_pairs(pairs)),
-        Some(kind) => Some(remaining(kind)),
+        Some(kind) => Some(remaining_of(kind)),
         None => None,
     }
 }
 
 // A kind beside which nothing waits.
-fn remaining<X>(kind: ValueKind<X>) -> Remaining<X>
+fn remaining_of<X>(kind: ValueKind<X>) -> Remaining<X>
     ensures { all_nodes result ≡ kind_nodes kind }
 {
     Remaining {
@@ -190,7 +190,7 @@ fn resume_members<X: Drop>(row: Rc<Vec<Value<X>>>) -> Remaining<X>
             let last = last_branch(members);
             resume_row(last, members.is_empty(), ValueKind::Set(Set::of_row(row)))
         }
-        None => remaining(ValueKind::Set(Set::of_row(row))),
+        None => remaining_of(ValueKind::Set(Set::of_row(row))),
     }
 }
 
@@ -204,7 +204,7 @@ fn resume_pairs<X: Drop>(row: Rc<BTreeMap<RcStr, Value<X>>>) -> Remaining<X>
             let last = last_branch_value(pairs);
             resume_row(last, pairs.is_empty(), ValueKind::Record(row))
         }
-        None => remaining(ValueKind::Record(row)),
+        None => remaining_of(ValueKind::Record(row)),
     }
 }
 
@@ -227,7 +227,7 @@ fn resume_row<X>(last: Option<ValueKind<X>>, is_only: bool, row: ValueKind<X>) -
                 }
             }
         }
-        None => remaining(row),
+        None => remaining_of(row),
     }
 }
 

@@ -13,4 +13,4 @@ returns-in-Some g c =
     omega (arith, last, whole, set, c.resume_row.ensures)
 
 pub returns-in-None : goal.returns-in-None
-returns-in-None g c = let set = row_set c.of_row-in-None.result _ c.of_row-in-None.ensures in omega (arith, set, c.remaining.ensures)
+returns-in-None g c = let set = row_set c.of_row-in-None.result _ c.of_row-in-None.ensures in omega (arith, set, c.remaining_of.ensures)

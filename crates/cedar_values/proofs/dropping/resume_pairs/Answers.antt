@@ -13,4 +13,4 @@ returns-in-Some g c =
     omega (arith, last, whole, record_of, c.resume_row.ensures)
 
 pub returns-in-None : goal.returns-in-None
-returns-in-None g c = let record_of = record_nodes _ c.args.row refl in omega (arith, record_of, c.remaining.ensures)
+returns-in-None g c = let record_of = record_nodes _ c.args.row refl in omega (arith, record_of, c.remaining_of.ensures)

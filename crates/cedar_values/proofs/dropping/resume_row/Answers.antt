@@ -9,4 +9,4 @@ pub returns-else-is_only : goal.returns-else-is_only
 returns-else-is_only g c = let waits = ap waiting_nodes c.in-Some.is in omega (arith, waits)
 
 pub returns-in-None : goal.returns-in-None
-returns-in-None g c = let waits = ap waiting_nodes c.in-None.is in omega (arith, waits, c.remaining.ensures)
+returns-in-None g c = let waits = ap waiting_nodes c.in-None.is in omega (arith, waits, c.remaining_of.ensures)
