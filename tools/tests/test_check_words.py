@@ -33,7 +33,7 @@ class OldWords(unittest.TestCase):
         self.assertEqual(found("README.md", "It prints what\nis left.\n"), wanted)
 
     def test_names_of_files(self) -> None:
-        wanted = ["crates/a/src/one_walk.rt: the name has the old word one_walk: now simplify"]
+        wanted = ["crates/a/src/one_walk.rt: the name has the old word one_walk: now simplification"]
         self.assertEqual(found("crates/a/src/one_walk.rt", ""), wanted)
 
     def test_words_of_some_crates(self) -> None:

@@ -2,7 +2,7 @@
 #![tactic(auto)]
 
 mod attributes;
-mod evaluate;
+mod evaluation;
 mod evaluator;
 mod fault;
 mod kinds;
@@ -12,7 +12,7 @@ mod operators;
 mod outcome;
 mod rows;
 
-pub use evaluate::evaluate;
+pub use evaluation::evaluate;
 pub use evaluator::Evaluator;
 pub use fault::{CallRefused, EvalFault};
 pub use outcome::Outcome;

@@ -7,11 +7,11 @@ mod children;
 mod kind;
 mod operations;
 mod residual;
+mod simplification;
 mod simplified;
 mod simplifier;
-mod simplify;
 mod tree;
 
+pub use simplification::simplify;
 pub use simplified::Simplified;
 pub use simplifier::Simplifier;
-pub use simplify::simplify;

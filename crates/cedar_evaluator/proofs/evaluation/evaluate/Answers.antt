@@ -1,7 +1,7 @@
 use Rattle.cedar_exprs.specs.BareExpr.{bare_expr}
 use Rattle.cedar_values.specs.Holders.{held_call, plain_env}
 use Rattle.cedar_evaluator.proofs.ClosedOutcomes.{decided}
-use Rattle.cedar_evaluator.proofs.evaluate.evaluate.Goals as goal
+use Rattle.cedar_evaluator.proofs.evaluation.evaluate.Goals as goal
 
 pub returns-clause-decided : goal.returns-clause-decided
 returns-clause-decided c closed =

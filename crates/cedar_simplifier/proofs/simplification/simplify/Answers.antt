@@ -5,7 +5,7 @@ use Rattle.cedar_values.specs.Holders.{NoExtension}
 use Rattle.cedar_values.specs.ValueMaps.{ValueMap}
 use Rattle.cedar_simplifier.specs.Simplified.{meaning_of}
 use Rattle.cedar_simplifier.proofs.OnePass.{asks, same_meaning, stays}
-use Rattle.cedar_simplifier.proofs.simplify.simplify.Goals as goal
+use Rattle.cedar_simplifier.proofs.simplification.simplify.Goals as goal
 
 pub returns-in-Ok-clause-simplified : goal.returns-in-Ok-clause-simplified
 returns-in-Ok-clause-simplified c = sym (ap sure c.in-Ok.ensures)
