@@ -17,7 +17,7 @@ loop-key-preserved c =
     let steps = c.in-Some.ensures.steps.0 in
     let put = c.in_ok-insert_value.ensures in (
       λ ascending. put_next c.args.pairs.items es c.insert_value.new.map.entries old left k v ascending
-          (c.loop-key.invariant.0 ascending) steps insert_value,
+          (c.loop-key.invariant.0 ascending) steps put,
       λ R all.
           let kept = c.loop-key.invariant.1 R all in
           let rest = ap (list_all (λ p. well_formed R p.1)) (sym steps) ∙ kept.1 in (

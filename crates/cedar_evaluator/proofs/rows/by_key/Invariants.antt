@@ -7,7 +7,7 @@ use Rattle.cedar_values.specs.Holders.{NoExtension}
 use Rattle.cedar_values.specs.WellFormed.{well_formed}
 use Rattle.cedar_evaluator.proofs.rows.by_key.Given as goal
 
--- where the keys ascend, the pairs that were insert_value, and then the rest; and where all values are well
+-- where the keys ascend, the pairs that were put, and then the rest; and where all values are well
 -- formed, those that were put and those of the rest are
 abbrev pub invariant-loop-key : goal.invariant-loop-key
 invariant-loop-key l =
