@@ -51,3 +51,14 @@ pub record IsSameReference (c d : ConditionalName) : Type 0 where
   pub possibilities :
       map bare_internal_name (possibilities_of c) ≡ map bare_internal_name (possibilities_of d)
   pub kind : kind_of c ≡ kind_of d
+
+-- the second reference is a copy of the first: the same raw name, possibilities in order and kind,
+-- with the same places
+abbrev pub IsCopyOfReference : ConditionalName → ConditionalName → Type 0
+IsCopyOfReference c copy =
+    (map bare_internal_name (possibilities_of copy) ≡ map bare_internal_name (possibilities_of c))
+    × (map internal_name_place (possibilities_of copy)
+    ≡ map internal_name_place (possibilities_of c))
+    × (bare_raw_name (raw_of copy) ≡ bare_raw_name (raw_of c))
+    × (raw_name_place (raw_of copy) ≡ raw_name_place (raw_of c))
+    × (kind_of copy ≡ kind_of c)

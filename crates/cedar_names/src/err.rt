@@ -6,14 +6,23 @@ ghost use Rattle.cedar_names.specs.Readers.{refused_name, refused_place};
 
 use crate::internal_name::InternalName;
 use std::alloc::{AllocError, AllocFailed, Global};
+use std::fmt;
 use thiserror::Error;
 
 /// A name has the component `__cedar` where that is not allowed (Cedar's file `name.rs`, after
 /// RFC 52).
-#[derive(Debug, PartialEq, Eq, Hash, Drop, Error)]
+#[derive(Clone, PartialEq, Eq, Hash, Drop, Error)]
 #[error("The name `{name}` contains `__cedar`, which is reserved")]
 pub struct ReservedNameError {
     pub(crate) name: InternalName,
+}
+
+impl fmt::Debug for ReservedNameError {
+    fn fmt<W: fmt::Write>(&self, f: &mut fmt::Formatter<W>) -> fmt::Result {
+        f.debug_tuple("ReservedNameError")
+            .field(&self.name)
+            .finish()
+    }
 }
 
 impl ReservedNameError {
@@ -26,17 +35,16 @@ impl ReservedNameError {
     }
 
     /// A copy.
-    pub fn clone(&self, alloc: Global) -> Result<ReservedNameError, AllocError>
+    pub fn clone(&self, _alloc: Global) -> Result<ReservedNameError, AllocError>
         ensures name { IfOk result (λ e. refused_name e ≡ refused_name self.now) }
         ensures place { IfOk result (λ e. refused_place e ≡ refused_place self.now) }
     {
-        let name = self.name.clone(alloc)?;
-        Ok(ReservedNameError { name })
+        Clone::clone(self)
     }
 }
 
 /// Why a text was refused (Cedar's file `parser/err.rs`, without its reports).
-#[derive(Debug, Drop, Error)]
+#[derive(Debug, Clone, PartialEq, Eq, Drop, Error)]
 pub enum ParseErrors {
     /// The text is outside the grammar of what was asked for, which `kind` names.
     #[error("not a normalized {kind}")]

@@ -118,7 +118,7 @@ pub fn is_normalized_ident(s: &str) -> bool
 }
 
 // The text that an identifier or a keyword is, which compares by its bytes.
-#[derive(Debug, Drop)]
+#[derive(Drop)]
 struct Text {
     shared: RcStr,
 }
@@ -139,10 +139,12 @@ impl Text {
         let shared = RcStr::from_str(alloc, s)?;
         Ok(Text { shared })
     }
+}
 
-    fn clone(&self) -> Result<Text, AllocError>
-        ensures { IfOk result (λ t. t ≡ self.now) }
-    {
+impl Clone for Text {
+    ghost is_clone = { λ t copy. copy ≡ t };
+
+    fn clone(&self) -> Result<Text, AllocError> {
         let shared = self.shared.clone()?;
         Ok(Text { shared })
     }
@@ -153,6 +155,12 @@ impl AsStr for Text {
 
     fn as_str(&self) -> &str {
         self.shared.as_str()
+    }
+}
+
+impl fmt::Debug for Text {
+    fn fmt<W: fmt::Write>(&self, f: &mut fmt::Formatter<W>) -> fmt::Result {
+        fmt::Debug::fmt(&self.shared, f)
     }
 }
 
@@ -230,7 +238,7 @@ pub(crate) fn read_id(alloc: Global, s: &str, kind: &'static str) -> Result<Id, 
 /// `id.rs`). `__cedar` is one.
 ///
 /// A contract sees it as its text. Identifiers compare by the bytes of their texts.
-#[derive(Debug, PartialEq, Eq, PartialOrd, Ord, Hash, Drop)]
+#[derive(PartialEq, Eq, PartialOrd, Ord, Hash, Drop)]
 pub struct Id {
     text: Text,
 }
@@ -268,8 +276,7 @@ impl Id {
     pub fn clone(&self, _alloc: Global) -> Result<Id, AllocError>
         ensures { IfOk result (λ id. id ≡ self.now) }
     {
-        let text = self.text.clone()?;
-        Ok(Id { text })
+        Clone::clone(self)
     }
 
     // The identifier `__cedar`.
@@ -277,6 +284,15 @@ impl Id {
         ensures { IfOk result (λ id. id ≡ codes "__cedar") }
     {
         let text = Text::new(alloc, RESERVED_ID)?;
+        Ok(Id { text })
+    }
+}
+
+impl Clone for Id {
+    ghost is_clone = { λ id copy. copy ≡ id };
+
+    fn clone(&self) -> Result<Id, AllocError> {
+        let text = self.text.clone()?;
         Ok(Id { text })
     }
 }
@@ -307,6 +323,12 @@ impl AsStr for Id {
     }
 }
 
+impl fmt::Debug for Id {
+    fn fmt<W: fmt::Write>(&self, f: &mut fmt::Formatter<W>) -> fmt::Result {
+        f.debug_tuple("Id").field(&self.text).finish()
+    }
+}
+
 impl fmt::Display for Id {
     ghost output = { λ id. Some id };
 
@@ -327,7 +349,7 @@ impl From<UnreservedId> for Id {
 /// RFC 52).
 ///
 /// A contract sees it as its text. It compares as an `Id` does.
-#[derive(Debug, PartialEq, Eq, PartialOrd, Ord, Hash, Drop)]
+#[derive(PartialEq, Eq, PartialOrd, Ord, Hash, Drop)]
 pub struct UnreservedId {
     id: Id,
 }
@@ -355,11 +377,10 @@ impl UnreservedId {
     }
 
     /// A copy, which shares the text and takes no memory.
-    pub fn clone(&self, alloc: Global) -> Result<UnreservedId, AllocError>
+    pub fn clone(&self, _alloc: Global) -> Result<UnreservedId, AllocError>
         ensures { IfOk result (λ u. u ≡ self.now) }
     {
-        let id = self.id.clone(alloc)?;
-        Ok(UnreservedId { id })
+        Clone::clone(self)
     }
 
     // The same identifier, known not to be `__cedar`.
@@ -368,6 +389,15 @@ impl UnreservedId {
         ensures { result ≡ id }
     {
         UnreservedId { id }
+    }
+}
+
+impl Clone for UnreservedId {
+    ghost is_clone = { λ u copy. copy ≡ u };
+
+    fn clone(&self) -> Result<UnreservedId, AllocError> {
+        let id = Clone::clone(&self.id)?;
+        Ok(UnreservedId { id })
     }
 }
 
@@ -425,6 +455,12 @@ impl AsStr for UnreservedId {
     }
 }
 
+impl fmt::Debug for UnreservedId {
+    fn fmt<W: fmt::Write>(&self, f: &mut fmt::Formatter<W>) -> fmt::Result {
+        f.debug_tuple("UnreservedId").field(&self.id).finish()
+    }
+}
+
 impl fmt::Display for UnreservedId {
     ghost output = { λ u. Some u };
 
@@ -436,7 +472,7 @@ impl fmt::Display for UnreservedId {
 /// An identifier or a keyword (Cedar's file `id.rs`).
 ///
 /// A contract sees it as its text. It compares by the bytes of its text.
-#[derive(Debug, PartialEq, Eq, PartialOrd, Ord, Hash, Drop)]
+#[derive(PartialEq, Eq, PartialOrd, Ord, Hash, Drop)]
 pub struct AnyId {
     text: Text,
 }
@@ -467,9 +503,16 @@ impl AnyId {
     pub fn clone(&self, _alloc: Global) -> Result<AnyId, AllocError>
         ensures { IfOk result (λ id. id ≡ self.now) }
     {
-        Ok(AnyId {
-            text: self.text.clone()?,
-        })
+        Clone::clone(self)
+    }
+}
+
+impl Clone for AnyId {
+    ghost is_clone = { λ id copy. copy ≡ id };
+
+    fn clone(&self) -> Result<AnyId, AllocError> {
+        let text = self.text.clone()?;
+        Ok(AnyId { text })
     }
 }
 
@@ -500,6 +543,12 @@ impl AsStr for AnyId {
 
     fn as_str(&self) -> &str {
         self.text.as_str()
+    }
+}
+
+impl fmt::Debug for AnyId {
+    fn fmt<W: fmt::Write>(&self, f: &mut fmt::Formatter<W>) -> fmt::Result {
+        f.debug_tuple("AnyId").field(&self.text).finish()
     }
 }
 

@@ -71,7 +71,7 @@ fn any_reserved(ids: &[Id]) -> bool
 }
 
 // A copy of the path, with room for so many identifiers more.
-fn clone_path(alloc: Global, path: &[Id], further: usize) -> Result<Vec<Id>, AllocError>
+pub(crate) fn clone_path(alloc: Global, path: &[Id], further: usize) -> Result<Vec<Id>, AllocError>
     ensures { IfOk result (λ v. v.items ≡ path.now) }
 {
     let mut copy = Vec::with_capacity(alloc, path.len().saturating_add(further))?;
@@ -98,7 +98,7 @@ fn join(alloc: Global, first: &Id, further: &[Id]) -> Result<String, AllocError>
 ///
 /// Names compare by their basenames, then by their paths as lists. Their places are not
 /// compared.
-#[derive(Debug, Drop)]
+#[derive(Drop)]
 pub struct InternalName {
     basename: Id,
     rest: PathAndPlace,
@@ -265,20 +265,29 @@ impl InternalName {
     }
 
     /// A copy.
-    pub fn clone(&self, alloc: Global) -> Result<InternalName, AllocError>
+    pub fn clone(&self, _alloc: Global) -> Result<InternalName, AllocError>
         ensures name { IfOk result (λ n. bare_internal_name n ≡ bare_internal_name self.now) }
         ensures place { IfOk result (λ n. internal_name_place n ≡ internal_name_place self.now) }
     {
-        let basename = self.basename.clone(alloc)?;
-        let path = clone_path(alloc, self.path(), 0)?;
-        let loc = Loc::clone_option(alloc, self.loc())?;
-        Ok(InternalName::new(basename, path, loc))
+        Clone::clone(self)
     }
 
     fn path(&self) -> &[Id]
         ensures { result.now ≡ (bare_internal_name self.now).path }
     {
         self.rest.path()
+    }
+}
+
+impl Clone for InternalName {
+    ghost is_clone = { λ n copy.
+        (bare_internal_name copy ≡ bare_internal_name n)
+        × (internal_name_place copy ≡ internal_name_place n) };
+
+    fn clone(&self) -> Result<InternalName, AllocError> {
+        let basename = Clone::clone(&self.basename)?;
+        let rest = self.rest.clone()?;
+        Ok(InternalName { basename, rest })
     }
 }
 
@@ -385,6 +394,16 @@ impl Hash for InternalName {
     fn hash<H: Hasher>(&self, state: &mut H) {
         self.basename.hash(state);
         self.path().hash(state);
+    }
+}
+
+// Without the place.
+impl fmt::Debug for InternalName {
+    fn fmt<W: fmt::Write>(&self, f: &mut fmt::Formatter<W>) -> fmt::Result {
+        f.debug_struct("InternalName")
+            .field("id", &self.basename)
+            .field("path", &self.path())
+            .finish()
     }
 }
 

@@ -21,6 +21,6 @@ pub use id::{AnyId, Id, UnreservedId, is_normalized_ident};
 pub use internal_name::InternalName;
 pub use loc::Loc;
 pub use name::Name;
-pub use non_empty::{NonEmpty, NonEmptyIter};
+pub use non_empty::{NonEmpty, NonEmptyIntoIter, NonEmptyIter};
 pub use raw_name::{ConditionalName, RawName, ReferenceType, TypeNotDefinedError};
 pub use slot::{PrincipalOrResource, Slot, SlotId};

@@ -52,12 +52,7 @@ impl Loc {
     pub fn clone(&self, _alloc: Global) -> Result<Loc, AllocError>
         ensures { IfOk result (λ l. l ≡ self.now) }
     {
-        let src = self.src.clone()?;
-        Ok(Loc {
-            start: self.start,
-            stop: self.stop,
-            src,
-        })
+        Clone::clone(self)
     }
 
     /// A copy of the place, if there is one. It takes no memory.
@@ -69,6 +64,19 @@ impl Loc {
             None => Ok(None),
             Some(loc) => Ok(Some(loc.clone(alloc)?)),
         }
+    }
+}
+
+impl Clone for Loc {
+    ghost is_clone = { λ l copy. copy ≡ l };
+
+    fn clone(&self) -> Result<Loc, AllocError> {
+        let src = self.src.clone()?;
+        Ok(Loc {
+            start: self.start,
+            stop: self.stop,
+            src,
+        })
     }
 }
 

@@ -43,7 +43,7 @@ use std::fmt;
 /// file `name.rs`, after RFC 52).
 ///
 /// It compares as an `InternalName` does.
-#[derive(Debug, PartialEq, Eq, PartialOrd, Ord, Hash, Drop)]
+#[derive(PartialEq, Eq, PartialOrd, Ord, Hash, Drop)]
 pub struct Name {
     name: InternalName,
     ghost not_reserved: { has_reserved (bare_internal_name name) ≡ false },
@@ -139,11 +139,22 @@ impl Name {
     }
 
     /// A copy.
-    pub fn clone(&self, alloc: Global) -> Result<Name, AllocError>
+    pub fn clone(&self, _alloc: Global) -> Result<Name, AllocError>
         ensures name { IfOk result (λ n. bare_name n ≡ bare_name self.now) }
         ensures place { IfOk result (λ n. name_place n ≡ name_place self.now) }
     {
-        let name = self.name.clone(alloc)?;
+        Clone::clone(self)
+    }
+}
+
+impl Clone for Name {
+    ghost use Rattle.cedar_names.specs.PlainNames.{bare_name, name_place};
+
+    ghost is_clone = { λ n copy.
+        (bare_name copy ≡ bare_name n) × (name_place copy ≡ name_place n) };
+
+    fn clone(&self) -> Result<Name, AllocError> {
+        let name = Clone::clone(&self.name)?;
         Ok(Name { name })
     }
 }
@@ -242,6 +253,12 @@ impl TryFrom<Name> for UnreservedId {
     fn try_from(value: Name) -> Result<UnreservedId, ()> {
         let id = Id::try_from(value.name)?;
         Ok(UnreservedId::from_unreserved(id))
+    }
+}
+
+impl fmt::Debug for Name {
+    fn fmt<W: fmt::Write>(&self, f: &mut fmt::Formatter<W>) -> fmt::Result {
+        f.debug_tuple("Name").field(&self.name).finish()
     }
 }
 

@@ -1,12 +1,12 @@
 //! Lists of one item or more.
 ghost use Rattle.std.specs.Prelude.{◌≡◌, map, IfOk};
 ghost use Rattle.std.specs.Rc.{rc_str_bytes};
-ghost use Rattle.std.specs.Iterator.{YieldsFirstRef, item_count};
-ghost use Rattle.cedar_names.specs.NonEmpty.{list_of, rest_of};
+ghost use Rattle.std.specs.Iterator.{YieldsFirst, YieldsFirstRef, item_count};
+ghost use Rattle.cedar_names.specs.NonEmpty.{list_of, rest_of, owned_rest_of};
 
 use std::alloc::{AllocError, Global};
 use std::rc::RcStr;
-use std::slice;
+use std::{slice, vec};
 
 /// A list of one item or more: its first item and the others (Cedar's crate takes it from the
 /// crate `nonempty`).
@@ -39,15 +39,51 @@ impl<T> NonEmpty<T> {
 
 impl NonEmpty<RcStr> {
     /// A copy, which shares the texts. Memory is taken for the list of those behind the first.
-    #[tactic(auto, using(crate::proofs::Clones::map_clones))]
     pub fn clone(&self, _alloc: Global) -> Result<NonEmpty<RcStr>, AllocError>
         ensures { IfOk result (λ copy.
             map rc_str_bytes (list_of copy) ≡ map rc_str_bytes (list_of self.now)) }
     {
+        Clone::clone(self)
+    }
+}
+
+impl Clone for NonEmpty<RcStr> {
+    ghost is_clone = { λ x copy.
+        map rc_str_bytes (list_of copy) ≡ map rc_str_bytes (list_of x) };
+
+    #[tactic(auto, using(crate::proofs::Clones::map_clones))]
+    fn clone(&self) -> Result<NonEmpty<RcStr>, AllocError> {
         Ok(NonEmpty {
             head: self.head.clone()?,
             tail: self.tail.clone()?,
         })
+    }
+}
+
+impl<'a, T> IntoIterator for &'a NonEmpty<T> {
+    type Item = &'a T;
+
+    type IntoIter = NonEmptyIter<'a, T>;
+
+    ghost into_iter_gives = { λ x it. rest_of it ≡ list_of x.now };
+
+    fn into_iter(self) -> NonEmptyIter<'a, T> {
+        self.iter()
+    }
+}
+
+impl<T: Drop> IntoIterator for NonEmpty<T> {
+    type Item = T;
+
+    type IntoIter = NonEmptyIntoIter<T>;
+
+    ghost into_iter_gives = { λ x it. owned_rest_of it ≡ list_of x };
+
+    fn into_iter(self) -> NonEmptyIntoIter<T> {
+        NonEmptyIntoIter {
+            head: Some(self.head),
+            tail: self.tail.into_iter(),
+        }
     }
 }
 
@@ -70,5 +106,27 @@ impl<'a, T> Iterator for NonEmptyIter<'a, T> {
             Some(head) => Some(head),
             None => self.tail.next(),
         }
+    }
+}
+
+/// The items of a `NonEmpty` by value, from the first on.
+#[derive(Drop)]
+pub struct NonEmptyIntoIter<T> {
+    head: Option<T>,
+    tail: vec::IntoIter<T>,
+}
+
+impl<T: Drop> Iterator for NonEmptyIntoIter<T> {
+    type Item = T;
+
+    ghost next_gives = { YieldsFirst owned_rest_of };
+
+    ghost remaining = { item_count owned_rest_of };
+
+    fn next(&mut self) -> Option<T> {
+        if let Some(head) = self.head.take() {
+            return Some(head);
+        }
+        self.tail.next()
     }
 }

@@ -1,17 +1,18 @@
 //! The path and the place of a name.
-ghost use Rattle.std.specs.Prelude.{◌≡◌, []};
+ghost use Rattle.std.specs.Prelude.{◌≡◌, [], IfOk};
 ghost use Rattle.std.specs.Option.{option_copied};
 ghost use Rattle.cedar_names.specs.PathsAndPlaces.{path_in, place_in};
 
 use crate::id::Id;
+use crate::internal_name::clone_path;
 use crate::loc::Loc;
-use std::alloc::Global;
+use std::alloc::{AllocError, Global};
 
 // The path and the place of a name, as far as it has them.
 //
 // Two options would take eight bytes more. An expression, which may hold a name, would then have
 // more than 128 bytes, and the compiler copies up to so many in line.
-#[derive(Debug, Drop)]
+#[derive(Drop)]
 pub(crate) enum PathAndPlace {
     Neither,
     Path(Vec<Id>),
@@ -72,4 +73,26 @@ impl PathAndPlace {
             PathAndPlace::Place(loc) | PathAndPlace::Both(_, loc) => Some(loc),
         }
     }
+}
+
+impl Clone for PathAndPlace {
+    ghost is_clone = { λ p copy. (path_in copy ≡ path_in p) × (place_in copy ≡ place_in p) };
+
+    fn clone(&self) -> Result<PathAndPlace, AllocError> {
+        match self {
+            PathAndPlace::Neither => Ok(PathAndPlace::Neither),
+            PathAndPlace::Path(path) => Ok(PathAndPlace::Path(copy_path(path)?)),
+            PathAndPlace::Place(loc) => Ok(PathAndPlace::Place(Clone::clone(loc)?)),
+            PathAndPlace::Both(path, loc) => {
+                let path = copy_path(path)?;
+                Ok(PathAndPlace::Both(path, Clone::clone(loc)?))
+            }
+        }
+    }
+}
+
+fn copy_path(path: &Vec<Id>) -> Result<Vec<Id>, AllocError>
+    ensures { IfOk result (λ copy. copy.items ≡ path.now.items) }
+{
+    clone_path(*path.allocator(), path, 0)
 }

@@ -34,6 +34,7 @@ ghost use Rattle.cedar_names.specs.RawNames.{
   raw_of,
   possibilities_of,
   kind_of,
+  IsCopyOfReference,
 };
 ghost use Rattle.cedar_names.specs.Resolution.{is_declared, resolved};
 
@@ -181,11 +182,20 @@ impl RawName {
     }
 
     /// A copy.
-    pub fn clone(&self, alloc: Global) -> Result<RawName, AllocError>
+    pub fn clone(&self, _alloc: Global) -> Result<RawName, AllocError>
         ensures name { IfOk result (λ r. bare_raw_name r ≡ bare_raw_name self.now) }
         ensures place { IfOk result (λ r. raw_name_place r ≡ raw_name_place self.now) }
     {
-        let name = self.0.clone(alloc)?;
+        Clone::clone(self)
+    }
+}
+
+impl Clone for RawName {
+    ghost is_clone = { λ r copy.
+        (bare_raw_name copy ≡ bare_raw_name r) × (raw_name_place copy ≡ raw_name_place r) };
+
+    fn clone(&self) -> Result<RawName, AllocError> {
+        let name = Clone::clone(&self.0)?;
         Ok(RawName(name))
     }
 }
@@ -275,7 +285,7 @@ impl ConditionalName {
     }
 
     /// A copy.
-    pub fn clone(&self, alloc: Global) -> Result<ConditionalName, AllocError>
+    pub fn clone(&self, _alloc: Global) -> Result<ConditionalName, AllocError>
         ensures possibilities { IfOk result (λ c.
             map bare_internal_name (possibilities_of c) ≡
             map bare_internal_name (possibilities_of self.now)) }
@@ -288,13 +298,7 @@ impl ConditionalName {
             raw_name_place (raw_of c) ≡ raw_name_place (raw_of self.now)) }
         ensures kind { IfOk result (λ c. kind_of c ≡ kind_of self.now) }
     {
-        let possibilities = clone_names(alloc, &self.possibilities)?;
-        let raw = self.raw.clone(alloc)?;
-        Ok(ConditionalName {
-            possibilities,
-            reference_type: self.reference_type,
-            raw,
-        })
+        Clone::clone(self)
     }
 
     fn find_declared(&self, all_defs: &AllDefs) -> Option<usize>
@@ -306,6 +310,21 @@ impl ConditionalName {
         self.possibilities
             .iter()
             .position(|name| is_declared_as(all_defs, kind, name))
+    }
+}
+
+impl Clone for ConditionalName {
+    ghost is_clone = { IsCopyOfReference };
+
+    fn clone(&self) -> Result<ConditionalName, AllocError> {
+        let alloc = *self.possibilities.allocator();
+        let possibilities = clone_names(alloc, &self.possibilities)?;
+        let raw = Clone::clone(&self.raw)?;
+        Ok(ConditionalName {
+            possibilities,
+            reference_type: self.reference_type,
+            raw,
+        })
     }
 }
 
@@ -336,7 +355,7 @@ fn clone_names(alloc: Global, names: &[InternalName]) -> Result<Vec<InternalName
 
 /// A reference to a type of which no possibility is declared (Cedar's file
 /// `validator/schema_errors.rs`).
-#[derive(Debug, Drop, Error)]
+#[derive(Debug, Clone, PartialEq, Eq, Drop, Error)]
 #[error("`{}` is not declared", .undefined_types.raw())]
 pub struct TypeNotDefinedError {
     pub undefined_types: ConditionalName,

@@ -14,7 +14,7 @@ pub enum PrincipalOrResource {
 }
 
 /// The name of a slot, in this order (Cedar's file `name.rs`).
-#[derive(Clone, Copy, Debug, PartialEq, Eq, PartialOrd, Ord, Hash)]
+#[derive(Clone, Copy, PartialEq, Eq, PartialOrd, Ord, Hash)]
 pub enum SlotId {
     /// `?principal`
     Principal,
@@ -63,6 +63,16 @@ impl From<PrincipalOrResource> for SlotId {
     }
 }
 
+impl fmt::Debug for SlotId {
+    fn fmt<W: fmt::Write>(&self, f: &mut fmt::Formatter<W>) -> fmt::Result {
+        let stands_for = match self {
+            SlotId::Principal => PrincipalOrResource::Principal,
+            SlotId::Resource => PrincipalOrResource::Resource,
+        };
+        f.debug_tuple("SlotId").field(&stands_for).finish()
+    }
+}
+
 impl fmt::Display for SlotId {
     ghost output = { λ slot. Some (slot_text slot) };
 
@@ -85,10 +95,18 @@ pub struct Slot {
 
 impl Slot {
     /// A copy, which takes no memory.
-    pub fn clone(&self, alloc: Global) -> Result<Slot, AllocError>
+    pub fn clone(&self, _alloc: Global) -> Result<Slot, AllocError>
         ensures { IfOk result (λ slot. slot ≡ self.now) }
     {
-        let loc = Loc::clone_option(alloc, self.loc.as_ref())?;
+        Clone::clone(self)
+    }
+}
+
+impl Clone for Slot {
+    ghost is_clone = { λ slot copy. copy ≡ slot };
+
+    fn clone(&self) -> Result<Slot, AllocError> {
+        let loc = self.loc.clone()?;
         Ok(Slot { id: self.id, loc })
     }
 }
