@@ -24,7 +24,7 @@ use std::hash::{Hash, Hasher};
 use std::rc::RcStr;
 
 /// The type of an entity, which is its name. Types compare as their names do, without places.
-#[derive(Debug, Drop)]
+#[derive(Drop)]
 pub struct EntityType {
     name: Name,
 }
@@ -46,12 +46,22 @@ impl EntityType {
     }
 
     /// A copy, with the place of its name.
-    pub fn clone(&self, alloc: Global) -> Result<EntityType, AllocError>
+    pub fn clone(&self, _alloc: Global) -> Result<EntityType, AllocError>
         ensures bare { IfOk result (λ ty. bare_entity_type ty ≡ bare_entity_type self.now) }
         ensures place { IfOk result (λ ty.
             name_place (entity_type_name ty) ≡ name_place (entity_type_name self.now)) }
     {
-        let name = self.name.clone(alloc)?;
+        Clone::clone(self)
+    }
+}
+
+impl Clone for EntityType {
+    ghost is_clone = { λ ty copy.
+        (bare_entity_type copy ≡ bare_entity_type ty)
+        × (name_place (entity_type_name copy) ≡ name_place (entity_type_name ty)) };
+
+    fn clone(&self) -> Result<EntityType, AllocError> {
+        let name = Clone::clone(&self.name)?;
         Ok(EntityType { name })
     }
 }
@@ -104,6 +114,12 @@ impl Hash for EntityType {
     }
 }
 
+impl fmt::Debug for EntityType {
+    fn fmt<W: fmt::Write>(&self, f: &mut fmt::Formatter<W>) -> fmt::Result {
+        f.debug_tuple("EntityType").field(&self.name).finish()
+    }
+}
+
 impl fmt::Display for EntityType {
     ghost output = { λ ty. Some (name_text (bare_entity_type ty)) };
 
@@ -114,7 +130,7 @@ impl fmt::Display for EntityType {
 
 /// An entity, by its type and its identifier, which compare in this order. Its text is as
 /// `User::"alice"`, with escapes in the identifier.
-#[derive(Debug, Drop)]
+#[derive(Drop)]
 pub struct EntityUID {
     ty: EntityType,
     eid: RcStr,
@@ -158,13 +174,24 @@ impl EntityUID {
     }
 
     /// A copy, with the place of its type.
-    pub fn clone(&self, alloc: Global) -> Result<EntityUID, AllocError>
+    pub fn clone(&self, _alloc: Global) -> Result<EntityUID, AllocError>
         ensures bare { IfOk result (λ uid. bare_entity_uid uid ≡ bare_entity_uid self.now) }
         ensures place { IfOk result (λ uid.
             name_place (entity_type_name (entity_type_of uid)) ≡
             name_place (entity_type_name (entity_type_of self.now))) }
     {
-        let ty = self.ty.clone(alloc)?;
+        Clone::clone(self)
+    }
+}
+
+impl Clone for EntityUID {
+    ghost is_clone = { λ uid copy.
+        (bare_entity_uid copy ≡ bare_entity_uid uid)
+        × (name_place (entity_type_name (entity_type_of copy))
+        ≡ name_place (entity_type_name (entity_type_of uid))) };
+
+    fn clone(&self) -> Result<EntityUID, AllocError> {
+        let ty = Clone::clone(&self.ty)?;
         let eid = self.eid.clone()?;
         Ok(EntityUID { ty, eid })
     }
@@ -218,6 +245,19 @@ impl Hash for EntityUID {
     fn hash<H: Hasher>(&self, state: &mut H) {
         self.ty.hash(state);
         self.eid.hash(state);
+    }
+}
+
+// An identifier, as `{:?}` shows it.
+#[derive(Clone, Copy, Debug)]
+struct Eid<'a>(&'a str);
+
+impl fmt::Debug for EntityUID {
+    fn fmt<W: fmt::Write>(&self, f: &mut fmt::Formatter<W>) -> fmt::Result {
+        f.debug_struct("EntityUID")
+            .field("ty", &self.ty)
+            .field("eid", &Eid(self.eid.as_str()))
+            .finish()
     }
 }
 

@@ -1,10 +1,11 @@
 //! Literals (Cedar's file `literal.rs`).
-ghost use Rattle.std.specs.Prelude.{◌≡◌, IfOk, Some, false, refl};
+ghost use Rattle.std.specs.Prelude.{◌≡◌, IfOk, None, Some, false, refl};
 ghost use Rattle.std.specs.Cmp.{partial_equiv_from_equiv, on_equiv, on_po, on_total};
 ghost use Rattle.std.specs.Ordering.{as_partial_cmp, on};
 ghost use Rattle.std.specs.Rc.{rc_str_bytes};
 ghost use Rattle.std.specs.String.{string_bytes};
-ghost use Rattle.cedar_terms.specs.Entities.{bare_entity_uid};
+ghost use Rattle.cedar_names.specs.PlainNames.{name_place};
+ghost use Rattle.cedar_terms.specs.Entities.{bare_entity_uid, entity_type_name, entity_type_of};
 ghost use Rattle.cedar_terms.specs.Literals.{
   BoolLit,
   LongLit,
@@ -48,6 +49,20 @@ pub enum Literal {
     String(RcStr),
     /// An entity.
     EntityUID(Rc<EntityUID>),
+}
+
+impl Clone for Literal {
+    ghost is_clone = { λ x copy.
+        (bare_literal copy ≡ bare_literal x) × (literal_place copy ≡ literal_place x) };
+
+    fn clone(&self) -> Result<Literal, AllocError> {
+        match self {
+            Literal::Bool(b) => Ok(Literal::Bool(*b)),
+            Literal::Long(n) => Ok(Literal::Long(*n)),
+            Literal::String(s) => Ok(Literal::String(s.clone()?)),
+            Literal::EntityUID(uid) => Ok(Literal::EntityUID(uid.clone()?)),
+        }
+    }
 }
 
 impl PartialEq for Literal {
@@ -132,7 +147,8 @@ impl fmt::Display for Literal {
 impl Literal {
     /// The text as a literal.
     pub fn from_text(alloc: Global, text: &str) -> Result<Literal, AllocError>
-        ensures { IfOk result (λ x. bare_literal x ≡ StringLit text.now) }
+        ensures bare { IfOk result (λ x. bare_literal x ≡ StringLit text.now) }
+        ensures place { IfOk result (λ x. literal_place x ≡ None) }
     {
         let text = RcStr::from_str(alloc, text)?;
         Ok(Literal::String(text))
@@ -140,14 +156,17 @@ impl Literal {
 
     /// The text as a literal.
     pub fn from_string(alloc: Global, text: String) -> Result<Literal, AllocError>
-        ensures { IfOk result (λ x. bare_literal x ≡ StringLit (string_bytes text)) }
+        ensures bare { IfOk result (λ x. bare_literal x ≡ StringLit (string_bytes text)) }
+        ensures place { IfOk result (λ x. literal_place x ≡ None) }
     {
         Literal::from_text(alloc, text.as_str())
     }
 
-    /// The entity as a literal.
+    /// The entity as a literal, with the place of its type.
     pub fn from_uid(alloc: Global, uid: EntityUID) -> Result<Literal, AllocError>
-        ensures { IfOk result (λ x. bare_literal x ≡ EntityLit (bare_entity_uid uid)) }
+        ensures bare { IfOk result (λ x. bare_literal x ≡ EntityLit (bare_entity_uid uid)) }
+        ensures place { IfOk result (λ x.
+            literal_place x ≡ name_place (entity_type_name (entity_type_of uid))) }
     {
         let uid = Rc::new(alloc, uid)?;
         Ok(Literal::EntityUID(uid))
@@ -165,12 +184,7 @@ impl Literal {
         ensures bare { IfOk result (λ x. bare_literal x ≡ bare_literal self.now) }
         ensures place { IfOk result (λ x. literal_place x ≡ literal_place self.now) }
     {
-        match self {
-            Literal::Bool(b) => Ok(Literal::Bool(*b)),
-            Literal::Long(n) => Ok(Literal::Long(*n)),
-            Literal::String(s) => Ok(Literal::String(s.clone()?)),
-            Literal::EntityUID(uid) => Ok(Literal::EntityUID(uid.clone()?)),
-        }
+        Clone::clone(self)
     }
 
     // The number of its kind, in the order of kinds.
@@ -187,7 +201,7 @@ impl Literal {
 }
 
 impl From<bool> for Literal {
-    ghost from_gives = { λ b x. bare_literal x ≡ BoolLit b };
+    ghost from_gives = { λ b x. (bare_literal x ≡ BoolLit b) × (literal_place x ≡ None) };
 
     fn from(b: bool) -> Literal {
         Literal::Bool(b)
@@ -195,7 +209,7 @@ impl From<bool> for Literal {
 }
 
 impl From<Integer> for Literal {
-    ghost from_gives = { λ n x. bare_literal x ≡ LongLit n };
+    ghost from_gives = { λ n x. (bare_literal x ≡ LongLit n) × (literal_place x ≡ None) };
 
     fn from(n: Integer) -> Literal {
         Literal::Long(n)
@@ -203,7 +217,8 @@ impl From<Integer> for Literal {
 }
 
 impl From<RcStr> for Literal {
-    ghost from_gives = { λ text x. bare_literal x ≡ StringLit (rc_str_bytes text) };
+    ghost from_gives = { λ text x.
+        (bare_literal x ≡ StringLit (rc_str_bytes text)) × (literal_place x ≡ None) };
 
     fn from(text: RcStr) -> Literal {
         Literal::String(text)
@@ -211,7 +226,9 @@ impl From<RcStr> for Literal {
 }
 
 impl From<Rc<EntityUID>> for Literal {
-    ghost from_gives = { λ uid x. bare_literal x ≡ EntityLit (bare_entity_uid uid.value) };
+    ghost from_gives = { λ uid x.
+        (bare_literal x ≡ EntityLit (bare_entity_uid uid.value))
+        × (literal_place x ≡ name_place (entity_type_name (entity_type_of uid.value))) };
 
     fn from(uid: Rc<EntityUID>) -> Literal {
         Literal::EntityUID(uid)

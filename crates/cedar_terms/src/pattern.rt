@@ -83,8 +83,7 @@ impl Pattern {
     pub fn clone(&self, _alloc: Global) -> Result<Pattern, AllocError>
         ensures { IfOk result (λ p. p ≡ self.now) }
     {
-        let elems = self.elems.clone()?;
-        Ok(Pattern { elems })
+        Clone::clone(self)
     }
 
     /// The elements, in their order.
@@ -113,6 +112,15 @@ impl Pattern {
         ensures { IsTrue result ↔ (self.now ≡ []) }
     {
         self.elems.is_empty()
+    }
+}
+
+impl Clone for Pattern {
+    ghost is_clone = { λ p copy. copy ≡ p };
+
+    fn clone(&self) -> Result<Pattern, AllocError> {
+        let elems = self.elems.clone()?;
+        Ok(Pattern { elems })
     }
 }
 

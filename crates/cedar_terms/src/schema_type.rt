@@ -18,6 +18,7 @@ use cedar_names::Name;
 use std::alloc::{AllocError, Global};
 use std::boxed::Box;
 use std::collections::BTreeMap;
+use std::default::Emptied;
 use std::rc::RcStr;
 
 /// A type as a schema has it: a set knows the type of its members, a record those of its
@@ -75,11 +76,11 @@ impl SchemaType {
     }
 
     /// A copy, with the places of its names.
-    pub fn clone(&self, alloc: Global) -> Result<SchemaType, AllocError>
+    pub fn clone(&self, _alloc: Global) -> Result<SchemaType, AllocError>
         ensures bare { IfOk result (λ ty. bare_schema_type ty ≡ bare_schema_type self.now) }
         ensures places { IfOk result (λ ty. schema_type_places ty ≡ schema_type_places self.now) }
     {
-        clone_schema_type(alloc, self)
+        Clone::clone(self)
     }
 
     /// The names of the extension types inside, from the outermost inwards, attributes by key.
@@ -94,9 +95,19 @@ impl SchemaType {
     }
 }
 
+impl Clone for SchemaType {
+    ghost is_clone = { λ ty copy.
+        (bare_schema_type copy ≡ bare_schema_type ty)
+        × (schema_type_places copy ≡ schema_type_places ty) };
+
+    fn clone(&self) -> Result<SchemaType, AllocError> {
+        clone_schema_type(self)
+    }
+}
+
 // A copy of the type.
 #[cycle(copy)]
-fn clone_schema_type(alloc: Global, ty: &SchemaType) -> Result<SchemaType, AllocError>
+fn clone_schema_type(ty: &SchemaType) -> Result<SchemaType, AllocError>
     ensures bare { IfOk result (λ copy. bare_schema_type copy ≡ bare_schema_type ty.now) }
     ensures places { IfOk result (λ copy. schema_type_places copy ≡ schema_type_places ty.now) }
 {
@@ -106,19 +117,20 @@ fn clone_schema_type(alloc: Global, ty: &SchemaType) -> Result<SchemaType, Alloc
         SchemaType::String => Ok(SchemaType::String),
         SchemaType::EmptySet => Ok(SchemaType::EmptySet),
         SchemaType::Set { element_ty } => {
-            let element_ty = clone_schema_type(alloc, element_ty)?;
+            let alloc = *Box::allocator(element_ty);
+            let element_ty = clone_schema_type(element_ty)?;
             let element_ty = Box::new(alloc, element_ty)?;
             Ok(SchemaType::Set { element_ty })
         }
         SchemaType::Record { attrs } => {
-            let attrs = clone_attributes(alloc, attrs)?;
+            let attrs = clone_attributes(attrs)?;
             Ok(SchemaType::Record { attrs })
         }
         SchemaType::Entity { ty } => Ok(SchemaType::Entity {
-            ty: ty.clone(alloc)?,
+            ty: Clone::clone(ty)?,
         }),
         SchemaType::Extension { name } => Ok(SchemaType::Extension {
-            name: name.clone(alloc)?,
+            name: Clone::clone(name)?,
         }),
     }
 }
@@ -126,7 +138,6 @@ fn clone_schema_type(alloc: Global, ty: &SchemaType) -> Result<SchemaType, Alloc
 // A copy of the attributes, which come and go by ascending keys.
 #[cycle(copy)]
 fn clone_attributes(
-    alloc: Global,
     attrs: &BTreeMap<RcStr, SchemaType>,
 ) -> Result<BTreeMap<RcStr, SchemaType>, AllocError>
     ensures bare { IfOk result (λ copy.
@@ -134,10 +145,10 @@ fn clone_attributes(
     ensures places { IfOk result (λ copy.
         attribute_places copy.entries ≡ attribute_places attrs.now.entries) }
 {
-    let mut copy = BTreeMap::new(alloc);
+    let mut copy = BTreeMap::emptied(attrs)?;
     for (key, ty) in attrs.iter() {
         let name = key.clone()?;
-        drop(copy.insert(name, clone_schema_type(alloc, ty)?)?);
+        drop(copy.insert(name, clone_schema_type(ty)?)?);
     }
     Ok(copy)
 }

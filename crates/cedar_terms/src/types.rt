@@ -92,23 +92,11 @@ impl Type {
     }
 
     /// A copy, with the place of its name.
-    pub fn clone(&self, alloc: Global) -> Result<Type, AllocError>
+    pub fn clone(&self, _alloc: Global) -> Result<Type, AllocError>
         ensures bare { IfOk result (λ ty. bare_type ty ≡ bare_type self.now) }
         ensures place { IfOk result (λ ty. type_place ty ≡ type_place self.now) }
     {
-        match self {
-            Type::Bool => Ok(Type::Bool),
-            Type::Long => Ok(Type::Long),
-            Type::String => Ok(Type::String),
-            Type::Set => Ok(Type::Set),
-            Type::Record => Ok(Type::Record),
-            Type::Entity { ty } => Ok(Type::Entity {
-                ty: ty.clone(alloc)?,
-            }),
-            Type::Extension { name } => Ok(Type::Extension {
-                name: name.clone(alloc)?,
-            }),
-        }
+        Clone::clone(self)
     }
 
     // The number of its kind, in the order of kinds.
@@ -123,6 +111,27 @@ impl Type {
             Type::Record => 4,
             Type::Entity { .. } => 5,
             Type::Extension { .. } => 6,
+        }
+    }
+}
+
+impl Clone for Type {
+    ghost is_clone = { λ ty copy.
+        (bare_type copy ≡ bare_type ty) × (type_place copy ≡ type_place ty) };
+
+    fn clone(&self) -> Result<Type, AllocError> {
+        match self {
+            Type::Bool => Ok(Type::Bool),
+            Type::Long => Ok(Type::Long),
+            Type::String => Ok(Type::String),
+            Type::Set => Ok(Type::Set),
+            Type::Record => Ok(Type::Record),
+            Type::Entity { ty } => Ok(Type::Entity {
+                ty: Clone::clone(ty)?,
+            }),
+            Type::Extension { name } => Ok(Type::Extension {
+                name: Clone::clone(name)?,
+            }),
         }
     }
 }

@@ -55,12 +55,21 @@ impl Unknown {
     }
 
     /// A copy, with the place of the annotation.
-    pub fn clone(&self, alloc: Global) -> Result<Unknown, AllocError>
+    pub fn clone(&self, _alloc: Global) -> Result<Unknown, AllocError>
         ensures bare { IfOk result (λ u. bare_unknown u ≡ bare_unknown self.now) }
         ensures place { IfOk result (λ u. unknown_place u ≡ unknown_place self.now) }
     {
+        Clone::clone(self)
+    }
+}
+
+impl Clone for Unknown {
+    ghost is_clone = { λ u copy.
+        (bare_unknown copy ≡ bare_unknown u) × (unknown_place copy ≡ unknown_place u) };
+
+    fn clone(&self) -> Result<Unknown, AllocError> {
         let name = self.name.clone()?;
-        let type_annotation = clone_annotation(alloc, &self.type_annotation)?;
+        let type_annotation = clone_annotation(&self.type_annotation)?;
         Ok(Unknown {
             name,
             type_annotation,
@@ -69,13 +78,13 @@ impl Unknown {
 }
 
 // A copy of the annotation, if there is one.
-fn clone_annotation(alloc: Global, annotation: &Option<Type>) -> Result<Option<Type>, AllocError>
+fn clone_annotation(annotation: &Option<Type>) -> Result<Option<Type>, AllocError>
     ensures bare { IfOk result (λ a. bare_annotation a ≡ bare_annotation annotation.now) }
     ensures place { IfOk result (λ a. annotation_place a ≡ annotation_place annotation.now) }
 {
     match annotation {
         None => Ok(None),
-        Some(ty) => Ok(Some(ty.clone(alloc)?)),
+        Some(ty) => Ok(Some(Clone::clone(ty)?)),
     }
 }
 
