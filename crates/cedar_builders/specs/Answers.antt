@@ -1,10 +1,6 @@
 -- An answer with an expression or an error, by what they mean.
-use Rattle.std.specs.Prelude.{◌≡◌, ⊤, List, map, Result, Ok, Err, IfOk, Vec}
-use Rattle.std.specs.Global.{Global}
+use Rattle.std.specs.Prelude.{◌≡◌, ⊤, Result, Ok, Err, IfOk}
 use Rattle.std.specs.declared.convert.Infallible.{Infallible}
-use Rattle.std.specs.declared.rc.RcStr.{RcStr}
-use Rattle.cedar_builders.specs.BareExpr.{Text}
-use Rattle.cedar_builders.specs.Keys.{meant_pairs}
 use Rattle.cedar_builders.specs.declared.expr_builder.BuildFault.{BuildFault}
 use Rattle.cedar_builders.specs.declared.expr_builder.BuildFault.TheVariants.{Build, Memory}
 
@@ -17,18 +13,6 @@ abbrev pub Gives : {E D M F : Type 0} → (E → M) → (D → F) → Result M F
 Gives meaning_of fault_of wanted (Ok e) = wanted ≡ Ok (meaning_of e)
 Gives meaning_of fault_of wanted (Err (Build d)) = wanted ≡ Err (fault_of d)
 Gives meaning_of fault_of wanted (Err Memory) = ⊤
-
--- the same of a list of expressions
-abbrev pub GivesAll : {E D M F : Type 0} → (E → M) → (D → F) → Result (List M) F → Result (Vec E Global) (BuildFault D) → Type 0
-GivesAll meaning_of fault_of wanted (Ok es) = wanted ≡ Ok (map meaning_of es.items)
-GivesAll meaning_of fault_of wanted (Err (Build d)) = wanted ≡ Err (fault_of d)
-GivesAll meaning_of fault_of wanted (Err Memory) = ⊤
-
--- the same of keys and expressions
-abbrev pub GivesPairs : {E D M F : Type 0} → (E → M) → (D → F) → Result (List (Text × M)) F → Result (Vec (RcStr Global × E) Global) (BuildFault D) → Type 0
-GivesPairs meaning_of fault_of wanted (Ok ps) = wanted ≡ Ok (meant_pairs meaning_of ps.items)
-GivesPairs meaning_of fault_of wanted (Err (Build d)) = wanted ≡ Err (fault_of d)
-GivesPairs meaning_of fault_of wanted (Err Memory) = ⊤
 
 -- an error that there is none of
 abbrev pub never : Infallible → ⊥

@@ -31,7 +31,7 @@ use thiserror::Error;
 /// Why an expression was not built: the builder's own error, or memory ran out.
 ///
 /// Its text is that of the builder's own error, or `no memory`.
-#[derive(Debug, Drop, Error)]
+#[derive(Debug, Clone, PartialEq, Eq, Drop, Error)]
 pub enum BuildFault<E> {
     /// The builder's own error.
     Build(E),

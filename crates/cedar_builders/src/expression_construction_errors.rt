@@ -12,7 +12,7 @@ use std::rc::RcStr;
 use thiserror::Error;
 
 /// The same key stood two or more times.
-#[derive(Debug, PartialEq, Eq, Drop, Error)]
+#[derive(Debug, Clone, PartialEq, Eq, Drop, Error)]
 #[error("duplicate key `{key}` {context}")]
 pub struct DuplicateKeyError {
     key: RcStr,
@@ -43,16 +43,12 @@ impl DuplicateKeyError {
         ensures key { IfOk result (λ e. key_of e ≡ key_of self.now) }
         ensures context { IfOk result (λ e. context_of e ≡ context_of self.now) }
     {
-        let key = self.key.clone()?;
-        Ok(DuplicateKeyError {
-            key,
-            context: self.context,
-        })
+        Clone::clone(self)
     }
 }
 
 /// Why an expression was not made.
-#[derive(Debug, PartialEq, Eq, Drop, Error)]
+#[derive(Debug, Clone, PartialEq, Eq, Drop, Error)]
 pub enum ExpressionConstructionError {
     /// The same key stood two or more times.
     #[error(transparent)]
@@ -64,16 +60,10 @@ pub enum ExpressionConstructionError {
 
 impl ExpressionConstructionError {
     /// A copy, which shares the key and takes no memory.
-    pub fn clone(&self, alloc: Global) -> Result<ExpressionConstructionError, AllocError>
+    pub fn clone(&self, _alloc: Global) -> Result<ExpressionConstructionError, AllocError>
         ensures { IfOk result (SaysTheSame self.now) }
     {
-        match self {
-            ExpressionConstructionError::DuplicateKey(e) => {
-                let e = e.clone(alloc)?;
-                Ok(ExpressionConstructionError::DuplicateKey(e))
-            }
-            ExpressionConstructionError::Memory => Ok(ExpressionConstructionError::Memory),
-        }
+        Clone::clone(self)
     }
 }
 

@@ -8,7 +8,7 @@ use std::rc::RcStr;
 use thiserror::Error;
 
 /// What no text of Cedar could say.
-#[derive(Debug, PartialEq, Eq, Drop, Error)]
+#[derive(Debug, Clone, PartialEq, Eq, Drop, Error)]
 pub enum ExprValidationError {
     /// A function is called that is not known.
     #[error("invalid expression: unknown extension function `{name}`")]
@@ -26,25 +26,11 @@ pub enum ExprValidationError {
 
 impl ExprValidationError {
     /// A copy, with the place of its name.
-    pub fn clone(&self, alloc: Global) -> Result<ExprValidationError, AllocError>
+    pub fn clone(&self, _alloc: Global) -> Result<ExprValidationError, AllocError>
         ensures fault { IfOk result (λ e. fault_of e ≡ fault_of self.now) }
         ensures place { IfOk result (λ e. fault_place e ≡ fault_place self.now) }
     {
-        match self {
-            ExprValidationError::UnknownFunction { name } => {
-                let name = name.clone(alloc)?;
-                Ok(ExprValidationError::UnknownFunction { name })
-            }
-            ExprValidationError::MissingReceiver { name } => {
-                let name = name.clone(alloc)?;
-                Ok(ExprValidationError::MissingReceiver { name })
-            }
-            ExprValidationError::InvalidAttribute { attr } => {
-                let attr = attr.clone()?;
-                Ok(ExprValidationError::InvalidAttribute { attr })
-            }
-            ExprValidationError::Memory => Ok(ExprValidationError::Memory),
-        }
+        Clone::clone(self)
     }
 }
 
