@@ -7,15 +7,8 @@ use Rattle.std.specs.Ordering.{is_lt}
 use Rattle.std.specs.declared.cmp.Ordering.{Ordering}
 use Rattle.std.specs.declared.cmp.Ordering.TheVariants.{Less, Equal, Greater}
 use Rattle.std.proofs.Common.{ap, ◌∙◌}
+use Rattle.std.proofs.lemmas.Bool.{and_parts}
 use Rattle.cedar_sorted_slices.specs.Classes.{ascends}
-
-pub and_left : (a b : Bool) → (a && b) ≡ true → a ≡ true
-and_left true b h = refl
-and_left false b h = h
-
-pub and_right : (a b : Bool) → (a && b) ≡ true → b ≡ true
-and_right true b h = h
-and_right false b h = cc
 
 pub less : (r : Ordering) → is_lt r ≡ true → r ≡ Less
 less Less h = refl
@@ -33,8 +26,8 @@ module _ {K : Type 0} {R : K → K → Ordering} (o : IsTotalOrder R) where
   sorted_of_ascends [] h = tt
   sorted_of_ascends (x ∷ []) h = (tt, tt)
   sorted_of_ascends (x ∷ y ∷ ys) h =
-      let first = less (R x y) (and_left (is_lt (R x y)) _ h) in
-      let rest = sorted_of_ascends (y ∷ ys) (and_right (is_lt (R x y)) _ h) in
+      let first = less (R x y) (and_parts (is_lt (R x y)) _ h).0 in
+      let rest = sorted_of_ascends (y ∷ ys) (and_parts (is_lt (R x y)) _ h).1 in
       ((first, below x y ys first rest.0), rest)
 
 module _ {K : Type 0} (R : K → K → Ordering) where

@@ -3,7 +3,7 @@ use Rattle.std.proofs.Common.{◌≡◌, refl, subst, Bool, true, List, [], ◌�
 use Rattle.std.proofs.lemmas.List.Folds.{list_all-append}
 use Rattle.std.specs.List.{AllByRecursion, list_all}
 use Rattle.std.specs.declared.cmp.Ordering.{Ordering}
-use Rattle.cedar_sorted_slices.specs.Ascending.{and_left, and_right}
+use Rattle.std.proofs.lemmas.Bool.{and_parts}
 use Rattle.cedar_names.specs.Names.{BareName}
 use Rattle.cedar_names.specs.declared.slot.SlotId.{SlotId}
 use Rattle.cedar_terms.specs.Types.{BareType}
@@ -59,14 +59,14 @@ module _ (P : BareExpr → Bool) where
   first : (xs : List BareExpr) (rest : List (List BareExpr))
       → list_all P (forward (xs ∷ rest)) ≡ true → list_all P xs ≡ true
   first xs rest h =
-      and_left (list_all P xs) (list_all P (forward rest))
-      (subst (λ b. b ≡ true) (list_all-append P xs (forward rest)) h)
+      (and_parts (list_all P xs) (list_all P (forward rest))
+      (subst (λ b. b ≡ true) (list_all-append P xs (forward rest)) h)).0
 
   others : (xs : List BareExpr) (rest : List (List BareExpr))
       → list_all P (forward (xs ∷ rest)) ≡ true → list_all P (forward rest) ≡ true
   others xs rest h =
-      and_right (list_all P xs) (list_all P (forward rest))
-      (subst (λ b. b ≡ true) (list_all-append P xs (forward rest)) h)
+      (and_parts (list_all P xs) (list_all P (forward rest))
+      (subst (λ b. b ≡ true) (list_all-append P xs (forward rest)) h)).1
 
   each : (xss : List (List BareExpr)) → list_all P (forward xss) ≡ true
       → AllByRecursion (λ xs. list_all P xs ≡ true) xss
@@ -75,7 +75,7 @@ module _ (P : BareExpr → Bool) where
 
   inside : (e : BareExpr) (xss : List (List BareExpr)) → list_all P (e ∷ forward xss) ≡ true
       → AllByRecursion (λ xs. list_all P xs ≡ true) xss
-  inside e xss h = each xss (and_right (P e) (list_all P (forward xss)) h)
+  inside e xss h = each xss (and_parts (P e) (list_all P (forward xss)) h).1
 
   only : (e a : BareExpr) → list_all P (e ∷ forward (preorder a ∷ [])) ≡ true
       → list_all P (preorder a) ≡ true
@@ -116,9 +116,9 @@ module _ (Q : (A : Type 0) → Result A Fault → Result A Fault → Type 0) (k 
     pub related : (e : BareExpr) → list_all P (preorder e) ≡ true
         → Refines Same (fold_with (evaluator_ops R E) f e) (fold_with (evaluator_ops R E) g e)
     related (Lit l) h = both_ok (k.ok (BareValue X) (LitValue l))
-    related (Var v) h = both_ok (at_var v (and_left (P (Var v)) true h))
-    related (Slot s) h = both_ok (at_slot s (and_left (P (Slot s)) true h))
-    related (Unknown n t) h = at_unknown n t (and_left (P (Unknown n t)) true h)
+    related (Var v) h = both_ok (at_var v (and_parts (P (Var v)) true h).0)
+    related (Slot s) h = both_ok (at_slot s (and_parts (P (Slot s)) true h).0)
+    related (Unknown n t) h = at_unknown n t (and_parts (P (Unknown n t)) true h).0
     related (If a b c) h =
         let p = inside P (If a b c) (preorder a ∷ preorder b ∷ preorder c ∷ []) h in
         refines_three if_outcome (if_keeps Q k)
@@ -137,7 +137,7 @@ module _ (Q : (A : Type 0) → Result A Fault → Result A Fault → Type 0) (k 
         of_two (strict_two (apply_two R E o)) (strict_two_keeps Q k (apply_two R E o))
         (related a p.0) (related b p.1.0)
     related (ExtensionFunctionApp n es) h =
-        refines_call n (all_related es (and_right (P (ExtensionFunctionApp n es)) _ h))
+        refines_call n (all_related es (and_parts (P (ExtensionFunctionApp n es)) _ h).1)
     related (GetAttr a j) h =
         of_one (strict (get_in j)) (strict_keeps Q k (get_in j))
         (related a (only P (GetAttr a j) a h))
@@ -149,10 +149,10 @@ module _ (Q : (A : Type 0) → Result A Fault → Result A Fault → Type 0) (k 
         (related a (only P (Like a p) a h))
     related (Set es) h =
         refines_one (set_outcome R) (set_outcome R) (set_keeps Q k R)
-        (all_related es (and_right (P (Set es)) _ h))
+        (all_related es (and_parts (P (Set es)) _ h).1)
     related (Record fs) h =
         refines_one record_outcome record_outcome (record_keeps Q k)
-        (fields_related fs (and_right (P (Record fs)) _ h))
+        (fields_related fs (and_parts (P (Record fs)) _ h).1)
     related (Is a n) h =
         of_one (strict (is_in n)) (strict_keeps Q k (is_in n)) (related a (only P (Is a n) a h))
 

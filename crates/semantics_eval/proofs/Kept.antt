@@ -1,11 +1,11 @@
 -- The outcome of a value's expression.
 use Rattle.std.proofs.Common.{◌≡◌, refl, sym, ap, ◌∙◌, Bool, true, false, ◌||◌, List, [], ◌∷◌, map, Option, Some, Result, Ok}
-use Rattle.std.proofs.lemmas.Bool.{true≢false}
+use Rattle.std.proofs.lemmas.Bool.{and_parts, true≢false}
 use Rattle.std.specs.BTreeSet.{insert_key}
 use Rattle.std.specs.Ordering.{is_lt, match_ordering}
 use Rattle.std.specs.declared.cmp.Ordering.{Ordering}
 use Rattle.cedar_sorted_slices.specs.Classes.{ascends}
-use Rattle.cedar_sorted_slices.specs.Ascending.{and_left, and_right, less}
+use Rattle.cedar_sorted_slices.specs.Ascending.{less}
 use Rattle.cedar_names.specs.Names.{BareName}
 use Rattle.cedar_terms.specs.Types.{BareType}
 use Rattle.cedar_builders.specs.BareExpr.{Text, BareExpr}
@@ -33,9 +33,9 @@ module _ {K : Type 0} (R : K → K → Ordering) where
   ascending_kept [] h = refl
   ascending_kept (x ∷ []) h = refl
   ascending_kept (x ∷ y ∷ ys) h =
-      ap (λ zs. insert_key R zs x) (ascending_kept (y ∷ ys) (and_right (is_lt (R x y)) _ h))
+      ap (λ zs. insert_key R zs x) (ascending_kept (y ∷ ys) (and_parts (is_lt (R x y)) _ h).1)
       ∙ ap (λ r. match_ordering r (x ∷ y ∷ ys) (y ∷ ys) (y ∷ insert_key R ys x))
-      (less (R x y) (and_left (is_lt (R x y)) _ h))
+      (less (R x y) (and_parts (is_lt (R x y)) _ h).0)
 
 values_ok : {X : Type 0} (ts : List (BareValue X)) → all_values (map (λ t. Ok t) ts) ≡ Ok ts
 values_ok [] = refl
@@ -94,8 +94,8 @@ module _ {X : Type 0} (R : X → X → Ordering) where
     pub kept : (t : BareValue X) → is_well_formed R t ≡ true → normal t ≡ t
     kept (LitValue l) w = refl
     kept (SetValue ts) w =
-        let ascending = and_left (ascends (value_cmp R) (list_of ts)) (are_well_formed R ts) w in
-        let inside = and_right (ascends (value_cmp R) (list_of ts)) (are_well_formed R ts) w in
+        let ascending = (and_parts (ascends (value_cmp R) (list_of ts)) (are_well_formed R ts) w).0 in
+        let inside = (and_parts (ascends (value_cmp R) (list_of ts)) (are_well_formed R ts) w).1 in
         ap (set_value R) (all_kept ts inside)
         ∙ (ap (λ us. SetValue (values_of us)) (ascending_kept (value_cmp R) (list_of ts) ascending)
         ∙ ap SetValue (sym (values_of_list ts)))
@@ -105,16 +105,16 @@ module _ {X : Type 0} (R : X → X → Ordering) where
     all_kept : (ts : BareValues X) → are_well_formed R ts ≡ true → normals ts ≡ list_of ts
     all_kept no_values w = refl
     all_kept (value t ts) w =
-        let here = kept t (and_left (is_well_formed R t) (are_well_formed R ts) w) in
-        let rest = all_kept ts (and_right (is_well_formed R t) (are_well_formed R ts) w) in
+        let here = kept t (and_parts (is_well_formed R t) (are_well_formed R ts) w).0 in
+        let rest = all_kept ts (and_parts (is_well_formed R t) (are_well_formed R ts) w).1 in
         λ i. here i ∷ rest i
 
     pairs_kept : (ps : BarePairs X) → pairs_are_well_formed R ps ≡ true
         → pairs_of (normal_pairs ps) ≡ ps
     pairs_kept no_pairs w = refl
     pairs_kept (pair k t ps) w =
-        let here = kept t (and_left (is_well_formed R t) (pairs_are_well_formed R ps) w) in
-        let rest = pairs_kept ps (and_right (is_well_formed R t) (pairs_are_well_formed R ps) w) in
+        let here = kept t (and_parts (is_well_formed R t) (pairs_are_well_formed R ps) w).0 in
+        let rest = pairs_kept ps (and_parts (is_well_formed R t) (pairs_are_well_formed R ps) w).1 in
         λ i. pair k (here i) (rest i)
 
 -- the expression of a value without extension values

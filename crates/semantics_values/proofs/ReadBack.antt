@@ -1,6 +1,6 @@
 -- A value's expression is read back, and what is read is one value up to sameness.
 use Rattle.std.proofs.Common.{◌≡◌, Bool, true, false, not, ◌&&◌, ◌||◌, List, [], ◌∷◌, refl, sym, ap, ◌∙◌}
-use Rattle.std.proofs.lemmas.Bool.{true≢false}
+use Rattle.std.proofs.lemmas.Bool.{and_parts, true≢false}
 use Rattle.std.proofs.lemmas.List.Folds.{list_all-append}
 use Rattle.std.specs.List.{list_all}
 use Rattle.std.specs.Cmp.{IsTotalOrder, tied_itself}
@@ -9,7 +9,7 @@ use Rattle.std.specs.Ordering.{nat_cmp, ordering_then, is_eq, eq_by_cmp}
 use Rattle.std.specs.declared.cmp.Ordering.{Ordering}
 use Rattle.std.specs.declared.cmp.Ordering.TheVariants.{Equal}
 use Rattle.cedar_sorted_slices.specs.Classes.{IsClassesOf, ascends}
-use Rattle.cedar_sorted_slices.specs.Ascending.{sorted_of_ascends, and_left, and_right}
+use Rattle.cedar_sorted_slices.specs.Ascending.{sorted_of_ascends}
 use Rattle.cedar_sorted_slices.specs.Unique.{same_classes_tie, tied_has}
 use Rattle.cedar_terms.specs.LiteralOrder.{literal_cmp_total}
 use Rattle.cedar_builders.specs.BareExpr.{BareExpr, Lit, Set, Record, BareExprs, no_trees, tree, BareFields, no_fields, field}
@@ -63,10 +63,10 @@ module _ {X : Type 0} {R : X → X → Ordering} (o : IsTotalOrder R) where
       gives (LitValue l) w h = refl
       gives (SetValue ts) w h = (
         list_of ts,
-        all_give ts (and_right (ascends (value_cmp R) (list_of ts)) (are_well_formed R ts) w) h,
+        all_give ts (and_parts (ascends (value_cmp R) (list_of ts)) (are_well_formed R ts) w).1 h,
         list_of ts,
         record {
-          ascending = sorted_of_ascends (value_cmp_total o) (list_of ts) (and_left (ascends (value_cmp R) (list_of ts)) (are_well_formed R ts) w);
+          ascending = sorted_of_ascends (value_cmp_total o) (list_of ts) (and_parts (ascends (value_cmp R) (list_of ts)) (are_well_formed R ts) w).0;
           same = λ q. refl;
           kept = λ x c. c;
         },
@@ -78,12 +78,12 @@ module _ {X : Type 0} {R : X → X → Ordering} (o : IsTotalOrder R) where
       all_give : (ts : BareValues X) → are_well_formed R ts ≡ true → any_has_extension ts ≡ false → AreValuesOf R (member_exprs C ts) (list_of ts)
       all_give no_values w h = tt
       all_give (value t ts) w h =
-          (gives t (and_left (is_well_formed R t) (are_well_formed R ts) w) (or_left (has_extension t) (any_has_extension ts) h), all_give ts (and_right (is_well_formed R t) (are_well_formed R ts) w) (or_right (has_extension t) (any_has_extension ts) h))
+          (gives t (and_parts (is_well_formed R t) (are_well_formed R ts) w).0 (or_left (has_extension t) (any_has_extension ts) h), all_give ts (and_parts (is_well_formed R t) (are_well_formed R ts) w).1 (or_right (has_extension t) (any_has_extension ts) h))
 
       pairs_give : (ps : BarePairs X) → pairs_are_well_formed R ps ≡ true → any_pair_has_extension ps ≡ false → ArePairsOf R (pair_exprs C ps) ps
       pairs_give no_pairs w h = tt
       pairs_give (pair k t ps) w h =
-          (refl, gives t (and_left (is_well_formed R t) (pairs_are_well_formed R ps) w) (or_left (has_extension t) (any_pair_has_extension ps) h), pairs_give ps (and_right (is_well_formed R t) (pairs_are_well_formed R ps) w) (or_right (has_extension t) (any_pair_has_extension ps) h))
+          (refl, gives t (and_parts (is_well_formed R t) (pairs_are_well_formed R ps) w).0 (or_left (has_extension t) (any_pair_has_extension ps) h), pairs_give ps (and_parts (is_well_formed R t) (pairs_are_well_formed R ps) w).1 (or_right (has_extension t) (any_pair_has_extension ps) h))
 
     mutual
       plain : (t u : BareValue X) → IsValueOf R (value_expr C t) u → has_extension t ≡ false
