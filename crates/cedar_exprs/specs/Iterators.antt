@@ -39,7 +39,7 @@ slot_at r = (r.id, option_copied r.loc)
 
 -- how many entries are reserved for the stack of a walk
 abbrev pub reserved : {T : Type 0} → ExprIterator T → ℕ
-reserved w = vec_capacity w.stack
+reserved w = vec_capacity w.expression_stack
 
 -- the entries that the walk over slots has room for
 abbrev pub reserved_by_slots : {T : Type 0} → Slots T → ℕ
@@ -51,7 +51,7 @@ reserved_by_unknowns u = reserved u.walk
 
 -- what is still given
 abbrev pub positions_left : {T : Type 0} → ExprIterator T → List (Expr T)
-positions_left w = given_by (referents w.stack.items)
+positions_left w = given_by (referents w.expression_stack.items)
 
 -- the slots that a walk has still to give, with their places
 abbrev pub slots_left : {T : Type 0} → Slots T → List (SlotId × Option Place)

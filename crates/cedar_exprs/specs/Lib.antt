@@ -6,6 +6,7 @@ pub mod ExprData
 pub mod MadeNode
 pub mod RecordPairs
 pub mod Walks
+pub mod Copies
 pub mod Children
 pub mod FirstNodes
 pub mod NotRestricted

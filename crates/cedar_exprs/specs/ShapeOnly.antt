@@ -11,4 +11,4 @@ held_tree (Owned e) = bare_expr e
 
 -- the bare tree of the expression
 abbrev pub shape_of : {T : Type 0} → ExprShapeOnly T → BareExpr
-shape_of e = held_tree e.held
+shape_of e = held_tree e.0

@@ -44,6 +44,19 @@ pub struct ExprBuilder<T> {
     data: T,
 }
 
+/// A copy with a copy of the data.
+impl<T: Clone> Clone for ExprBuilder<T> {
+    ghost is_clone = { λ b copy.
+        (builder_place copy ≡ builder_place b) × T.is_clone (builder_data b) (builder_data copy) };
+
+    fn clone(&self) -> Result<ExprBuilder<T>, AllocError> {
+        Ok(ExprBuilder {
+            source_loc: self.source_loc.clone()?,
+            data: self.data.clone()?,
+        })
+    }
+}
+
 impl<T: Default + Copy> ExprBuilder<T> {
     /// The builder with the place of this expression. It takes no memory.
     pub fn with_same_source_loc<U>(

@@ -2,3 +2,4 @@
 mod bound;
 pub(crate) mod build;
 pub(crate) mod typed_build;
+pub(crate) mod value_builder;

@@ -5,6 +5,7 @@ ghost use Rattle.cedar_terms.specs.Literals.{bare_literal};
 ghost use Rattle.cedar_builders.specs.Trees.{bool_of, literal_bool};
 ghost use Rattle.cedar_builders.specs.Walks as bare;
 ghost use Rattle.cedar_exprs.specs.BareExpr.{bare_expr, bare_expr_kind, kind_of, expr_place, data_of};
+ghost use Rattle.cedar_exprs.specs.Copies.{IsCopy};
 ghost use Rattle.cedar_exprs.specs.ExprData.{data_tree, kind_data};
 ghost use Rattle.cedar_exprs.specs.Steps.{is_leaf};
 ghost use Rattle.cedar_exprs.specs.Walks.{children, kind_children};
@@ -21,6 +22,7 @@ pub type ExprKind<T = ()> = KindOf<Expr<T>>;
 
 /// The kinds of expressions, over children of any type: `ExprKind` has expressions there.
 #[derive(Debug, PartialEq, Eq, Hash, Drop)]
+#[derive_where(Clone; E: Drop)]
 pub enum KindOf<E> {
     /// A literal.
     Lit(Literal),
@@ -220,22 +222,43 @@ impl<T> Expr<T> {
     }
 }
 
+/// A copy, which shares the children; its data are a copy of the data.
+impl<T: Clone> Clone for Expr<T> {
+    ghost is_clone = { IsCopy T.is_clone };
+
+    fn clone(&self) -> Result<Expr<T>, AllocError> {
+        self.copy_with(self.data.clone()?)
+    }
+}
+
 impl<T: Copy> Expr<T> {
     /// A copy, which shares the children.
     #[inline(always)]
-    pub fn clone(&self, alloc: Global) -> Result<Expr<T>, AllocError>
+    pub fn clone(&self, _alloc: Global) -> Result<Expr<T>, AllocError>
         ensures tree { IfOk result (λ e. bare_expr e ≡ bare_expr self.now) }
         ensures place { IfOk result (λ e. expr_place e ≡ expr_place self.now) }
         ensures children { IfOk result (λ e. children e ≡ children self.now) }
         ensures at_each_position { IfOk result (λ e. data_tree e ≡ data_tree self.now) }
     {
-        let source_loc = Loc::clone_option(alloc, self.source_loc())?;
+        self.copy_with(self.data)
+    }
+}
+
+impl<T: Drop> Expr<T> {
+    // A copy with these data, which shares the children.
+    #[inline(always)]
+    fn copy_with(&self, data: T) -> Result<Expr<T>, AllocError>
+        ensures copy { IfOk result (IsCopy (λ _ d. d ≡ «data») self.now) }
+        ensures at_each_position { «data» ≡ data_of self.now
+            → IfOk result (λ e. data_tree e ≡ data_tree self.now) }
+    {
+        let source_loc = self.source_loc.clone()?;
         // A literal needs little of the room that a copy of any kind takes.
         let expr_kind = match &self.expr_kind {
-            ExprKind::Lit(literal) => ExprKind::Lit(literal.clone(alloc)?),
-            kind => kind.clone(alloc)?,
+            ExprKind::Lit(literal) => ExprKind::Lit(Clone::clone(literal)?),
+            kind => kind.copied()?,
         };
-        Ok(Expr::new(expr_kind, source_loc, self.data))
+        Ok(Expr::new(expr_kind, source_loc, data))
     }
 }
 
@@ -252,66 +275,23 @@ fn literal_bool(literal: &Literal) -> Option<bool>
 impl<T: Copy> ExprKind<T> {
     /// A copy, which shares the children.
     #[inline(never)]
-    pub fn clone(&self, alloc: Global) -> Result<ExprKind<T>, AllocError>
+    pub fn clone(&self, _alloc: Global) -> Result<ExprKind<T>, AllocError>
         ensures tree { IfOk result (λ k. bare_expr_kind k ≡ bare_expr_kind self.now) }
         ensures children { IfOk result (λ k. kind_children k ≡ kind_children self.now) }
         ensures at_each_position { IfOk result (λ k. kind_data k ≡ kind_data self.now) }
     {
-        match self {
-            ExprKind::Lit(l) => Ok(ExprKind::Lit(l.clone(alloc)?)),
-            ExprKind::Var(v) => Ok(ExprKind::Var(*v)),
-            ExprKind::Slot(s) => Ok(ExprKind::Slot(*s)),
-            ExprKind::Unknown(u) => Ok(ExprKind::Unknown(u.clone(alloc)?)),
-            ExprKind::If {
-                test_expr,
-                then_expr,
-                else_expr,
-            } => Ok(ExprKind::If {
-                test_expr: test_expr.clone()?,
-                then_expr: then_expr.clone()?,
-                else_expr: else_expr.clone()?,
-            }),
-            ExprKind::And { left, right } => Ok(ExprKind::And {
-                left: left.clone()?,
-                right: right.clone()?,
-            }),
-            ExprKind::Or { left, right } => Ok(ExprKind::Or {
-                left: left.clone()?,
-                right: right.clone()?,
-            }),
-            ExprKind::UnaryApp { op, arg } => Ok(ExprKind::UnaryApp {
-                op: *op,
-                arg: arg.clone()?,
-            }),
-            ExprKind::BinaryApp { op, arg1, arg2 } => Ok(ExprKind::BinaryApp {
-                op: *op,
-                arg1: arg1.clone()?,
-                arg2: arg2.clone()?,
-            }),
-            ExprKind::ExtensionFunctionApp { fn_name, args } => {
-                Ok(ExprKind::ExtensionFunctionApp {
-                    fn_name: fn_name.clone(alloc)?,
-                    args: args.clone()?,
-                })
-            }
-            ExprKind::GetAttr { expr, attr } => Ok(ExprKind::GetAttr {
-                expr: expr.clone()?,
-                attr: attr.clone()?,
-            }),
-            ExprKind::HasAttr { expr, attrs } => Ok(ExprKind::HasAttr {
-                expr: expr.clone()?,
-                attrs: attrs.clone(alloc)?,
-            }),
-            ExprKind::Like { expr, pattern } => Ok(ExprKind::Like {
-                expr: expr.clone()?,
-                pattern: pattern.clone(alloc)?,
-            }),
-            ExprKind::Set(members) => Ok(ExprKind::Set(members.clone()?)),
-            ExprKind::Record(values) => Ok(ExprKind::Record(values.clone()?)),
-            ExprKind::Is { expr, entity_type } => Ok(ExprKind::Is {
-                expr: expr.clone()?,
-                entity_type: entity_type.clone(alloc)?,
-            }),
-        }
+        Clone::clone(self)
+    }
+}
+
+impl<T: Drop> ExprKind<T> {
+    // A copy, which shares the children.
+    #[inline(never)]
+    fn copied(&self) -> Result<ExprKind<T>, AllocError>
+        ensures tree { IfOk result (λ k. bare_expr_kind k ≡ bare_expr_kind self.now) }
+        ensures children { IfOk result (λ k. kind_children k ≡ kind_children self.now) }
+        ensures at_each_position { IfOk result (λ k. kind_data k ≡ kind_data self.now) }
+    {
+        Clone::clone(self)
     }
 }

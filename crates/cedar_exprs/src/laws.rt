@@ -1,8 +1,11 @@
 //! The laws of expressions, and those of substitution over their bare trees.
 //!
 //! A function here does nothing but carry its contract, which is the law.
-ghost use Rattle.std.specs.Prelude.{◌≡◌, ◌↔◌, ◌∷◌, IsTrue, map};
+ghost use Rattle.std.specs.Prelude.{◌≡◌, ◌↔◌, ◌∷◌, IsTrue, map, Ok};
 ghost use Rattle.cedar_builders.specs.AscendingKeys.{KeysAscend, NodeKeysAscend};
+ghost use Rattle.cedar_builders.specs.BareExpr.{BareExpr};
+ghost use Rattle.cedar_builders.specs.Environment.{Env, fold};
+ghost use Rattle.cedar_builders.specs.Trees.{tree_ops};
 ghost use Rattle.cedar_builders.specs.Walks as bare;
 ghost use Rattle.cedar_builders.specs.Walks.{backward};
 ghost use Rattle.cedar_exprs.specs.ExprData.{SameData, data_tree, data_trees, holds};
@@ -11,8 +14,10 @@ ghost use Rattle.cedar_exprs.specs.FirstNodes.{InPreorder};
 ghost use Rattle.cedar_exprs.specs.Walks.{children, positions};
 ghost use Rattle.cedar_exprs.specs.declared.expr.Expr.{Expr};
 
+use crate::builder::ExprBuilder;
 use crate::expr::{Expr, ExprKind};
 use crate::walks::children::Children;
+use cedar_builders::expr_builder;
 pub use cedar_builders::laws::{
     built_after, clash_by_children, rebuilt_twice, restricted_rebuilt, shapes_are_ordered,
     stack_needs, substituted_by_fold, substituted_twice, then_is_both, then_is_not_always_both,
@@ -75,4 +80,25 @@ fn node_keys_ascend<T>(expr: &Expr<T>)
 /// trees of these nodes are the nodes of the bare tree.
 pub fn nodes_in_preorder<T>()
     ensures { InPreorder T }
+{}
+
+/// What the struct `ExprBuilder<T>` makes of a tree, whatever unknowns are bound to, is an
+/// expression with the tree that the builder of trees makes of it.
+///
+/// So the clauses of `into_expr` and its like, at the struct, are clauses on trees. Call it where
+/// they are called, in a function that is generic in `T`:
+///
+/// ```rust
+/// fn rebuild<T: Default + Copy>(alloc: Global, expr: &Expr<T>) -> Result<Expr<T>, AllocError>
+///     ensures { IfOk result (λ e. fold tree_ops empty (bare_expr expr.now) ≡ Ok (bare_expr e)) }
+/// {
+///     struct_makes_trees::<T>();
+///     expr.into_expr::<ExprBuilder<T>>(alloc)
+/// }
+/// ```
+pub fn struct_makes_trees<T: Default + Copy>()
+    ensures { let B = ⟦<ExprBuilder<T> as expr_builder::ExprBuilder>⟧ in
+        (env : Env) (tree : BareExpr) (e : Expr _)
+        → (fold B.ops env tree ≡ Ok (B.meaning_of e))
+        ↔ (fold tree_ops env tree ≡ Ok (bare_expr e)) }
 {}

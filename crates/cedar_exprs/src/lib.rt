@@ -18,6 +18,7 @@ mod walks;
 
 pub use builder::ExprBuilder;
 pub use building::typed_build::TypedBuildFault;
+pub use building::value_builder::{ThroughExpr, ValueBuilder};
 pub use cedar_builders::SubstitutionError;
 pub use cedar_validation::{CallStyle, ExprValidationError, FunctionTable};
 pub use expr::{Expr, ExprKind, KindOf};

@@ -1,6 +1,6 @@
 //! Expressions of literals, unknowns, sets, records and calls, and the values that unknowns are
 //! bound to.
-ghost use Rattle.std.specs.Prelude.{◌≡◌, IfOk, MatchResult, IsOk, ◌↔◌, map};
+ghost use Rattle.std.specs.Prelude.{◌≡◌, ⊤, IfOk, MatchResult, IsOk, ◌↔◌, map};
 ghost use Rattle.cedar_names.specs.PlainNames.{bare_name};
 ghost use Rattle.cedar_terms.specs.Literals.{bare_literal};
 ghost use Rattle.cedar_terms.specs.Types.{BareType, bare_type, literal_type};
@@ -13,11 +13,12 @@ use crate::walks::not_restricted::first_not_restricted;
 use cedar_names::{Loc, Name};
 use cedar_terms::{Literal, StaticallyTyped, Type};
 use std::alloc::{AllocError, Global};
+use std::fmt;
 use thiserror::Error;
 
 /// An expression in which each node is a literal, an unknown, a set, a record or a call
 /// (`RestrictedExpr` of `restricted_expr.rs`). These are the expressions that a value may have.
-#[derive(Debug, Drop)]
+#[derive(PartialEq, Eq, Hash, Drop)]
 pub struct RestrictedExpr {
     expr: Expr,
     ghost restricted: { IsRestricted (bare_expr expr) },
@@ -98,6 +99,25 @@ impl RestrictedExpr {
     }
 }
 
+/// A copy, which shares what is below the outermost node.
+impl Clone for RestrictedExpr {
+    ghost use Rattle.cedar_exprs.specs.Copies.{IsCopy};
+    ghost use Rattle.cedar_exprs.specs.RestrictedExprs.{expr_of};
+
+    ghost is_clone = { λ r copy. IsCopy (λ _ _. ⊤) (expr_of r) (expr_of copy) };
+
+    fn clone(&self) -> Result<RestrictedExpr, AllocError> {
+        let expr = Clone::clone(&self.expr)?;
+        Ok(RestrictedExpr { expr })
+    }
+}
+
+impl fmt::Debug for RestrictedExpr {
+    fn fmt<W: fmt::Write>(&self, f: &mut fmt::Formatter<W>) -> fmt::Result {
+        f.debug_tuple("RestrictedExpr").field(&self.expr).finish()
+    }
+}
+
 impl From<RestrictedExpr> for Expr {
     ghost use Rattle.cedar_exprs.specs.RestrictedExprs.{expr_of};
 
@@ -142,7 +162,7 @@ impl SubstituteValue for Literal {
 }
 
 /// Why an expression is not restricted.
-#[derive(Debug, Drop, Error)]
+#[derive(Debug, Clone, PartialEq, Eq, Drop, Error)]
 pub enum RestrictedExprError {
     /// A node is no literal, unknown, set, record or call. The place, if known, is that of the
     /// first such node, where each node comes before its children and the values of a record come

@@ -8,4 +8,4 @@ mod refusing;
 
 pub use crate::connectives::{AsTheyStand, Connectives, Simplifying};
 pub use crate::refusal::{Counted, Nothing, Numbered, Refusal};
-pub use crate::refusing::{RefuseAt, RefuseCount, Refused, Refusing};
+pub use crate::refusing::{RefuseAt, RefuseCount, Refused, Refusing, refusing_makes_trees};

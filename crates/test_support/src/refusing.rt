@@ -1,16 +1,19 @@
 //! The builder that refuses.
-ghost use Rattle.std.specs.Prelude.{◌≡◌, IfOk, IfErr, ⊤, refl, map};
+ghost use Rattle.std.specs.Prelude.{◌≡◌, ◌↔◌, IfOk, IfErr, ⊤, refl, map, Ok, Err};
 ghost use Rattle.cedar_names.specs.Names.{BareName};
 ghost use Rattle.cedar_names.specs.PlainNames.{bare_name};
 ghost use Rattle.cedar_builders.specs.BareExpr.{BareExpr, Set};
 ghost use Rattle.cedar_builders.specs.Answers.{Gives};
+ghost use Rattle.cedar_builders.specs.Environment.{Env, fold};
 ghost use Rattle.cedar_builders.specs.Errors.{OnDuplicateKey};
 ghost use Rattle.cedar_builders.specs.Keys.{keys_of, meant_pairs, IsAscending, HasRepeat};
 ghost use Rattle.cedar_builders.specs.Trees.{tree_ops};
 ghost use Rattle.cedar_builders.specs.declared.expression_construction_errors.ExpressionConstructionError.TheVariants as error;
 ghost use Rattle.cedar_exprs.specs.MadeNode.{builder_place};
 ghost use Rattle.cedar_exprs.specs.BareExpr.{bare_expr, bare_exprs};
+ghost use Rattle.cedar_exprs.specs.declared.expr.Expr.{Expr};
 ghost use Rattle.test_support.specs.Refusing.{refusing};
+ghost use Rattle.test_support.specs.declared.refusing.Refused.{Refused};
 
 use crate::connectives::{Connectives, Simplifying};
 use crate::refusal::{Counted, Numbered, Refusal};
@@ -220,3 +223,18 @@ impl<R: Refusal> LawfulExprBuilder for Refusing<R> {
       or_of_literals = λ a b. refl;
     } };
 }
+
+/// What the builder makes of a tree, whatever unknowns are bound to, is an expression with the tree
+/// that the builder of trees makes of it, with `and` and `or` as they are made, where no call is
+/// refused; and it refuses the same call first.
+pub fn refusing_makes_trees<R: Refusal, C: Connectives>()
+    ensures made { let B = ⟦<Refusing<R, C> as Builder>⟧ in
+        let wanted = refusing tree_ops C.and_of C.or_of R.refuses in
+        (env : Env) (tree : BareExpr) (e : Expr _)
+        → (fold B.ops env tree ≡ Ok (B.meaning_of e)) ↔ (fold wanted env tree ≡ Ok (bare_expr e)) }
+    ensures refused { let B = ⟦<Refusing<R, C> as Builder>⟧ in
+        let wanted = refusing tree_ops C.and_of C.or_of R.refuses in
+        (env : Env) (tree : BareExpr) (e : Refused)
+        → (fold B.ops env tree ≡ Err (B.fault_of e))
+        ↔ (fold wanted env tree ≡ Err (bare_name e.name)) }
+{}

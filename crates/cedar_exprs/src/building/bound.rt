@@ -8,9 +8,10 @@ ghost use Rattle.cedar_exprs.specs.PostOrder.{IsPut};
 ghost use Rattle.cedar_exprs.specs.RestrictedExprs.{binding_of, env_of};
 
 use crate::building::build::{Building, build_by};
+use crate::building::value_builder::{ThroughExpr, ValueBuilder};
 use crate::expr::{Expr, ExprKind};
 use crate::restricted_expr::SubstituteValue;
-use crate::walks::post_order::{PostOrder, PostOrderFault, run};
+use crate::walks::post_order::{PostOrder, PostOrderFault};
 use crate::walks::results::push_item;
 use cedar_builders::{BuildFault, ExprBuilder};
 use std::alloc::Global;
@@ -34,9 +35,29 @@ impl<T> Expr<T> {
             (fold B.ops (env_of V.bare_type_of V.bare_expr_of values.now) (bare_expr self.now))
             result }
     {
-        let walk = BoundBuilding::<B, V> {
+        self.try_into_expr_by::<B, V, ThroughExpr>(alloc, values)
+    }
+
+    /// The same, where `W` says what the builder makes of a value. So a builder may take the values
+    /// that unknowns are bound to as they are: `ThroughExpr` builds each from its expression, at
+    /// each unknown anew.
+    ///
+    /// ```rust
+    /// expr.try_into_expr_by::<Evaluator, WellFormedValue, SharedValue>(alloc, values)
+    /// ```
+    pub fn try_into_expr_by<B: ExprBuilder, V: SubstituteValue, W: ValueBuilder<B, V>>(
+        &self,
+        alloc: Global,
+        values: &HashMap<RcStr, V>,
+    ) -> Result<B::Expr, BuildFault<B::BuildError>>
+        ensures { Gives B.meaning_of B.fault_of
+            (fold B.ops (env_of V.bare_type_of V.bare_expr_of values.now) (bare_expr self.now))
+            result }
+    {
+        let walk = BoundBuilding::<B, V, W> {
             values,
             of: PhantomData,
+            by: PhantomData,
         };
         build_by(alloc, &walk, self)
     }
@@ -44,12 +65,14 @@ impl<T> Expr<T> {
 
 // Each node by a new builder, but for unknowns that are bound: these are built from their values.
 #[derive(Drop)]
-struct BoundBuilding<'a, B, V> {
+struct BoundBuilding<'a, B, V, W> {
     values: &'a HashMap<RcStr, V>,
     of: PhantomData<B>,
+    by: PhantomData<W>,
 }
 
-impl<T, B: ExprBuilder, V: SubstituteValue> PostOrder<T> for BoundBuilding<'_, B, V> {
+impl<T, B: ExprBuilder, V: SubstituteValue, W: ValueBuilder<B, V>> PostOrder<T>
+    for BoundBuilding<'_, B, V, W> {
     type Out = B::Expr;
 
     type Refusal = B::BuildError;
@@ -75,7 +98,7 @@ impl<T, B: ExprBuilder, V: SubstituteValue> PostOrder<T> for BoundBuilding<'_, B
         done: &mut Vec<B::Expr>,
     ) -> Result<(), PostOrderFault<B::BuildError>> {
         match binding(self.values, node) {
-            Some(value) => build_value::<B, V>(alloc, value, done),
+            Some(value) => put_value::<B, V, W>(alloc, value, done),
             None => {
                 let building = Building::<B> { of: PhantomData };
                 building.make(alloc, node, done)
@@ -102,9 +125,9 @@ fn binding<'a, T, V: SubstituteValue>(
     }
 }
 
-// Puts what is built of a value's expression.
+// Puts what is built of a value.
 #[inline(never)]
-fn build_value<B: ExprBuilder, V: SubstituteValue>(
+fn put_value<B: ExprBuilder, V: SubstituteValue, W: ValueBuilder<B, V>>(
     alloc: Global,
     value: &V,
     done: &mut Vec<B::Expr>,
@@ -113,7 +136,9 @@ fn build_value<B: ExprBuilder, V: SubstituteValue>(
         (λ ms r. r ≡ fold B.ops empty (V.bare_expr_of value.now)) 0
         done.old.items done.new.items result }
 {
-    let expr = value.value_expr(alloc)?;
-    let built = run(alloc, &Building::<B> { of: PhantomData }, expr.as_expr())?;
-    Ok(push_item(done, built)?)
+    match W::build_value(alloc, value) {
+        Ok(built) => Ok(push_item(done, built)?),
+        Err(BuildFault::Build(error)) => Err(PostOrderFault::Refused(error)),
+        Err(BuildFault::Memory) => Err(PostOrderFault::Memory),
+    }
 }

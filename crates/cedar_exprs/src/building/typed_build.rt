@@ -20,7 +20,7 @@ use thiserror::Error;
 /// memory ran out.
 ///
 /// Its text is that of the clash, of the builder's own error, or `no memory`.
-#[derive(Debug, Drop, Error)]
+#[derive(Debug, Clone, PartialEq, Eq, Drop, Error)]
 pub enum TypedBuildFault<E> {
     /// The value of an unknown has another type than the unknown's annotation says.
     TypeError { expected: Type, actual: Type },

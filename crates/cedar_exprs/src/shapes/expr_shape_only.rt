@@ -7,20 +7,28 @@ use crate::shapes::hashing::hash_shape;
 use crate::shapes::order::cmp_shape;
 use std::alloc::{AllocError, Global};
 use std::cmp::Ordering;
+use std::fmt;
 use std::hash::{Hash, Hasher};
 
 /// An expression, borrowed or owned, whose places and data do not count: it compares and hashes by
 /// `eq_shape`, `cmp_shape` and `hash_shape`.
 #[derive(Debug, Drop)]
-pub struct ExprShapeOnly<'a, T = ()> {
-    held: Held<'a, T>,
-}
+pub struct ExprShapeOnly<'a, T = ()>(Held<'a, T>);
 
-// A borrowed or an owned expression.
-#[derive(Debug, Drop)]
+// A borrowed or an owned expression, which is shown as the expression.
+#[derive(Drop)]
 enum Held<'a, T> {
     Borrowed(&'a Expr<T>),
     Owned(Expr<T>),
+}
+
+impl<T: fmt::Debug> fmt::Debug for Held<'_, T> {
+    fn fmt<W: fmt::Write>(&self, f: &mut fmt::Formatter<W>) -> fmt::Result {
+        match self {
+            Held::Borrowed(expr) => fmt::Debug::fmt(*expr, f),
+            Held::Owned(expr) => fmt::Debug::fmt(expr, f),
+        }
+    }
 }
 
 impl<'a, T> ExprShapeOnly<'a, T> {
@@ -30,27 +38,37 @@ impl<'a, T> ExprShapeOnly<'a, T> {
     pub fn new_from_borrowed(expr: &'a Expr<T>) -> ExprShapeOnly<'a, T>
         ensures { shape_of result ≡ bare_expr expr.now }
     {
-        ExprShapeOnly {
-            held: Held::Borrowed(expr),
-        }
+        ExprShapeOnly(Held::Borrowed(expr))
     }
 
     /// Of an expression of its own.
     pub fn new_from_owned(expr: Expr<T>) -> ExprShapeOnly<'a, T>
         ensures { shape_of result ≡ bare_expr expr }
     {
-        ExprShapeOnly {
-            held: Held::Owned(expr),
-        }
+        ExprShapeOnly(Held::Owned(expr))
     }
 
     // The expression.
     fn expr(&self) -> &Expr<T>
         ensures { bare_expr result.now ≡ shape_of self.now }
     {
-        match &self.held {
+        match &self.0 {
             Held::Borrowed(expr) => expr,
             Held::Owned(expr) => expr,
+        }
+    }
+}
+
+/// A copy, which borrows what this one borrows.
+impl<'a, T: Clone> Clone for ExprShapeOnly<'a, T> {
+    ghost use Rattle.cedar_exprs.specs.ShapeOnly.{shape_of};
+
+    ghost is_clone = { λ e copy. shape_of copy ≡ shape_of e };
+
+    fn clone(&self) -> Result<ExprShapeOnly<'a, T>, AllocError> {
+        match &self.0 {
+            Held::Borrowed(expr) => Ok(ExprShapeOnly::new_from_borrowed(expr)),
+            Held::Owned(expr) => Ok(ExprShapeOnly::new_from_owned(expr.clone()?)),
         }
     }
 }
@@ -62,7 +80,7 @@ impl<'a, T: Copy> ExprShapeOnly<'a, T> {
     pub fn clone(&self, alloc: Global) -> Result<ExprShapeOnly<'a, T>, AllocError>
         ensures { IfOk result (λ e. shape_of e ≡ shape_of self.now) }
     {
-        match &self.held {
+        match &self.0 {
             Held::Borrowed(expr) => Ok(ExprShapeOnly::new_from_borrowed(expr)),
             Held::Owned(expr) => Ok(ExprShapeOnly::new_from_owned(expr.clone(alloc)?)),
         }

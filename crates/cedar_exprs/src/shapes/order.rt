@@ -27,9 +27,9 @@ impl<T> Expr<T> {
     /// Compares what the expressions are, without their places and data.
     ///
     /// Kinds come first, in the order of `ExprKind`, `HasAttr` of one attribute before `HasAttr` of
-    /// more. Within a kind the operator, the name, the
-    /// attributes or the pattern come before the children, the number of arguments, members or
-    /// pairs before these, and of a record each key before its value.
+    /// more. Within a kind the operator, the name, the attributes or the pattern come before the
+    /// children, the number of arguments, members or pairs before these, and of a record each key
+    /// before its value.
     pub fn cmp_shape(&self, other: &Expr<T>) -> Ordering
         ensures { result ≡ shape_cmp (bare_expr self.now) (bare_expr other.now) }
     {

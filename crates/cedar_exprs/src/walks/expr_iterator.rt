@@ -23,8 +23,8 @@ use std::rc::RcStr;
 #[derive(Debug, Drop)]
 pub struct ExprIterator<'a, T = ()> {
     // What is still to be walked over, the next on top.
-    stack: Vec<&'a Expr<T>>,
-    ghost room: { need_of (referents stack.items) ≤ vec_capacity stack },
+    expression_stack: Vec<&'a Expr<T>>,
+    ghost room: { need_of (referents expression_stack.items) ≤ vec_capacity expression_stack },
 }
 
 impl<'a, T> ExprIterator<'a, T> {
@@ -36,9 +36,9 @@ impl<'a, T> ExprIterator<'a, T> {
         ensures reserves { IfOk result (λ walk. reserved walk ≡ need (bare_expr expr.now)) }
         ensures fits { OnOk result (need (bare_expr expr.now) < usize.MAX) }
     {
-        let mut stack = Vec::with_capacity(alloc, entries(alloc, expr)?)?;
-        stack.push_reserved(expr);
-        Ok(ExprIterator { stack })
+        let mut expression_stack = Vec::with_capacity(alloc, entries(alloc, expr)?)?;
+        expression_stack.push_reserved(expr);
+        Ok(ExprIterator { expression_stack })
     }
 }
 
@@ -54,8 +54,8 @@ impl<'a, T> Iterator for ExprIterator<'a, T> {
 
     #[inline(always)]
     fn next(&mut self) -> Option<&'a Expr<T>> {
-        let expr = self.stack.pop()?;
-        push_children(&mut self.stack, expr);
+        let expr = self.expression_stack.pop()?;
+        push_children(&mut self.expression_stack, expr);
         Some(expr)
     }
 }

@@ -11,7 +11,7 @@ returns-in-Some g c =
     let V = g.V.SubstituteValue in
     bound_built B.ops B.meaning_of B.fault_of (env_of V.bare_type_of V.bare_expr_of c.args.self.now.values.now) (bare_expr c.args.node.now) _
     (sym (ap (option_map (λ v. (V.bare_type_of v.now, V.bare_expr_of v.now))) c.in-Some.is) ∙ c.binding.ensures)
-    c.args.done.now.items c.build_value.new.done.items c.build_value.result c.build_value.ensures
+    c.args.done.now.items c.put_value.new.done.items c.put_value.result c.put_value.ensures
 
 pub returns-in-None : goal.returns-in-None
 returns-in-None g c =
