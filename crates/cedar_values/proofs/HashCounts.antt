@@ -6,13 +6,12 @@ use Rattle.std.specs.List.Sorted.{IsStrictlySortedBy}
 use Rattle.std.specs.Ordering.{is_eq, on}
 use Rattle.std.specs.declared.cmp.Ordering.{Ordering}
 use Rattle.std.specs.declared.cmp.Ordering.TheVariants.{Less}
-use Rattle.std.proofs.lemmas.Bool.{true≢false}
+use Rattle.std.proofs.lemmas.Bool.{and_parts, true≢false}
 use Rattle.std.proofs.lemmas.Map.Made.{length-from_same_keys, length-le_from_is_member}
 use Rattle.cedar_terms.specs.LiteralOrder.{literal_eq, literal_eq_decides, literal_eq_equiv, literal_ties}
 use Rattle.cedar_terms.specs.Literals.{BareLiteral, bare_literal}
 use Rattle.cedar_terms.specs.declared.literal.Literal.{Literal}
 use Rattle.cedar_sorted_slices.specs.Images.{sorted_images}
-use Rattle.cedar_sorted_slices.specs.Ascending.{and_right}
 use Rattle.semantics_values.specs.BareValue.{BareValue, LitValue, SetValue, RecordValue, ExtensionValue}
 use Rattle.semantics_values.specs.ValueOrder.{value_cmp}
 use Rattle.cedar_values.specs.BareValues.{bare_value}
@@ -89,7 +88,7 @@ module _ {X : Type 0} where
   module _ (ts : List (BareValue X)) (ks : List BareLiteral) (distinct : IsDistinct literal_eq (literals_in ts)) (keys_distinct : IsDistinct literal_eq ks) where
     form_length : is_hash_form ts (Some ks) ≡ true → length ks ≡ length ts
     form_length form =
-        length-from_same_keys literal_eq_equiv ks (literals_in ts) keys_distinct distinct (among_alike ks (literals_in ts) (and_right (list_all is_lit_value ts) _ form))
+        length-from_same_keys literal_eq_equiv ks (literals_in ts) keys_distinct distinct (among_alike ks (literals_in ts) (and_parts (list_all is_lit_value ts) _ form).1)
         ∙ as_many ts (form_lit ts ks form)
 
     pub other_length : (length ks ≡ length ts → ⊥) → is_hash_form ts (Some ks) ≡ false

@@ -7,7 +7,7 @@ use Rattle.std.specs.List.{list_all, list_any, Contains}
 use Rattle.std.specs.List.Sorted.{IsPermutation}
 use Rattle.std.specs.Ordering.{on}
 use Rattle.std.specs.declared.cmp.Ordering.{Ordering}
-use Rattle.std.proofs.lemmas.Bool.{or_right, true≢false}
+use Rattle.std.proofs.lemmas.Bool.{and_parts, or_right, true≢false}
 use Rattle.std.proofs.lemmas.Cmp.{on_total}
 use Rattle.std.proofs.lemmas.List.Elements.{All-contains, Contains-get_or}
 use Rattle.std.proofs.lemmas.List.Folds.{list_all-map}
@@ -19,7 +19,6 @@ use Rattle.cedar_terms.specs.Literals.{BareLiteral, bare_literal}
 use Rattle.cedar_terms.specs.declared.literal.Literal.{Literal}
 use Rattle.cedar_sorted_slices.specs.Classes.{has_class, IsClassesOf, IsPartOf}
 use Rattle.cedar_sorted_slices.specs.Images.{classes_of_images, has_image}
-use Rattle.cedar_sorted_slices.specs.Ascending.{and_left, and_right}
 use Rattle.cedar_sorted_slices.specs.Unique.{has_first}
 use Rattle.semantics_values.specs.BareValue.{BareValue, LitValue, SetValue, RecordValue, ExtensionValue}
 use Rattle.semantics_values.specs.ValueOrder.{value_cmp}
@@ -43,8 +42,8 @@ pub among_all : (ks ls : List BareLiteral) → list_all (is_among ks) ls ≡ tru
 among_all ks [] all l h = absurd (true≢false (sym h))
 among_all ks (x ∷ ls) all l h =
     elim (literal_eq l x) as (λ b. literal_eq l x ≡ b → (b || is_among ls l) ≡ true → is_among ks l ≡ true) [
-      | true ↦ λ e _. ap (is_among ks) ((literal_eq_decides l x).0 e) ∙ and_left (is_among ks x) _ all
-      | false ↦ λ _ rest. among_all ks ls (and_right (is_among ks x) _ all) l rest
+      | true ↦ λ e _. ap (is_among ks) ((literal_eq_decides l x).0 e) ∙ (and_parts (is_among ks x) _ all).0
+      | false ↦ λ _ rest. among_all ks ls (and_parts (is_among ks x) _ all).1 l rest
     ] refl h
 
 -- they are alike just where the same literals are among them
@@ -54,8 +53,8 @@ alike ks ls h = λ i. all_among ks ls (λ l t. sym (h l) ∙ t) i && all_among l
 pub among_alike : (ks ls : List BareLiteral) → are_alike ks ls ≡ true → (l : BareLiteral) → is_among ks l ≡ is_among ls l
 among_alike ks ls h l =
     both (is_among ks l) (is_among ls l)
-    (λ t. among_all ls ks (and_left (list_all (is_among ls) ks) _ h) l t)
-    (λ t. among_all ks ls (and_right (list_all (is_among ls) ks) _ h) l t)
+    (λ t. among_all ls ks (and_parts (list_all (is_among ls) ks) _ h).0 l t)
+    (λ t. among_all ks ls (and_parts (list_all (is_among ls) ks) _ h).1 l t)
 
 pub not_false : (b : Bool) → false ≡ not b → b ≡ true
 not_false true h = refl
@@ -129,7 +128,7 @@ module _ {X : Type 0} where
   form_of ts ks all h = λ i. all i && alike ks (literals_in ts) h i
 
   pub form_lit : (ts : List (BareValue X)) (ks : List BareLiteral) → is_hash_form ts (Some ks) ≡ true → list_all is_lit_value ts ≡ true
-  form_lit ts ks h = and_left (list_all is_lit_value ts) _ h
+  form_lit ts ks h = (and_parts (list_all is_lit_value ts) _ h).0
 
   module _ (R : X → X → Ordering) where
     -- the class of a literal is there just where it is among the literals
@@ -163,7 +162,7 @@ module _ {X : Type 0} where
     pub form_has : (vs : List (Value X)) (ks : List BareLiteral) → is_hash_form (map bare_value vs) (Some ks) ≡ true → (v : Value X) → is_literal_among ks (bare_value v) ≡ has_class (on bare_value (value_cmp R)) vs v
     form_has vs ks h v =
         let ts = map bare_value vs in
-        among_by ks (literals_in ts) (among_alike ks (literals_in ts) (and_right (list_all is_lit_value ts) _ h)) (bare_value v)
+        among_by ks (literals_in ts) (among_alike ks (literals_in ts) (and_parts (list_all is_lit_value ts) _ h).1) (bare_value v)
         ∙ class_among ts (form_lit ts ks h) (bare_value v)
         ∙ has_image bare_value (value_cmp R) vs v
 
@@ -203,7 +202,7 @@ module _ {X : Type 0} where
         let lit = kept_lit ms vs h.kept all in
         let images = classes_of_images bare_value o ms vs h in
         form_of (map bare_value ms) ks lit (λ l.
-        among_alike ks (literals_in (map bare_value vs)) (and_right (list_all is_lit_value (map bare_value vs)) _ form) l
+        among_alike ks (literals_in (map bare_value vs)) (and_parts (list_all is_lit_value (map bare_value vs)) _ form).1 l
         ∙ class_among (map bare_value vs) all (LitValue l)
         ∙ sym (images.same (LitValue l))
         ∙ sym (class_among (map bare_value ms) lit (LitValue l)))

@@ -28,6 +28,11 @@ key_of b (k ∷ ks) h =
       | false ↦ λ _ rest. key_of b ks rest
     ] refl h
 
+-- literals by hash are lent just where all members are literals
+pub given : {X A : Type 0} (f : A → List BareLiteral) (r : Option A) (vs : List (Value X)) → is_hash_form (map bare_value vs) (option_map f r) ≡ true → is_some r ≡ list_all (λ v. is_lit_value (bare_value v)) vs
+given f None vs form = sym (sym (list_all-map is_lit_value bare_value vs) ∙ not_true _ form)
+given f (Some a) vs form = sym (sym (list_all-map is_lit_value bare_value vs) ∙ form_lit (map bare_value vs) (f a) form)
+
 module _ {X : Type 0} (R : X → X → Ordering) where
   -- a literal is there just where its value is a member
   pub holds : (vs : List (Value X)) (h : LiteralSet) → is_hash_form (map bare_value vs) (Some (literals_of h)) ≡ true → HoldsJust R vs h
@@ -79,10 +84,6 @@ module _ {X : Type 0} (R : X → X → Ordering) where
   swapped vs ws r told = (λ t v one other. told.0 t v other one, λ none. told.1 (λ v one other. none v other one))
 
   -- what is lent of them
-  pub given : {A : Type 0} (f : A → List BareLiteral) (r : Option A) (vs : List (Value X)) → is_hash_form (map bare_value vs) (option_map f r) ≡ true → is_some r ≡ list_all (λ v. is_lit_value (bare_value v)) vs
-  given f None vs form = sym (sym (list_all-map is_lit_value bare_value vs) ∙ not_true _ form)
-  given f (Some a) vs form = sym (sym (list_all-map is_lit_value bare_value vs) ∙ form_lit (map bare_value vs) (f a) form)
-
   pub just : {A : Type 0} (f : A → LiteralSet) (r : Option A) (vs : List (Value X)) → is_hash_form (map bare_value vs) (option_map (λ a. literals_of (f a)) r) ≡ true → IfSome r (λ a. HoldsJust R vs (f a))
   just f None vs form = tt
   just f (Some a) vs form = holds vs (f a) form

@@ -5,11 +5,11 @@ use Rattle.std.specs.List.{list_all}
 use Rattle.std.specs.declared.cmp.Ordering.{Ordering}
 use Rattle.std.specs.declared.rc.Rc.{Rc}
 use Rattle.std.specs.declared.rc.RcStr.{RcStr}
+use Rattle.std.proofs.lemmas.Bool.{and_parts}
 use Rattle.cedar_names.specs.Place.{Place}
 use Rattle.cedar_terms.specs.Literals.{bare_literal}
 use Rattle.cedar_terms.specs.declared.literal.Literal.{Literal}
 use Rattle.cedar_builders.specs.Keys.{keyed}
-use Rattle.cedar_sorted_slices.specs.Ascending.{and_left}
 use Rattle.semantics_values.specs.BareValue.{BareValue, BareValues, LitValue, SetValue, RecordValue, values_of, pairs_of}
 use Rattle.semantics_values.specs.WellFormed.{is_well_formed, pairs_are_well_formed}
 use Rattle.cedar_values.specs.BareValues.{bare_representable, bare_value, bare_value_kind, bare_set, kind_step, set_step, value_step, kind_of, value_place}
@@ -48,10 +48,10 @@ module _ {X : Type 0} where
 
   -- a value is its kind at its place
   pub kind_at : (k : ValueKind X) (p : Option Place) → kind_of (value_at k p) ≡ k
-  kind_at k p = ap (λ l. l.kind) (out-roll-Value X (record { kind = k; loc = p }))
+  kind_at k p = ap (λ l. l.value) (out-roll-Value X (record { value = k; loc = p }))
 
   pub is_at : (v : Value X) (k : ValueKind X) (p : Option Place) → kind_of v ≡ k → value_place v ≡ p → v ≡ value_at k p
-  is_at v k p h q = sym (roll-out-Value X v) ∙ λ i. roll-Value X (record { kind = h i; loc = q i })
+  is_at v k p h q = sym (roll-out-Value X v) ∙ λ i. roll-Value X (record { value = h i; loc = q i })
 
   pub unplaced_tree : (v : Value X) → bare_value (unplaced v) ≡ bare_value v
   unplaced_tree v = value_tree (unplaced v) ∙ ap bare_value_kind (kind_at (kind_of v) None) ∙ sym (value_tree v)
@@ -84,7 +84,7 @@ module _ {X : Type 0} (R : X → X → Ordering) where
   -- the tree of a well formed value is well formed
   pub tree_kept : (v : Value X) → well_formed R v ≡ true → is_well_formed R (bare_value v) ≡ true
   unfolding well_formed
-  tree_kept v = and_left (is_well_formed R (bare_value v)) (is_hashed v)
+  tree_kept v h = (and_parts (is_well_formed R (bare_value v)) (is_hashed v) h).0
 
   -- a value is well formed where its kind is
   pub kept_by_kind : (v : Value X) (k : ValueKind X) → kind_of v ≡ k → kind_well_formed R k ≡ true → well_formed R v ≡ true

@@ -19,6 +19,7 @@ pub mod Restrictions
 pub mod Writings
 pub mod Rebuilt
 pub mod PlainMaps
+pub mod WellFormedMaps
 pub mod Splits
 pub mod BoundedRests
 pub mod Displays

@@ -1,5 +1,6 @@
 -- What sets are made of.
 use Rattle.std.proofs.Common.{◌≡◌, true, false, ◌&&◌, ◌||◌, List, [], ◌∷◌, map, cond, Option, Some, refl, sym, ap, subst, ◌∙◌, IsTrue, Result, Ok, Err, IfOk}
+use Rattle.std.specs.Prelude.{MatchResult}
 use Rattle.std.proofs.lemmas.Result.{IfOk-weaker}
 use Rattle.std.specs.List.{list_all}
 use Rattle.std.specs.Ordering.{is_eq}
@@ -10,7 +11,7 @@ use Rattle.semantics_values.specs.ValueOrder.{value_cmp}
 use Rattle.cedar_values.specs.BareValues.{bare_value}
 use Rattle.cedar_values.specs.HashForms.{is_hash_form}
 use Rattle.cedar_values.specs.Places.{gathered, is_lit_value, unplaced}
-use Rattle.cedar_values.specs.Sets.{HaveEachOf, by_tree, hashed_literals, members}
+use Rattle.cedar_values.specs.Sets.{HaveEachOf, by_tree, has_hash_form, hashed_literals, members}
 use Rattle.cedar_values.specs.WellFormed.{set_well_formed, well_formed}
 use Rattle.cedar_values.specs.declared.set.Set.{Set}
 use Rattle.cedar_values.specs.declared.value.Value.{Value}
@@ -21,6 +22,23 @@ use Rattle.cedar_values.proofs.WellFormedSets.{kept_of_classes, set_is}
 pub if_both : {A E : Type 0} (P Q S : A → Type 0) (r : Result A E) → IfOk r P → IfOk r Q → ((a : A) → P a → Q a → S a) → IfOk r S
 if_both P Q S (Ok a) p q f = f a p q
 if_both P Q S (Err e) p q f = tt
+
+-- what is known of a copy, which may find no memory
+pub copy_of_one : {A E : Type 0} (P : A → Type 0) (r : Result A E) → IfOk r P → MatchResult r P (λ _. ⊥ → ⊥)
+copy_of_one P (Ok a) p = p
+copy_of_one P (Err e) p = λ never. never
+
+pub copy_of_three : {A E : Type 0} (P Q S : A → Type 0) (r : Result A E) → IfOk r P → IfOk r Q → IfOk r S → MatchResult r (λ a. P a × Q a × S a) (λ _. ⊥ → ⊥)
+copy_of_three P Q S (Ok a) p q s = (p, q, s)
+copy_of_three P Q S (Err e) p q s = λ never. never
+
+pub copy_of_four : {A E : Type 0} (P Q S T : A → Type 0) (r : Result A E) → IfOk r P → IfOk r Q → IfOk r S → IfOk r T → MatchResult r (λ a. P a × Q a × S a × T a) (λ _. ⊥ → ⊥)
+copy_of_four P Q S T (Ok a) p q s t = (p, q, s, t)
+copy_of_four P Q S T (Err e) p q s t = λ never. never
+
+-- a set without members, and with no literal by hash
+pub empty_form : {X : Type 0} (s : Set X) → members s ≡ [] → hashed_literals s ≡ Some [] → has_hash_form s ≡ true
+empty_form s h none = λ i. is_hash_form (map bare_value (h i)) (none i)
 
 module _ {X : Type 0} (R : X → X → Ordering) where
   same_unplaced : (vs : List (Value X)) → HaveSameClasses (by_tree R) (map unplaced vs) vs

@@ -46,8 +46,8 @@ module _ {X : Type 0} (R : X → X → Ordering) (K : ValueKind X → ValueKind 
   -- what a derived comparison answers
   pub record IsLayered : Type 0 where
     pub kinds : (a b : ValueKind X) → K a b ≡ layer_cmp R S V (out-ValueKind X a) (out-ValueKind X b)
-    pub sets : (a b : Set X) → S a b ≡ slice_cmp V (out-Set X a).members.value.items (out-Set X b).members.value.items
-    pub values : (a b : Value X) → V a b ≡ K (out-Value X a).kind (out-Value X b).kind
+    pub sets : (a b : Set X) → S a b ≡ slice_cmp V (out-Set X a).authoritative.value.items (out-Set X b).authoritative.value.items
+    pub values : (a b : Value X) → V a b ≡ K (out-Value X a).value (out-Value X b).value
 
   abbrev KindClaim : ValueKind X → Type 0
   KindClaim a = (b : ValueKind X) → K a b ≡ value_cmp R (bare_value_kind a) (bare_value_kind b)
@@ -108,12 +108,12 @@ module _ {X : Type 0} (R : X → X → Ordering) (K : ValueKind X → ValueKind 
         ∙ λ i. value_cmp R (sym (fold-roll-ValueKind X (BareValue X) (BareValues X) (BareValue X) kind_step set_step value_step x) i) (sym (fold_out-ValueKind X (BareValue X) (BareValues X) (BareValue X) kind_step set_step value_step b) i))
         (λ x y is b.
         h.sets (roll-Set X x) b
-        ∙ ap (λ (l : Set-F X (ValueKind X) (Set X) (Value X)). slice_cmp V l.members.value.items (out-Set X b).members.value.items) (out-roll-Set X x)
-        ∙ subst (λ (l : Set-F X (ValueKind X) (Set X) (Value X)). slice_cmp V l.members.value.items (out-Set X b).members.value.items ≡ values_cmp R (values_of (map bare_value l.members.value.items)) (values_of (map bare_value (out-Set X b).members.value.items))) is (members y.members.value.items (out-Set X b).members.value.items)
+        ∙ ap (λ (l : Set-F X (ValueKind X) (Set X) (Value X)). slice_cmp V l.authoritative.value.items (out-Set X b).authoritative.value.items) (out-roll-Set X x)
+        ∙ subst (λ (l : Set-F X (ValueKind X) (Set X) (Value X)). slice_cmp V l.authoritative.value.items (out-Set X b).authoritative.value.items ≡ values_cmp R (values_of (map bare_value l.authoritative.value.items)) (values_of (map bare_value (out-Set X b).authoritative.value.items))) is (members y.authoritative.value.items (out-Set X b).authoritative.value.items)
         ∙ λ i. values_cmp R (sym (fold-roll-Set X (BareValue X) (BareValues X) (BareValue X) kind_step set_step value_step x) i) (sym (fold_out-Set X (BareValue X) (BareValues X) (BareValue X) kind_step set_step value_step b) i))
         (λ x y is b.
         h.values (roll-Value X x) b
-        ∙ ap (λ (l : Value-F X (ValueKind X) (Set X) (Value X)). K l.kind b.kind) (sym is)
-        ∙ y.kind.1 b.kind
-        ∙ ap (λ (l : Value-F X (ValueKind X) (Set X) (Value X)). value_cmp R (bare_value_kind l.kind) (bare_value_kind b.kind)) is
+        ∙ ap (λ (l : Value-F X (ValueKind X) (Set X) (Value X)). K l.value b.value) (sym is)
+        ∙ y.value.1 b.value
+        ∙ ap (λ (l : Value-F X (ValueKind X) (Set X) (Value X)). value_cmp R (bare_value_kind l.value) (bare_value_kind b.value)) is
         ∙ λ i. value_cmp R (sym (fold-roll-Value X (BareValue X) (BareValues X) (BareValue X) kind_step set_step value_step x) i) (sym (fold_out-Value X (BareValue X) (BareValues X) (BareValue X) kind_step set_step value_step b) i))

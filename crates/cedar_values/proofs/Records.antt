@@ -14,7 +14,7 @@ use Rattle.std.specs.Option.{option_or}
 use Rattle.std.specs.Ordering.{eq_by_cmp, is_eq}
 use Rattle.std.specs.Rc.{rc_str_bytes}
 use Rattle.std.specs.declared.rc.RcStr.{RcStr}
-use Rattle.cedar_sorted_slices.specs.Ascending.{and_left, and_right}
+use Rattle.std.proofs.lemmas.Bool.{and_parts}
 use Rattle.cedar_values.specs.Records.{is_key, key_cmp, last_value, IsLastOfEach}
 
 pub tied_keys : (k l : RcStr Global) → is_key k l ≡ eq_by_cmp key_cmp k l
@@ -60,7 +60,7 @@ module _ {V : Type 0} where
     last_passes : (ps : List (RcStr Global × V)) (k : RcStr Global) → list_all (λ p. P p.1) ps ≡ true → Passes (last_value ps k)
     last_passes [] k h = tt
     last_passes (p ∷ ps) k h =
-        either (last_value ps k) (cond (is_key p.0 k) (Some p.1) None) (last_passes ps k (and_right (P p.1) _ h)) (at_key (is_key p.0 k) p.1 (and_left (P p.1) _ h))
+        either (last_value ps k) (cond (is_key p.0 k) (Some p.1) None) (last_passes ps k (and_parts (P p.1) _ h).1) (at_key (is_key p.0 k) p.1 (and_parts (P p.1) _ h).0)
 
     distinct : (ks : List (RcStr Global)) → IsStrictlySortedBy key_cmp ks → IsDistinct is_key ks
     distinct ks s = subst (λ (e : RcStr Global → RcStr Global → Bool). IsDistinct e ks) (λ i k l. sym (tied_keys k l) i) (IsDistinct-from_sorted key_cmp ks s)

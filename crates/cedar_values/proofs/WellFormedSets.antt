@@ -4,10 +4,11 @@ use Rattle.std.specs.Cmp.{IsTotalOrder}
 use Rattle.std.specs.List.{list_all}
 use Rattle.std.specs.List.Sorted.{IsStrictlySortedBy}
 use Rattle.std.specs.declared.cmp.Ordering.{Ordering}
+use Rattle.std.proofs.lemmas.Bool.{and_parts}
 use Rattle.cedar_terms.specs.Literals.{BareLiteral}
 use Rattle.cedar_sorted_slices.specs.Classes.{IsClassesOf, ascends}
 use Rattle.cedar_sorted_slices.specs.Images.{ascending_images}
-use Rattle.cedar_sorted_slices.specs.Ascending.{and_left, and_right, sorted_of_ascends, ascends_of_sorted}
+use Rattle.cedar_sorted_slices.specs.Ascending.{sorted_of_ascends, ascends_of_sorted}
 use Rattle.semantics_values.specs.BareValue.{BareValue, BareValues, SetValue, values_of, list_of_values}
 use Rattle.semantics_values.specs.ValueOrder.{value_cmp}
 use Rattle.semantics_values.specs.WellFormed.{is_well_formed, are_well_formed}
@@ -50,7 +51,7 @@ module _ {X : Type 0} (R : X → X → Ordering) where
       ∙ ap (λ b. ascends (by_tree R) (members s) && (has_hash_form s && b)) (all_both (λ v. is_well_formed R (bare_value v)) is_hashed (members s))
 
   pub set_is_hashed : (s : Set X) → set_well_formed R s ≡ true → has_hash_form s ≡ true
-  set_is_hashed s h = and_left (has_hash_form s) _ (and_right (ascends (by_tree R) (members s)) _ (sym (set_is s) ∙ h))
+  set_is_hashed s h = (and_parts (has_hash_form s) _ (and_parts (ascends (by_tree R) (members s)) _ (sym (set_is s) ∙ h)).1).0
 
   -- the literals that a well formed set keeps by hash
   pub form_is : (s : Set X) → set_well_formed R s ≡ true → (f : Option (List BareLiteral)) → hashed_literals s ≡ f → is_hash_form (map bare_value (members s)) f ≡ true
@@ -64,7 +65,7 @@ module _ {X : Type 0} (R : X → X → Ordering) where
       ∙ sym (set_is t)
 
   pub sorted_members : IsTotalOrder (by_tree R) → (s : Set X) → set_well_formed R s ≡ true → IsStrictlySortedBy (by_tree R) (members s)
-  sorted_members o s h = sorted_of_ascends o (members s) (and_left (ascends (by_tree R) (members s)) _ (sym (set_is s) ∙ h))
+  sorted_members o s h = sorted_of_ascends o (members s) (and_parts (ascends (by_tree R) (members s)) _ (sym (set_is s) ∙ h)).0
 
   -- a set of the classes of well formed values, with its hash form, is well formed
   pub kept_of_classes : (s : Set X) (values : List (Value X)) → IsClassesOf (by_tree R) (members s) values → has_hash_form s ≡ true → list_all (well_formed R) values ≡ true → set_well_formed R s ≡ true

@@ -27,10 +27,10 @@ kind_step (ValueKind-F.Record m) = RecordValue (pairs_of (keyed m.value.entries)
 kind_step (ValueKind-F.ExtensionValue e) = bare_representable e.value
 
 abbrev pub set_step : {X : Type 0} → Set-F X (BareValue X) (BareValues X) (BareValue X) → BareValues X
-set_step s = values_of s.members.value.items
+set_step s = values_of s.authoritative.value.items
 
 abbrev pub value_step : {X : Type 0} → Value-F X (BareValue X) (BareValues X) (BareValue X) → BareValue X
-value_step v = v.kind
+value_step v = v.value
 
 -- the tree of a kind
 abbrev pub bare_value_kind : {X : Type 0} → ValueKind X → BareValue X
@@ -46,7 +46,7 @@ bare_value {X} = fold-Value X (BareValue X) (BareValues X) (BareValue X) kind_st
 
 -- the kind of a value
 abbrev pub kind_of : {X : Type 0} → Value X → ValueKind X
-kind_of v = v.kind
+kind_of v = v.value
 
 -- the place of a value, if known
 abbrev pub value_place : {X : Type 0} → Value X → Option Place

@@ -1,9 +1,12 @@
 -- What a kind of values holds.
 use Rattle.std.specs.Prelude.{◌≡◌, List}
 use Rattle.std.specs.Global.{Global}
+use Rattle.std.specs.declared.cmp.Ordering.{Ordering}
 use Rattle.std.specs.declared.rc.RcStr.{RcStr}
 use Rattle.cedar_terms.specs.Literals.{bare_literal, literal_place}
+use Rattle.cedar_values.specs.BareValues.{bare_value, bare_value_kind, kind_of, value_place}
 use Rattle.cedar_values.specs.Sets.{members}
+use Rattle.cedar_values.specs.WellFormed.{kind_well_formed, well_formed}
 use Rattle.cedar_values.specs.declared.set.Set as set
 use Rattle.cedar_values.specs.declared.value.Value.{Value}
 use Rattle.cedar_values.specs.declared.value.ValueKind.{ValueKind, out-ValueKind}
@@ -43,3 +46,16 @@ is_copy x y = ⊥
 -- the second kind is a copy of the first: an equal literal, the same members or entries, the same extension value
 abbrev pub IsCopy : {X : Type 0} → ValueKind X → ValueKind X → Type 0
 IsCopy {X} k l = is_copy (out-ValueKind X k) (out-ValueKind X l)
+
+-- the second is a copy of the first: the same tree, the same inside, and well formed where the first is
+abbrev pub IsKindCopy : {X : Type 0} → ValueKind X → ValueKind X → Type 0
+IsKindCopy {X} k copy =
+    (bare_value_kind copy ≡ bare_value_kind k) × IsCopy k copy
+    × ((R : X → X → Ordering) → kind_well_formed R copy ≡ kind_well_formed R k)
+
+-- the same of values, at one place
+abbrev pub IsValueCopy : {X : Type 0} → Value X → Value X → Type 0
+IsValueCopy {X} v copy =
+    (bare_value copy ≡ bare_value v) × (value_place copy ≡ value_place v)
+    × IsCopy (kind_of v) (kind_of copy)
+    × ((R : X → X → Ordering) → well_formed R copy ≡ well_formed R v)

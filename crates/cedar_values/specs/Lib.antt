@@ -15,6 +15,7 @@ pub mod Rows
 pub mod RowsRead
 pub mod ValueMaps
 pub mod Holders
+pub mod WellFormedValues
 pub mod PartialValues
 pub mod BoundedTexts
 pub mod LiteralUids

@@ -1,5 +1,5 @@
 -- Values at their places.
-use Rattle.std.specs.Prelude.{List, map, Bool, true, false, Option, Some, None, if◌then◌else◌}
+use Rattle.std.specs.Prelude.{◌≡◌, List, map, Bool, true, false, Option, Some, None, if◌then◌else◌}
 use Rattle.std.specs.List.{list_all}
 use Rattle.cedar_names.specs.Place.{Place}
 use Rattle.cedar_terms.specs.Literals.{BareLiteral}
@@ -12,7 +12,7 @@ use Rattle.cedar_values.specs.declared.value.ValueKind.TheVariants.{Lit}
 
 -- a value of this kind at this place, if any
 abbrev pub value_at : {X : Type 0} → ValueKind X → Option Place → Value X
-value_at {X} k p = roll-Value X (record { kind = k; loc = p })
+value_at {X} k p = roll-Value X (record { value = k; loc = p })
 
 -- the same value at no place; the places inside stay
 abbrev pub unplaced : {X : Type 0} → Value X → Value X
@@ -21,6 +21,13 @@ unplaced v = value_at (kind_of v) None
 -- a literal as a value at no place
 abbrev pub literal_value : {X : Type 0} → Literal → Value X
 literal_value l = value_at (Lit l) None
+
+-- a kind, a value at no place, that is a literal which C says of what is converted
+abbrev pub IsLiteralKindFrom : {X L : Type 0} → (L → Literal → Type 0) → L → ValueKind X → Type 0
+IsLiteralKindFrom C l k = (literal : Literal) × C l literal × (k ≡ Lit literal)
+
+abbrev pub IsLiteralFrom : {X L : Type 0} → (L → Literal → Type 0) → L → Value X → Type 0
+IsLiteralFrom C l v = (literal : Literal) × C l literal × (v ≡ literal_value literal)
 
 -- whether a value is a literal
 abbrev pub is_lit_value : {X : Type 0} → BareValue X → Bool

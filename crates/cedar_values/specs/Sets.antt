@@ -17,7 +17,7 @@ use Rattle.cedar_values.specs.declared.set.Set.{Set, out-Set}
 
 -- the members, in the order in which they are kept
 unfoldable pub members : {X : Type 0} → Set X → List (Value X)
-members {X} s = (out-Set X s).members.value.items
+members {X} s = (out-Set X s).authoritative.value.items
 
 -- the literals that are kept by hash, if any are
 unfoldable pub hashed_literals : {X : Type 0} → Set X → Option (List BareLiteral)
@@ -26,6 +26,10 @@ hashed_literals {X} s = option_map (λ h. literals_of h.value) (out-Set X s).fas
 -- whether these are the set's hash form; it says nothing of the sets inside
 abbrev pub has_hash_form : {X : Type 0} → Set X → Bool
 has_hash_form s = is_hash_form (map bare_value (members s)) (hashed_literals s)
+
+-- the second set is a copy of the first: the same members, with the same literals by hash
+abbrev pub IsSetCopy : {X : Type 0} → Set X → Set X → Type 0
+IsSetCopy s copy = (members copy ≡ members s) × (hashed_literals copy ≡ hashed_literals s)
 
 -- the order of values: that of their trees
 abbrev pub by_tree : {X : Type 0} → (X → X → Ordering) → Value X → Value X → Ordering

@@ -22,11 +22,11 @@ kind_hashed (ValueKind-F.ExtensionValue e) = true
 
 abbrev pub set_hashed : {X : Type 0} → Set-F X (ValueKind X × Bool) (Set X × Bool) (Value X × Bool) → Bool
 set_hashed s =
-    is_hash_form (map bare_value (map (λ e. e.0) s.members.value.items)) (option_map (λ h. literals_of h.value) s.fast)
-    && list_all (λ e. e.1) s.members.value.items
+    is_hash_form (map bare_value (map (λ e. e.0) s.authoritative.value.items)) (option_map (λ h. literals_of h.value) s.fast)
+    && list_all (λ e. e.1) s.authoritative.value.items
 
 abbrev pub value_hashed : {X : Type 0} → Value-F X (ValueKind X × Bool) (Set X × Bool) (Value X × Bool) → Bool
-value_hashed v = v.kind.1
+value_hashed v = v.value.1
 
 -- whether each set inside a kind, a set itself or a value has its hash form
 unfoldable pub is_kind_hashed : {X : Type 0} → ValueKind X → Bool

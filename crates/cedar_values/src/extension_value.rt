@@ -53,7 +53,7 @@ pub trait ExtensionValue: Drop {
 /// alone.
 #[derive(Debug, Drop)]
 #[derive_where(PartialEq, Eq, PartialOrd, Ord; X)]
-pub struct RepresentableExtensionValue<X> {
+pub struct RepresentableExtensionValue<X = NoExtension> {
     value: X,
     #[derive_where(skip(EqHashOrd))]
     given: Option<(Name, Vec<RestrictedExpr>)>,

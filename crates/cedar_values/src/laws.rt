@@ -35,6 +35,7 @@ ghost use Rattle.cedar_values.specs.ValueMaps.{ThenIsBothOfMaps};
 ghost use Rattle.cedar_values.specs.WellFormed.{kind_well_formed, set_well_formed, well_formed};
 ghost use Rattle.cedar_values.specs.declared.value.ValueKind.TheVariants as kinds;
 ghost use Rattle.cedar_values.specs.ValueMaps.{HasPlainValues, ValueMap, values_env};
+ghost use Rattle.cedar_values.specs.WellFormedValues.{WellFormedMap, well_formed_env};
 ghost use Rattle.cedar_values.specs.declared.partial_value.PartialValue.{PartialValue};
 ghost use Rattle.cedar_values.specs.declared.extension_value.RepresentableExtensionValue.{
   RepresentableExtensionValue,
@@ -139,6 +140,14 @@ pub fn maps_bind_plain_values<X: ExtensionValue>()
     ensures { (m : ValueMap _) → HasPlainValues m
         → BindsPlainValues X.canonical (values_env X.type_name X.canonical m) }
 {}
+
+/// A map of well formed values binds values without extension values.
+pub fn well_formed_maps_bind_plain_values()
+    ensures { (m : WellFormedMap) →
+        BindsPlainValues {X = held.NoExtension} held.held_call (well_formed_env m) }
+{
+    no_extension_values();
+}
 
 /// The tree of a set has its members' trees as children; a literal and an extension value are a
 /// tree alone. `values_by_kind` says the same of values and records.

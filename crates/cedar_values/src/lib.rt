@@ -19,6 +19,7 @@ mod set;
 mod substitution;
 mod to_expr;
 mod value;
+mod well_formed;
 
 pub use bounded_display::{BoundedDisplay, BoundedToString};
 pub use extension_value::{ExtensionValue, NoExtension, RepresentableExtensionValue};
@@ -29,3 +30,4 @@ pub use substitution::{
     substitute_typed_values_into_expr, substitute_values_into_expr, try_into_expr_with_values,
 };
 pub use value::{Value, ValueKind};
+pub use well_formed::WellFormedValue;

@@ -6,7 +6,7 @@ use std::alloc::{AllocError, AllocFailed};
 use thiserror::Error;
 
 /// Why an expression is no value.
-#[derive(Debug, Drop, Error)]
+#[derive(Debug, Clone, PartialEq, Eq, Drop, Error)]
 pub enum NotValue {
     /// A node is no literal, set or record. The place, if known, is that of the first such node,
     /// where each node comes before its children and the values of a record come in the order of

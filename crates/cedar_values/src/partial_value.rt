@@ -71,12 +71,20 @@ impl<X: Drop> PartialValue<X> {
     }
 
     /// A copy, which shares what is inside.
-    pub fn clone(&self, alloc: Global) -> Result<PartialValue<X>, AllocError>
+    pub fn clone(&self, _alloc: Global) -> Result<PartialValue<X>, AllocError>
         ensures { IfOk result (IsPartialCopy self.now) }
     {
+        Clone::clone(self)
+    }
+}
+
+impl<X: Drop> Clone for PartialValue<X> {
+    ghost is_clone = { IsPartialCopy };
+
+    fn clone(&self) -> Result<PartialValue<X>, AllocError> {
         match self {
-            PartialValue::Value(value) => Ok(PartialValue::Value(value.clone(alloc)?)),
-            PartialValue::Residual(expr) => Ok(PartialValue::Residual(expr.clone(alloc)?)),
+            PartialValue::Value(value) => Ok(PartialValue::Value(Clone::clone(value)?)),
+            PartialValue::Residual(expr) => Ok(PartialValue::Residual(Clone::clone(expr)?)),
         }
     }
 }
@@ -92,11 +100,9 @@ impl<X: ExtensionValue + Ord> PartialValue<X> {
             PartialValue::Residual(expr) => expr.clone(alloc),
         }
     }
-}
 
-impl<X: ExtensionValue + Ord> PartialValue<X> {
-    // Its expression, as `to_expr` gives it; a residual is not copied.
-    fn into_expr(self, alloc: Global) -> Result<Expr, AllocError>
+    /// Its expression, as `to_expr` gives it; a residual is not copied.
+    pub fn into_expr(self, alloc: Global) -> Result<Expr, AllocError>
         ensures { IfOk result (IsExprOf X.canonical self) }
     {
         match self {
@@ -139,7 +145,7 @@ impl<X> From<Value<X>> for PartialValue<X> {
 }
 
 /// Why a partial value is no value.
-#[derive(Debug, Drop, PartialEq, Eq, Error)]
+#[derive(Debug, Clone, PartialEq, Eq, Drop, Error)]
 pub enum PartialValueToValueError {
     /// It is a residual.
     #[error(transparent)]
@@ -157,7 +163,7 @@ impl From<ContainsUnknown> for PartialValueToValueError {
 }
 
 /// A partial value is a residual: an expression that waits for its unknowns.
-#[derive(Debug, Drop, PartialEq, Eq, Error)]
+#[derive(Debug, Clone, PartialEq, Eq, Drop, Error)]
 #[error("value contains a residual expression")]
 pub struct ContainsUnknown {
     residual: Expr,

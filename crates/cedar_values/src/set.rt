@@ -12,6 +12,7 @@ ghost use Rattle.std.specs.Prelude.{
   map,
   option_map,
 };
+ghost use Rattle.std.specs.Cmp.{IsTotalOrder};
 ghost use Rattle.std.specs.List.{list_all};
 ghost use Rattle.std.specs.Slice.Iter.{iter_rest};
 ghost use Rattle.cedar_sorted_slices.specs.Classes.{
@@ -24,7 +25,14 @@ ghost use Rattle.cedar_sorted_slices.specs.Classes.{
 ghost use Rattle.cedar_values.specs.BareValues.{bare_value};
 ghost use Rattle.cedar_values.specs.HashForms.{literals_of};
 ghost use Rattle.cedar_values.specs.Places.{gathered, is_lit_value, literal_value};
-ghost use Rattle.cedar_values.specs.Sets.{HoldsJust, by_tree, hashed_literals, members};
+ghost use Rattle.cedar_values.specs.Sets.{
+  HoldsJust,
+  IsSetCopy,
+  by_tree,
+  has_hash_form,
+  hashed_literals,
+  members,
+};
 ghost use Rattle.cedar_values.specs.WellFormed.{set_well_formed, well_formed};
 
 use crate::extension_value::NoExtension;
@@ -43,8 +51,8 @@ use std::slice;
 #[derive(Drop)]
 #[derive_where(Debug, PartialEq, Eq, PartialOrd, Ord; X)]
 pub struct Set<X = NoExtension> {
-    members: Rc<Vec<Value<X>>>,
-    #[derive_where(skip)]
+    authoritative: Rc<Vec<Value<X>>>,
+    #[derive_where(skip(EqHashOrd))]
     fast: Option<Rc<HashSet<Literal>>>,
 }
 
@@ -61,7 +69,7 @@ impl<X: Drop> Set<X> {
     {
         let members = Rc::new(alloc, values)?;
         Ok(Set {
-            members,
+            authoritative: members,
             fast: literals,
         })
     }
@@ -70,9 +78,12 @@ impl<X: Drop> Set<X> {
     pub(crate) fn into_row(self) -> Rc<Vec<Value<X>>>
         ensures { members self ≡ result.value.items }
     {
-        let Set { members, fast } = self;
+        let Set {
+            authoritative,
+            fast,
+        } = self;
         drop(fast);
-        members
+        authoritative
     }
 
     // A list of members without their hash form, as it waits while a value is dropped.
@@ -80,7 +91,7 @@ impl<X: Drop> Set<X> {
         ensures { members result ≡ row.value.items }
     {
         Set {
-            members: row,
+            authoritative: row,
             fast: None,
         }
     }
@@ -90,10 +101,29 @@ impl<X: Drop> Set<X> {
         ensures members { IfOk result (λ s. members s ≡ members self.now) }
         ensures well_formed { IfOk result (λ s. (R : _) →
             set_well_formed R s ≡ set_well_formed R self.now) }
+        ensures hash_form { IfOk result (λ s. has_hash_form s ≡ has_hash_form self.now) }
+    {
+        self.copied()
+    }
+
+    // A copy.
+    pub(crate) fn copied(&self) -> Result<Set<X>, AllocError>
+        ensures { IfOk result (IsSetCopy self.now) }
     {
         let fast = share(&self.fast)?;
-        let members = self.members.clone()?;
-        Ok(Set { members, fast })
+        let members = self.authoritative.clone()?;
+        Ok(Set {
+            authoritative: members,
+            fast,
+        })
+    }
+}
+
+impl<X: Drop> Clone for Set<X> {
+    ghost is_clone = { IsSetCopy };
+
+    fn clone(&self) -> Result<Set<X>, AllocError> {
+        self.copied()
     }
 }
 
@@ -102,7 +132,7 @@ impl<X> Set<X> {
     pub fn authoritative(&self) -> &[Value<X>]
         ensures { result.now ≡ members self.now }
     {
-        self.members.as_slice()
+        self.authoritative.as_slice()
     }
 
     // The members by hash, if they are kept so.
@@ -122,11 +152,38 @@ impl<X> Set<X> {
         self.authoritative().iter()
     }
 
+    /// How many members there are: of a well formed set, how many classes it has.
+    pub fn len(&self) -> usize
+        ensures members { result ≡ length (members self.now) }
+        ensures classes { (R : _) → IsTotalOrder (by_tree R) → IsTrue (set_well_formed R self.now)
+            → (xs : List (Value _)) → IsClassesOf (by_tree R) xs (members self.now)
+            → result ≡ length xs }
+    {
+        self.authoritative().len()
+    }
+
     /// Whether there is no member.
     pub fn is_empty(&self) -> bool
         ensures { IsTrue result ↔ (members self.now ≡ []) }
     {
         self.authoritative().is_empty()
+    }
+
+    /// The members by hash: given exactly where all of them are literals, and so of the empty set.
+    /// Each call that makes a set makes one of which this holds.
+    ///
+    /// The hasher is std's default, `FoldHasher`, whose seed is fixed: sets made in the same way
+    /// list their literals in the same order, and whoever chooses the literals can make them
+    /// collide.
+    pub fn fast(&self) -> Option<&HashSet<Literal>>
+        ensures given { IsTrue (has_hash_form self.now)
+            → is_some result ≡ list_all (λ v. is_lit_value (bare_value v)) (members self.now) }
+        ensures just { IsTrue (has_hash_form self.now)
+            → (R : _) → IfSome result (λ h. HoldsJust R (members self.now) h.now) }
+        ensures well_formed { (R : _) → IsTrue (set_well_formed R self.now)
+            → IsTrue (has_hash_form self.now) }
+    {
+        self.hash_form()
     }
 }
 
@@ -135,6 +192,7 @@ impl<X: Ord + Drop> Set<X> {
     pub fn empty(alloc: Global) -> Result<Set<X>, AllocError>
         ensures members { IfOk result (λ s. members s ≡ []) }
         ensures well_formed { IfOk result (λ s. IsTrue (set_well_formed X.cmp s)) }
+        ensures hash_form { IfOk result (λ s. IsTrue (has_hash_form s)) }
     {
         let literals = Rc::new(alloc, HashSet::new(alloc))?;
         Set::of_members(alloc, Vec::new(alloc), Some(literals))
@@ -146,6 +204,7 @@ impl<X: Ord + Drop> Set<X> {
         ensures classes { IfOk result (λ s. IsClassesOf (by_tree X.cmp) (members s) values.items) }
         ensures well_formed { IfOk result (λ s. IsTrue (list_all (well_formed X.cmp) values.items)
             → IsTrue (set_well_formed X.cmp s)) }
+        ensures hash_form { IfOk result (λ s. IsTrue (has_hash_form s)) }
     {
         let (members, literals) = with_hash_form(alloc, values)?;
         Set::of_members(alloc, members, literals)
@@ -156,6 +215,7 @@ impl<X: Ord + Drop> Set<X> {
         ensures classes { IfOk result (λ s.
             IsClassesOf (by_tree X.cmp) (members s) (map literal_value lits.items)) }
         ensures well_formed { IfOk result (λ s. IsTrue (set_well_formed X.cmp s)) }
+        ensures hash_form { IfOk result (λ s. IsTrue (has_hash_form s)) }
     {
         let values = literal_values(alloc, lits)?;
         Set::new(alloc, values)
@@ -169,6 +229,7 @@ impl<X: Ord + Drop> Set<X> {
         ensures same { IfOk result (λ s. HaveSameClasses (by_tree X.cmp) (members s) values.items) }
         ensures well_formed { IfOk result (λ s. IsTrue (list_all (well_formed X.cmp) values.items)
             → IsTrue (set_well_formed X.cmp s)) }
+        ensures hash_form { IfOk result (λ s. IsTrue (has_hash_form s)) }
     {
         if are_literals(&values) {
             let values = without_places(alloc, values)?;
@@ -176,16 +237,6 @@ impl<X: Ord + Drop> Set<X> {
         } else {
             Set::new(alloc, values)
         }
-    }
-
-    /// How many members there are: of a well formed set, how many classes it has.
-    pub fn len(&self) -> usize
-        ensures members { result ≡ length (members self.now) }
-        ensures classes { IsTrue (set_well_formed X.cmp self.now) → (xs : List (Value _))
-            → IsClassesOf (by_tree X.cmp) xs (members self.now) → result ≡ length xs }
-    {
-        order_of_values::<X>();
-        self.authoritative().len()
     }
 
     /// Whether a value that is the same is a member: in a set of literals one look-up by hash, else
@@ -234,21 +285,6 @@ impl<X: Ord + Drop> Set<X> {
         }
     }
 
-    /// The members by hash: given exactly where all of them are literals, and so of the empty set.
-    ///
-    /// The hasher is std's default, `FoldHasher`, whose seed is fixed: sets made in the same way
-    /// list their literals in the same order, and whoever chooses the literals can make them
-    /// collide.
-    pub fn fast(&self) -> Option<&HashSet<Literal>>
-        ensures given { IsTrue (set_well_formed X.cmp self.now)
-            → is_some result ≡ list_all (λ v. is_lit_value (bare_value v)) (members self.now) }
-        ensures just { IsTrue (set_well_formed X.cmp self.now)
-            → IfSome result (λ h. HoldsJust X.cmp (members self.now) h.now) }
-    {
-        order_of_values::<X>();
-        self.hash_form()
-    }
-
     /// Whether this set, and each set inside, is well formed: its list ascends strictly, and its
     /// members are kept by hash exactly where all of them are literals.
     ///
@@ -259,12 +295,12 @@ impl<X: Ord + Drop> Set<X> {
         ensures { result ≡ set_well_formed X.cmp self.now }
     {
         order_of_values::<X>();
-        for member in self.members.iter() {
+        for member in self.authoritative.iter() {
             if !member.is_well_formed() {
                 return false;
             }
         }
-        let members = self.members.as_slice();
+        let members = self.authoritative.as_slice();
         cedar_sorted_slices::is_ascending(members) && is_hash_form(members, self.hash_form())
     }
 }

@@ -13,15 +13,22 @@ ghost use Rattle.cedar_values.specs.BareValues.{
   kind_of,
   value_place,
 };
-ghost use Rattle.cedar_values.specs.Kinds.{IsCopy, IsRecordWith, IsSetWith};
+ghost use Rattle.cedar_values.specs.Kinds.{
+  IsCopy,
+  IsKindCopy,
+  IsRecordWith,
+  IsSetWith,
+  IsValueCopy,
+};
 ghost use Rattle.cedar_values.specs.Places.{is_lit_value, literal_of, literal_value, unplaced};
 ghost use Rattle.cedar_values.specs.Records.{IsLastOfEach};
-ghost use Rattle.cedar_values.specs.Sets.{by_tree, members};
+ghost use Rattle.cedar_values.specs.Sets.{by_tree, has_hash_form, members};
 ghost use Rattle.cedar_values.specs.WellFormed.{kind_well_formed, well_formed};
 
 use crate::dropping::drop_kind;
 use crate::extension_value::{ExtensionValue, NoExtension, RepresentableExtensionValue};
 use crate::laws::order_of_values;
+use crate::literals::literal_value;
 use crate::record::last_of_each;
 use crate::set::Set;
 use cedar_names::Loc;
@@ -38,7 +45,7 @@ use std::rc::{Rc, RcStr};
 #[derive(Debug)]
 #[derive_where(PartialEq, Eq, PartialOrd, Ord; X)]
 pub struct Value<X = NoExtension> {
-    kind: ValueKind<X>,
+    value: ValueKind<X>,
     #[derive_where(skip(EqHashOrd))]
     loc: Option<Loc>,
 }
@@ -70,14 +77,14 @@ impl<X> Value<X> {
         ensures place { value_place result ≡ loc }
         ensures well_formed { (R : _) → well_formed R result ≡ kind_well_formed R kind }
     {
-        Value { kind, loc }
+        Value { value: kind, loc }
     }
 
     /// The kind.
     pub fn value_kind(&self) -> &ValueKind<X>
         ensures { result.now ≡ kind_of self.now }
     {
-        &self.kind
+        &self.value
     }
 
     /// The place, if it is known.
@@ -91,7 +98,7 @@ impl<X> Value<X> {
     pub fn try_as_lit(&self) -> Option<&Literal>
         ensures { option_map (λ l. bare_literal l.now) result ≡ literal_of (bare_value self.now) }
     {
-        self.kind.try_as_lit()
+        self.value.try_as_lit()
     }
 
     /// The record of these keys and values.
@@ -106,12 +113,21 @@ impl<X> Value<X> {
 }
 
 impl<X: Drop> Value<X> {
-    // The kind alone.
-    pub(crate) fn into_kind(self) -> ValueKind<X>
+    /// The kind alone.
+    pub fn into_kind(self) -> ValueKind<X>
         ensures { result ≡ kind_of self }
     {
-        let Value { kind, loc: _ } = self;
-        kind
+        let Value { value, loc: _ } = self;
+        value
+    }
+
+    /// The kind and the place: what `new` takes.
+    pub fn into_parts(self) -> (ValueKind<X>, Option<Loc>)
+        ensures kind { result.0 ≡ kind_of self }
+        ensures place { result.1 ≡ value_place self }
+    {
+        let Value { value, loc } = self;
+        (value, loc)
     }
 
     // The kind, in whose place another is put.
@@ -119,7 +135,7 @@ impl<X: Drop> Value<X> {
         ensures taken { result ≡ kind_of self.old }
         ensures put { kind_of self.new ≡ kind }
     {
-        mem::replace(&mut self.kind, kind)
+        mem::replace(&mut self.value, kind)
     }
 
     /// The same value at another place, or at none. The places inside stay.
@@ -128,8 +144,8 @@ impl<X: Drop> Value<X> {
         ensures place { value_place result ≡ loc }
         ensures well_formed { (R : _) → well_formed R result ≡ well_formed R self }
     {
-        let Value { kind, loc: _ } = self;
-        Value { kind, loc }
+        let Value { value, loc: _ } = self;
+        Value { value, loc }
     }
 
     // The same value at no place.
@@ -152,16 +168,35 @@ impl<X: Drop> Value<X> {
     }
 
     /// A copy, which shares what is inside and takes no memory.
-    pub fn clone(&self, alloc: Global) -> Result<Value<X>, AllocError>
+    pub fn clone(&self, _alloc: Global) -> Result<Value<X>, AllocError>
         ensures tree { IfOk result (λ v. bare_value v ≡ bare_value self.now) }
         ensures place { IfOk result (λ v. value_place v ≡ value_place self.now) }
         ensures inside { IfOk result (λ v. IsCopy (kind_of self.now) (kind_of v)) }
         ensures well_formed { IfOk result (λ v. (R : _) →
             well_formed R v ≡ well_formed R self.now) }
     {
-        let kind = self.value_kind().clone(alloc)?;
-        let loc = Loc::clone_option(alloc, self.source_loc())?;
+        self.copied()
+    }
+
+    // A copy.
+    fn copied(&self) -> Result<Value<X>, AllocError>
+        ensures tree { IfOk result (λ v. bare_value v ≡ bare_value self.now) }
+        ensures place { IfOk result (λ v. value_place v ≡ value_place self.now) }
+        ensures inside { IfOk result (λ v. IsCopy (kind_of self.now) (kind_of v)) }
+        ensures well_formed { IfOk result (λ v. (R : _) →
+            well_formed R v ≡ well_formed R self.now) }
+    {
+        let kind = self.value.copied()?;
+        let loc = self.loc.clone()?;
         Ok(Value::new(kind, loc))
+    }
+}
+
+impl<X: Drop> Clone for Value<X> {
+    ghost is_clone = { IsValueCopy };
+
+    fn clone(&self) -> Result<Value<X>, AllocError> {
+        self.copied()
     }
 }
 
@@ -193,7 +228,7 @@ pub(crate) fn literal_values<X: Drop>(
     ensures { IfOk result (λ made. made.items ≡ map literal_value lits.items) }
 {
     lits.into_iter()
-        .map(|literal| Value::from(literal))
+        .map(|literal| literal_value(literal))
         .collect(alloc)
 }
 
@@ -202,6 +237,8 @@ impl<X: Ord + Drop> Value<X> {
     pub fn empty_set(alloc: Global, loc: Option<Loc>) -> Result<Value<X>, AllocError>
         ensures tree { IfOk result (λ v. bare_value v ≡ bare.SetValue bare.no_values) }
         ensures well_formed { IfOk result (λ v. IsTrue (well_formed X.cmp v)) }
+        ensures hash_form { IfOk result (λ v. IsSetWith
+            (λ s. IsTrue (has_hash_form s)) (kind_of v)) }
         ensures place { IfOk result (λ v. value_place v ≡ loc) }
     {
         let kind = ValueKind::empty_set(alloc)?;
@@ -228,6 +265,8 @@ impl<X: Ord + Drop> Value<X> {
             (λ s. IsClassesOf (by_tree X.cmp) (members s) values.items) (kind_of v)) }
         ensures well_formed { IfOk result (λ v. IsTrue (list_all (well_formed X.cmp) values.items)
             → IsTrue (well_formed X.cmp v)) }
+        ensures hash_form { IfOk result (λ v. IsSetWith
+            (λ s. IsTrue (has_hash_form s)) (kind_of v)) }
         ensures place { IfOk result (λ v. value_place v ≡ loc) }
     {
         let kind = ValueKind::set(alloc, values)?;
@@ -244,6 +283,8 @@ impl<X: Ord + Drop> Value<X> {
             (λ s. IsClassesOf (by_tree X.cmp) (members s) (map literal_value lits.items))
             (kind_of v)) }
         ensures well_formed { IfOk result (λ v. IsTrue (well_formed X.cmp v)) }
+        ensures hash_form { IfOk result (λ v. IsSetWith
+            (λ s. IsTrue (has_hash_form s)) (kind_of v)) }
         ensures place { IfOk result (λ v. value_place v ≡ loc) }
     {
         let kind = ValueKind::set_of_lits(alloc, lits)?;
@@ -256,6 +297,8 @@ impl<X: Ord + Drop> Value<X> {
             (λ s. IsClassesOf (by_tree X.cmp) (members s) values.items) (kind_of v)) }
         ensures well_formed { IfOk result (λ v. IsTrue (list_all (well_formed X.cmp) values.items)
             → IsTrue (well_formed X.cmp v)) }
+        ensures hash_form { IfOk result (λ v. IsSetWith
+            (λ s. IsTrue (has_hash_form s)) (kind_of v)) }
         ensures place { IfOk result (λ v. value_place v ≡ None) }
     {
         Value::set(alloc, values, None)
@@ -293,7 +336,7 @@ impl<X: Ord + Drop> Value<X> {
     pub fn is_well_formed(&self) -> bool
         ensures { result ≡ well_formed X.cmp self.now }
     {
-        self.kind.is_well_formed()
+        self.value.is_well_formed()
     }
 }
 
@@ -323,18 +366,36 @@ impl<X> ValueKind<X> {
 
 impl<X: Drop> ValueKind<X> {
     /// A copy, which shares what is inside and takes no memory.
-    pub fn clone(&self, alloc: Global) -> Result<ValueKind<X>, AllocError>
+    pub fn clone(&self, _alloc: Global) -> Result<ValueKind<X>, AllocError>
+        ensures tree { IfOk result (λ k. bare_value_kind k ≡ bare_value_kind self.now) }
+        ensures inside { IfOk result (λ k. IsCopy self.now k) }
+        ensures well_formed { IfOk result (λ k. (R : _) →
+            kind_well_formed R k ≡ kind_well_formed R self.now) }
+    {
+        self.copied()
+    }
+
+    // A copy.
+    fn copied(&self) -> Result<ValueKind<X>, AllocError>
         ensures tree { IfOk result (λ k. bare_value_kind k ≡ bare_value_kind self.now) }
         ensures inside { IfOk result (λ k. IsCopy self.now k) }
         ensures well_formed { IfOk result (λ k. (R : _) →
             kind_well_formed R k ≡ kind_well_formed R self.now) }
     {
         match self {
-            ValueKind::Lit(literal) => Ok(ValueKind::Lit(literal.clone(alloc)?)),
-            ValueKind::Set(set) => Ok(ValueKind::Set(set.clone(alloc)?)),
+            ValueKind::Lit(literal) => Ok(ValueKind::Lit(Clone::clone(literal)?)),
+            ValueKind::Set(set) => Ok(ValueKind::Set(set.copied()?)),
             ValueKind::Record(pairs) => Ok(ValueKind::Record(pairs.clone()?)),
             ValueKind::ExtensionValue(value) => Ok(ValueKind::ExtensionValue(value.clone()?)),
         }
+    }
+}
+
+impl<X: Drop> Clone for ValueKind<X> {
+    ghost is_clone = { IsKindCopy };
+
+    fn clone(&self) -> Result<ValueKind<X>, AllocError> {
+        self.copied()
     }
 }
 
@@ -343,6 +404,7 @@ impl<X: Ord + Drop> ValueKind<X> {
     pub fn empty_set(alloc: Global) -> Result<ValueKind<X>, AllocError>
         ensures tree { IfOk result (λ k. bare_value_kind k ≡ bare.SetValue bare.no_values) }
         ensures well_formed { IfOk result (λ k. IsTrue (kind_well_formed X.cmp k)) }
+        ensures hash_form { IfOk result (IsSetWith (λ s. IsTrue (has_hash_form s))) }
     {
         let set = Set::empty(alloc)?;
         Ok(ValueKind::Set(set))
@@ -363,6 +425,7 @@ impl<X: Ord + Drop> ValueKind<X> {
             (λ s. IsClassesOf (by_tree X.cmp) (members s) values.items)) }
         ensures well_formed { IfOk result (λ k. IsTrue (list_all (well_formed X.cmp) values.items)
             → IsTrue (kind_well_formed X.cmp k)) }
+        ensures hash_form { IfOk result (IsSetWith (λ s. IsTrue (has_hash_form s))) }
     {
         let set = Set::new(alloc, values)?;
         Ok(ValueKind::Set(set))
@@ -373,6 +436,7 @@ impl<X: Ord + Drop> ValueKind<X> {
         ensures classes { IfOk result (IsSetWith
             (λ s. IsClassesOf (by_tree X.cmp) (members s) (map literal_value lits.items))) }
         ensures well_formed { IfOk result (λ k. IsTrue (kind_well_formed X.cmp k)) }
+        ensures hash_form { IfOk result (IsSetWith (λ s. IsTrue (has_hash_form s))) }
     {
         let set = Set::from_lits(alloc, lits)?;
         Ok(ValueKind::Set(set))
@@ -384,6 +448,7 @@ impl<X: Ord + Drop> ValueKind<X> {
             (λ s. IsClassesOf (by_tree X.cmp) (members s) values.items)) }
         ensures well_formed { IfOk result (λ k. IsTrue (list_all (well_formed X.cmp) values.items)
             → IsTrue (kind_well_formed X.cmp k)) }
+        ensures hash_form { IfOk result (IsSetWith (λ s. IsTrue (has_hash_form s))) }
     {
         ValueKind::set(alloc, values)
     }

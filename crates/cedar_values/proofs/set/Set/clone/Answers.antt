@@ -1,30 +1,18 @@
-use Rattle.std.proofs.Common.{◌≡◌, ap, ◌∙◌}
-use Rattle.std.specs.Prelude.{option_map}
-use Rattle.cedar_values.specs.HashForms.{literals_of}
-use Rattle.cedar_values.specs.Sets.{hashed_literals, members}
-use Rattle.cedar_values.specs.declared.set.Set.{Set, Set-F, out-roll-Set, roll-Set}
-use Rattle.cedar_values.specs.declared.value.Value.{Value}
-use Rattle.cedar_values.specs.declared.value.ValueKind.{ValueKind}
+use Rattle.std.proofs.Common.{◌≡◌, map}
+use Rattle.std.proofs.lemmas.Result.{IfOk-weaker}
+use Rattle.cedar_values.specs.BareValues.{bare_value}
+use Rattle.cedar_values.specs.HashForms.{is_hash_form}
+use Rattle.cedar_values.specs.Sets.{IsSetCopy, has_hash_form}
+use Rattle.cedar_values.specs.WellFormed.{set_well_formed}
 use Rattle.cedar_values.proofs.WellFormedSets.{same_set}
 use Rattle.cedar_values.proofs.set.Set.clone.Goals as goal
 
-abbrev level : (g : _) (c : goal.In_ok-members g) → Set-F g.row.X.Denot (ValueKind g.row.X.Denot) (Set g.row.X.Denot) (Value g.row.X.Denot)
-level g c = record { members = c.in_ok-members.members; fast = c.in_ok-fast.fast }
-
-members_are : (g : _) (c : goal.In_ok-members g) → members (roll-Set g.row.X.Denot (level g c)) ≡ members c.args.self.now
-unfolding members
-members_are g c =
-    ap (λ (s : Set-F g.row.X.Denot _ _ (Value g.row.X.Denot)). s.members.value.items) (out-roll-Set g.row.X.Denot (level g c))
-    ∙ λ i. (c.in_ok-members.ensures.cases i).items
-
-literals_are : (g : _) (c : goal.In_ok-members g) → hashed_literals (roll-Set g.row.X.Denot (level g c)) ≡ hashed_literals c.args.self.now
-unfolding hashed_literals
-literals_are g c =
-    ap (λ (s : Set-F g.row.X.Denot _ _ (Value g.row.X.Denot)). option_map (λ h. literals_of h.value) s.fast) (out-roll-Set g.row.X.Denot (level g c))
-    ∙ c.in_ok-fast.ensures
-
-pub returns-clause-members : goal.returns-clause-members
-returns-clause-members g c = members_are g c
-
 pub returns-clause-well_formed : goal.returns-clause-well_formed
-returns-clause-well_formed g c R = same_set R _ c.args.self.now (members_are g c) (literals_are g c)
+returns-clause-well_formed g c =
+    IfOk-weaker c.copied.result (IsSetCopy c.args.self.now) (λ s. (R : _) → set_well_formed R s ≡ set_well_formed R c.args.self.now)
+    (λ s is R. same_set R s c.args.self.now is.0 is.1) c.copied.ensures
+
+pub returns-clause-hash_form : goal.returns-clause-hash_form
+returns-clause-hash_form g c =
+    IfOk-weaker c.copied.result (IsSetCopy c.args.self.now) (λ s. has_hash_form s ≡ has_hash_form c.args.self.now)
+    (λ s is i. is_hash_form (map bare_value (is.0 i)) (is.1 i)) c.copied.ensures

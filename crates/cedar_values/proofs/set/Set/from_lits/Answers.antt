@@ -17,4 +17,5 @@ returns g c =
       classes = subst (λ vs. IfOk c.new.result (λ s. IsClassesOf (by_tree R) (members s) vs)) c.in_ok-values.ensures c.new.ensures.classes;
       well_formed = IfOk-weaker c.new.result (λ s. IsTrue (list_all (well_formed R) (map literal_value ls)) → IsTrue (set_well_formed R s)) (λ s. IsTrue (set_well_formed R s)) (λ s kept. kept (literals_kept R ls))
           (subst (λ vs. IfOk c.new.result (λ s. IsTrue (list_all (well_formed R) vs) → IsTrue (set_well_formed R s))) c.in_ok-values.ensures c.new.ensures.well_formed);
+      hash_form = c.new.ensures.hash_form;
     }

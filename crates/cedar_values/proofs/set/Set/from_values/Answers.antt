@@ -14,6 +14,7 @@ returns-in_ok-values g c =
       classes = gathered_classes g.X.Ord.cmp c.new.result vs c.in_ok-values.values.items is c.new.ensures.classes;
       same = gathered_same g.X.Ord.cmp c.new.result vs c.in_ok-values.values.items is c.new.ensures.classes;
       well_formed = gathered_well g.X.Ord.cmp c.new.result vs c.in_ok-values.values.items is c.new.ensures.well_formed;
+      hash_form = c.new.ensures.hash_form;
     }
 
 pub returns-else-are_literals : goal.returns-else-are_literals
@@ -25,4 +26,5 @@ returns-else-are_literals g c =
       classes = gathered_classes g.X.Ord.cmp c.new-else-are_literals.result vs vs is c.new-else-are_literals.ensures.classes;
       same = gathered_same g.X.Ord.cmp c.new-else-are_literals.result vs vs is c.new-else-are_literals.ensures.classes;
       well_formed = gathered_well g.X.Ord.cmp c.new-else-are_literals.result vs vs is c.new-else-are_literals.ensures.well_formed;
+      hash_form = c.new-else-are_literals.ensures.hash_form;
     }

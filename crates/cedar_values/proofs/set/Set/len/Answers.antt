@@ -5,8 +5,7 @@ use Rattle.cedar_values.proofs.WellFormedSets.{sorted_members}
 use Rattle.cedar_values.proofs.set.Set.len.Goals as goal
 
 pub returns-clause-classes : goal.returns-clause-classes
-returns-clause-classes g c kept xs h =
-    let total = c.order_of_values.ensures.total in
+returns-clause-classes g c R total kept xs h =
     let s = c.args.self.now in
     ap length c.authoritative.ensures
-    ∙ tied_length total (members s) xs (same_classes_tie total (members s) xs (sorted_members g.X.Ord.cmp total s kept) h.ascending (λ q. sym (h.same q)))
+    ∙ tied_length total (members s) xs (same_classes_tie total (members s) xs (sorted_members R total s kept) h.ascending (λ q. sym (h.same q)))

@@ -10,8 +10,8 @@ pub returns : goal.returns
 unfolding members hashed_literals
 returns g c =
     let X = g.row.X.Denot in
-    let l : Set-F X _ _ (Value X) = record { members = c.in_ok-members.members; fast = c.args.literals } in
+    let l : Set-F X _ _ (Value X) = record { authoritative = c.in_ok-members.members; fast = c.args.literals } in
     record {
-      members = ap (λ (s : Set-F X _ _ (Value X)). s.members.value.items) (out-roll-Set X l) ∙ λ i. (c.in_ok-members.ensures.ok i).items;
+      members = ap (λ (s : Set-F X _ _ (Value X)). s.authoritative.value.items) (out-roll-Set X l) ∙ λ i. (c.in_ok-members.ensures.ok i).items;
       hashed = ap (λ (s : Set-F X _ _ (Value X)). option_map (λ h. literals_of h.value) s.fast) (out-roll-Set X l);
     }

@@ -8,5 +8,5 @@ pub returns : goal.returns
 unfolding members
 returns g c =
     let X = g.row.X.Denot in
-    let l : Set-F X _ _ (Value X) = record { members = c.args.row; fast = None } in
-    ap (λ (s : Set-F X _ _ (Value X)). s.members.value.items) (out-roll-Set X l)
+    let l : Set-F X _ _ (Value X) = record { authoritative = c.args.row; fast = None } in
+    ap (λ (s : Set-F X _ _ (Value X)). s.authoritative.value.items) (out-roll-Set X l)

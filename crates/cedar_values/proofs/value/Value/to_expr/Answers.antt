@@ -1,5 +1,5 @@
 use Rattle.std.proofs.Common.{sym, ap, subst, ◌∙◌}
-use Rattle.cedar_sorted_slices.specs.Ascending.{and_left}
+use Rattle.std.proofs.lemmas.Bool.{and_parts}
 use Rattle.semantics_values.specs.Reading.{ReadsBack}
 use Rattle.semantics_values.specs.ValueExpr.{value_expr}
 use Rattle.cedar_values.specs.BareValues.{bare_value, bare_value_kind}
@@ -19,4 +19,4 @@ returns-clause-read_back g c =
     let t = bare_value c.args.self.now in
     let kind = ap (value_expr g.X.ExtensionValue.canonical) (ap bare_value_kind c.value_kind.ensures ∙ sym (value_tree c.args.self.now)) in
     if_ok c.expr_at.result c.expr_at.ensures.tree
-    (λ e is kept. subst (λ b. ReadsBack g.X.Ord.cmp g.X.PartialEq.eq b t) (sym (is ∙ kind)) (c.expressions_read_back.ensures g.X.ExtensionValue.canonical t (and_left _ _ kept)))
+    (λ e is kept. subst (λ b. ReadsBack g.X.Ord.cmp g.X.PartialEq.eq b t) (sym (is ∙ kind)) (c.expressions_read_back.ensures g.X.ExtensionValue.canonical t (and_parts _ _ kept).0))

@@ -1,5 +1,5 @@
 use Rattle.std.proofs.Common.{sym, subst}
-use Rattle.cedar_sorted_slices.specs.Ascending.{and_left}
+use Rattle.std.proofs.lemmas.Bool.{and_parts}
 use Rattle.semantics_values.specs.Reading.{ReadsBack}
 use Rattle.cedar_values.specs.BareValues.{bare_value_kind}
 use Rattle.cedar_values.specs.WellFormed.{kind_well_formed}
@@ -11,4 +11,4 @@ unfolding kind_well_formed
 returns-clause-read_back g c =
     let t = bare_value_kind c.args.self.now in
     if_ok c.expr_at.result c.expr_at.ensures.tree
-    (λ e is kept. subst (λ b. ReadsBack g.X.Ord.cmp g.X.PartialEq.eq b t) (sym is) (c.expressions_read_back.ensures g.X.ExtensionValue.canonical t (and_left _ _ kept)))
+    (λ e is kept. subst (λ b. ReadsBack g.X.Ord.cmp g.X.PartialEq.eq b t) (sym is) (c.expressions_read_back.ensures g.X.ExtensionValue.canonical t (and_parts _ _ kept).0))

@@ -1,0 +1,92 @@
+//! Values that are known to be well formed.
+ghost use Rattle.std.specs.Prelude.{IsTrue};
+ghost use Rattle.cedar_values.specs.WellFormed.{well_formed};
+
+use crate::extension_value::NoExtension;
+use crate::value::Value;
+use cedar_exprs::{RestrictedExpr, SubstituteValue};
+use cedar_terms::{StaticallyTyped, Type};
+use std::alloc::{AllocError, Global};
+
+/// A value that is known to be well formed: each set inside is the ascending list of its members.
+///
+/// Bind unknowns to such values: evaluation then takes each as it is, at no cost of its size,
+/// where it would have to write out a plain `Value` as an expression and evaluate that.
+///
+/// ```rust
+/// let value = WellFormedValue::new(Value::from(Literal::Long(3)));
+/// ```
+#[derive(Debug, Drop)]
+pub struct WellFormedValue {
+    value: Value<NoExtension>,
+    ghost kept: { IsTrue (well_formed ⟦<NoExtension as Ord>⟧.cmp value) },
+}
+
+impl WellFormedValue {
+    ghost use Rattle.std.specs.Prelude.{◌≡◌, false, IfOk, MatchResult};
+    ghost use Rattle.cedar_values.specs.BareValues.{bare_value};
+    ghost use Rattle.cedar_values.specs.WellFormedValues.{value_of};
+
+    /// The value, if it is well formed; else it comes back. Each part of it is looked at once: do
+    /// it where a name is bound.
+    ///
+    /// The calls of this crate make well formed values alone; `new_unchecked` takes one of theirs.
+    pub fn new(value: Value<NoExtension>) -> Result<WellFormedValue, Value<NoExtension>>
+        ensures { MatchResult result
+            (λ w. value_of w ≡ value)
+            (λ v. (v ≡ value) × (well_formed ⟦<NoExtension as Ord>⟧.cmp value ≡ false)) }
+    {
+        if value.is_well_formed() {
+            Ok(WellFormedValue { value })
+        } else {
+            Err(value)
+        }
+    }
+
+    /// The value, where the caller knows that it is well formed: it is not looked at.
+    pub fn new_unchecked(value: Value<NoExtension>) -> WellFormedValue
+        requires { IsTrue (well_formed ⟦<NoExtension as Ord>⟧.cmp value) }
+        ensures { value_of result ≡ value }
+    {
+        WellFormedValue { value }
+    }
+
+    /// The value.
+    pub fn as_value(&self) -> &Value<NoExtension>
+        ensures same { result.now ≡ value_of self.now }
+        ensures well_formed { IsTrue (well_formed ⟦<NoExtension as Ord>⟧.cmp result.now) }
+    {
+        &self.value
+    }
+
+    /// The value of one that is consumed.
+    pub fn into_value(self) -> Value<NoExtension>
+        ensures same { result ≡ value_of self }
+        ensures well_formed { IsTrue (well_formed ⟦<NoExtension as Ord>⟧.cmp result) }
+    {
+        self.value
+    }
+
+    /// A copy, which shares what is inside and takes no memory.
+    pub fn clone(&self, alloc: Global) -> Result<WellFormedValue, AllocError>
+        ensures { IfOk result (λ w. bare_value (value_of w) ≡ bare_value (value_of self.now)) }
+    {
+        Ok(WellFormedValue::new_unchecked(self.value.clone(alloc)?))
+    }
+}
+
+impl SubstituteValue for WellFormedValue {
+    ghost use Rattle.cedar_values.specs.WellFormedValues.{tree_of, type_of};
+
+    ghost bare_type_of = { type_of };
+
+    ghost bare_expr_of = { tree_of };
+
+    fn value_type(&self, alloc: Global) -> Result<Type, AllocError> {
+        self.value.type_of(alloc)
+    }
+
+    fn value_expr(&self, alloc: Global) -> Result<RestrictedExpr, AllocError> {
+        self.value.value_expr(alloc)
+    }
+}
