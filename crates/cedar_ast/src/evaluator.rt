@@ -1,2 +1,4 @@
 //! The closed evaluator: what it makes of an expression is the expression's outcome.
-pub use cedar_evaluator::{CallRefused, EvalFault, Evaluator, Outcome, evaluate, laws};
+pub use cedar_evaluator::{
+    CallRefused, EvalFault, EvaluationFault, Evaluator, Outcome, evaluate, laws,
+};

@@ -1,2 +1,2 @@
-//! The trait of what makes expressions; its name at the root is that of the struct.
-pub use cedar_builders::ExprBuilder;
+//! The traits of what makes expressions; at the root the name of the first is that of the struct.
+pub use cedar_builders::{ExprBuilder, ExprBuilderInfallibleBuild};

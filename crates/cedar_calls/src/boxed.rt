@@ -35,12 +35,14 @@ pub struct BoxedFunction {
 }
 
 impl BoxedFunction {
-    /// The box, whose answers are of the return type.
+    /// The box, whose answers are of the return type. A call of it, by the trait for a count of
+    /// arguments, answers what the box answers to these arguments.
     pub fn new(func: FunctionBox, return_type: Option<SchemaType>) -> BoxedFunction
         requires callable { IsAlwaysCallable func }
         requires typed { (alloc : _) (args : _) (r : _) → post func alloc args r
             → Keeps held_name (declared return_type) r }
-        ensures { result.return_type ≡ return_type }
+        ensures func { result.func ≡ func }
+        ensures return_type { result.return_type ≡ return_type }
     {
         BoxedFunction { func, return_type }
     }

@@ -6,8 +6,9 @@ use std::alloc::{AllocError, AllocFailed};
 use std::rc::RcStr;
 use thiserror::Error;
 
-/// Why a call of a function has no answer.
-#[derive(Debug, Drop, Error)]
+/// Why a call of a function has no answer. Two are equal whatever the place of the call.
+#[derive(Debug, Clone, Drop, Error)]
+#[derive_where(PartialEq, Eq)]
 pub enum EvaluationError {
     /// The function does not take this count of arguments.
     #[error("`{name}` takes {expected} arguments, not {actual}")]
@@ -19,6 +20,7 @@ pub enum EvaluationError {
         /// The count that it was given.
         actual: usize,
         /// The place of the call. A function does not know it and gives none.
+        #[derive_where(skip(EqHashOrd))]
         loc: Option<Loc>,
     },
     /// The function refused its arguments.

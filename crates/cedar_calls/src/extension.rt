@@ -12,6 +12,7 @@ ghost use Rattle.cedar_calls.specs.NamedFunctions.{HasLastOfEach};
 use crate::extension_function::ExtensionFunction;
 use crate::object::ExtensionFunctions;
 use cedar_names::Name;
+use cedar_values::NoExtension;
 use std::alloc::{AllocError, Global};
 use std::collections::BTreeMap;
 use std::collections::btree_map::Values;
@@ -20,7 +21,7 @@ use std::{fmt, slice};
 /// An extension: a finite map from names to functions, and the types whose values take part in the
 /// overloading of operators.
 #[derive(Drop)]
-pub struct Extension<X: ExtensionFunctions> {
+pub struct Extension<X: ExtensionFunctions = NoExtension> {
     name: Name,
     functions: BTreeMap<Name, ExtensionFunction<X>>,
     types_with_operator_overloading: Vec<Name>,

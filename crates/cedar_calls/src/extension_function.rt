@@ -12,7 +12,7 @@ use crate::output_value::ExtensionOutputValue;
 use cedar_names::Name;
 use cedar_terms::SchemaType;
 use cedar_validation::CallStyle;
-use cedar_values::{PartialValue, Value};
+use cedar_values::{NoExtension, PartialValue, Value};
 use std::alloc::{AllocError, Global};
 use std::fmt;
 
@@ -20,7 +20,7 @@ use std::fmt;
 ///
 /// What the stored function may answer is of the declared return type, so a call asks for nothing.
 #[derive(Drop)]
-pub struct ExtensionFunction<X: ExtensionFunctions> {
+pub struct ExtensionFunction<X: ExtensionFunctions = NoExtension> {
     name: Name,
     style: CallStyle,
     func: ExtensionFunctionObject<X>,

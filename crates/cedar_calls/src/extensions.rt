@@ -11,11 +11,12 @@ use crate::object::ExtensionFunctions;
 use cedar_names::Name;
 use cedar_terms::SchemaType;
 use cedar_validation::{CallStyle, FunctionTable};
+use cedar_values::NoExtension;
 use std::fmt;
 
 /// A table of extensions. Where several have a function of one name, the first extension's counts.
 #[derive(Drop)]
-pub struct Extensions<X: ExtensionFunctions> {
+pub struct Extensions<X: ExtensionFunctions = NoExtension> {
     extensions: Vec<Extension<X>>,
 }
 

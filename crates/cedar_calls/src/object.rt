@@ -5,28 +5,28 @@
 //! `ExtensionFunctions` names these types for the extension values that they are about.
 use crate::err::EvaluationError;
 use crate::output_value::ExtensionOutputValue;
-use cedar_values::{ExtensionValue, Value};
+use cedar_values::{ExtensionValue, NoExtension, Value};
 use std::alloc::Global;
 use std::boxed::Box;
 use std::fmt;
 
 /// A boxed function of no arguments.
-pub type NullaryExtensionFunctionObject<X> = Box<
+pub type NullaryExtensionFunctionObject<X = NoExtension> = Box<
     dyn Fn(Global) -> Result<ExtensionOutputValue<X>, EvaluationError>,
 >;
 
 /// A boxed function of one argument.
-pub type UnaryExtensionFunctionObject<X> = Box<
+pub type UnaryExtensionFunctionObject<X = NoExtension> = Box<
     dyn Fn(Global, &Value<X>) -> Result<ExtensionOutputValue<X>, EvaluationError>,
 >;
 
 /// A boxed function of two arguments.
-pub type BinaryExtensionFunctionObject<X> = Box<
+pub type BinaryExtensionFunctionObject<X = NoExtension> = Box<
     dyn Fn(Global, &Value<X>, &Value<X>) -> Result<ExtensionOutputValue<X>, EvaluationError>,
 >;
 
 /// A boxed function of three arguments.
-pub type TernaryExtensionFunctionObject<X> = Box<
+pub type TernaryExtensionFunctionObject<X = NoExtension> = Box<
     dyn Fn(
         Global,
         &Value<X>,
@@ -36,7 +36,7 @@ pub type TernaryExtensionFunctionObject<X> = Box<
 >;
 
 /// A boxed function of a first argument and one or more further ones.
-pub type VariadicExtensionFunctionObject<X> = Box<
+pub type VariadicExtensionFunctionObject<X = NoExtension> = Box<
     dyn Fn(Global, &Value<X>, &[Value<X>]) -> Result<ExtensionOutputValue<X>, EvaluationError>,
 >;
 
@@ -145,7 +145,7 @@ pub trait ExtensionFunctions: ExtensionValue + Ord {
 
 /// A stored function, by the count of the arguments that it takes.
 #[derive(Drop)]
-pub enum ExtensionFunctionObject<X: ExtensionFunctions> {
+pub enum ExtensionFunctionObject<X: ExtensionFunctions = NoExtension> {
     /// Of no arguments.
     Nullary(X::Nullary),
     /// Of the first of one or more arguments.

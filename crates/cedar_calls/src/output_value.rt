@@ -18,15 +18,25 @@ impl<X: Drop> ExtensionOutputValue<X> {
     ghost use Rattle.cedar_calls.specs.OutputValues.{IsOutputCopy};
 
     /// A copy, which shares what is inside.
-    pub fn clone(&self, alloc: Global) -> Result<ExtensionOutputValue<X>, AllocError>
+    pub fn clone(&self, _alloc: Global) -> Result<ExtensionOutputValue<X>, AllocError>
         ensures { IfOk result (IsOutputCopy self.now) }
     {
+        Clone::clone(self)
+    }
+}
+
+impl<X: Drop> Clone for ExtensionOutputValue<X> {
+    ghost use Rattle.cedar_calls.specs.OutputValues.{IsOutputCopy};
+
+    ghost is_clone = { IsOutputCopy };
+
+    fn clone(&self) -> Result<ExtensionOutputValue<X>, AllocError> {
         match self {
             ExtensionOutputValue::Known(value) => {
-                Ok(ExtensionOutputValue::Known(value.clone(alloc)?))
+                Ok(ExtensionOutputValue::Known(Clone::clone(value)?))
             }
             ExtensionOutputValue::Unknown(unknown) => {
-                Ok(ExtensionOutputValue::Unknown(unknown.clone(alloc)?))
+                Ok(ExtensionOutputValue::Unknown(Clone::clone(unknown)?))
             }
         }
     }
