@@ -5,3 +5,4 @@ pub mod Inserted
 pub mod Pairs
 pub mod ClosedOutcomes
 pub mod Meanings
+pub mod Truths

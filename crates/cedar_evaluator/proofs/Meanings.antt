@@ -1,5 +1,5 @@
 -- Outcomes by what they mean.
-use Rattle.std.proofs.Common.{◌≡◌, ◌≢◌, Result, Ok, Err, IsOk, IsOkAnd, refl, sym, ap, subst, ◌∙◌}
+use Rattle.std.proofs.Common.{◌≡◌, ◌≢◌, None, Result, Ok, Err, IsOk, IsOkAnd, refl, sym, ap, subst, ◌∙◌}
 use Rattle.std.specs.Result.{ForOk}
 use Rattle.semantics_values.specs.BareValue.{BareValue}
 use Rattle.cedar_values.specs.BareValues.{bare_value}
@@ -10,6 +10,7 @@ use Rattle.cedar_evaluator.specs.Laws.{IsDecided, IsValue}
 use Rattle.cedar_evaluator.specs.Outcomes.{bare_outcome, meaning_of, result_of}
 use Rattle.cedar_evaluator.specs.declared.fault.EvalFault.{EvalFault}
 use Rattle.cedar_evaluator.specs.declared.fault.EvalFault.TheVariants.{Open}
+use Rattle.cedar_evaluator.specs.declared.fault.EvaluationFault.{EvaluationFault}
 use Rattle.cedar_evaluator.specs.declared.outcome.Outcome.{Outcome}
 
 abbrev ok_of : {A E : Type 0} → A → Result A E → A
@@ -36,9 +37,13 @@ is_value r v h = record {
 no_value : {A E : Type 0} (P : A → Type 0) (e : E) → ForOk (Err e) P
 no_value P e a is = cc
 
+-- the open fault, at no place
+abbrev open_fault : EvaluationFault
+open_fault = record { fault = Open; source_loc = None }
+
 -- the open outcome
 abbrev open_outcome : Outcome
-open_outcome = record { result = Err Open; kept = no_value _ Open }
+open_outcome = record { result = Err open_fault; kept = no_value _ open_fault }
 
 pub not_open : {F : Type 0} (r : Result (meant.Outcome NoExtension) F) → IsDecided meaning_of r
     → r ≢ Ok (Err meant.Open)

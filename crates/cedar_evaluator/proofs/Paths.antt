@@ -8,7 +8,7 @@ use Rattle.std.specs.Map.{lookup}
 use Rattle.std.specs.Option.{option_copied}
 use Rattle.std.specs.Rc.{rc_str_bytes}
 use Rattle.std.specs.declared.rc.RcStr.{RcStr}
-use Rattle.cedar_sorted_slices.specs.Ascending.{and_left, and_right}
+use Rattle.std.proofs.lemmas.Bool.{and_parts}
 use Rattle.cedar_builders.specs.BareExpr.{Text}
 use Rattle.cedar_builders.specs.Keys.{meant_pairs}
 use Rattle.cedar_values.specs.BareValues.{bare_value}
@@ -56,8 +56,8 @@ module _ {X : Type 0} where
       → list_all (λ e. P e.1) es ≡ true → IfSome (lookup f es) (λ v. P v ≡ true)
   kept_at P f [] h = tt
   kept_at P f (e ∷ es) h =
-      if_cond (λ v. P v ≡ true) (f e.0) e.1 (lookup f es) (and_left (P e.1) _ h)
-      (kept_at P f es (and_right (P e.1) _ h))
+      if_cond (λ v. P v ≡ true) (f e.0) e.1 (lookup f es) (and_parts (P e.1) _ h).0
+      (kept_at P f es (and_parts (P e.1) _ h).1)
 
   -- so is what a look-up lends
   pub found_kept : (P : Value X → Bool) (f : RcStr Global → Bool)

@@ -5,6 +5,7 @@ ghost use Rattle.cedar_builders.specs.Answers.{Gives};
 ghost use Rattle.cedar_builders.specs.Environment.{fold};
 ghost use Rattle.cedar_exprs.specs.BareExpr.{bare_expr};
 ghost use Rattle.cedar_values.specs.Holders.{plain_env};
+ghost use Rattle.cedar_values.specs.WellFormedValues.{well_formed_env};
 ghost use Rattle.semantics_eval.specs.Evaluator.{evaluator_ops};
 ghost use Rattle.semantics_eval.specs.Laws.{is_closed};
 ghost use Rattle.semantics_eval.specs.Outcomes.{Open};
@@ -13,16 +14,22 @@ ghost use Rattle.cedar_evaluator.specs.Outcomes.{meaning_of};
 use crate::evaluator::Evaluator;
 use crate::fault::CallRefused;
 use crate::outcome::Outcome;
+use crate::shared_value::SharedValue;
 use cedar_builders::BuildFault;
 use cedar_exprs::Expr;
-use cedar_values::laws::{maps_bind_plain_values, no_extension_values};
-use cedar_values::{NoExtension, Value, try_into_expr_with_values};
+use cedar_values::laws::{
+    maps_bind_plain_values, no_extension_values, well_formed_maps_bind_plain_values,
+};
+use cedar_values::{NoExtension, Value, WellFormedValue, try_into_expr_with_values};
 use semantics_eval::laws::never_open;
 use std::alloc::Global;
 use std::collections::HashMap;
 use std::rc::RcStr;
 
 /// The outcome of an expression, where the unknowns that `values` binds are these values.
+///
+/// Each value is written out as an expression and evaluated at each unknown that it is bound to:
+/// take `evaluate_shared` where values are not small.
 ///
 /// The error is the first call of an extension function, children before parents and each in field
 /// order, or memory ran out.
@@ -42,4 +49,28 @@ pub fn evaluate(
     never_open::<NoExtension>();
     no_extension_values();
     try_into_expr_with_values::<Evaluator, NoExtension>(alloc, expr, values)
+}
+
+/// The same, where each value is shared: an unknown costs the same whatever the size of its value.
+///
+/// ```rust
+/// let mut values = HashMap::new(alloc);
+/// drop(values.insert(RcStr::from_str(alloc, "limit")?, limit)?);
+/// let outcome = evaluate_shared(alloc, &expr, &values)?;
+/// ```
+pub fn evaluate_shared(
+    alloc: Global,
+    expr: &Expr,
+    values: &HashMap<RcStr, WellFormedValue>,
+) -> Result<Outcome, BuildFault<CallRefused>>
+    ensures outcome { Gives meaning_of (λ (refused : CallRefused). bare_name refused.name)
+        (fold (evaluator_ops ⟦<NoExtension as Ord>⟧.cmp ⟦<NoExtension as PartialEq>⟧.eq)
+        (well_formed_env values.now) (bare_expr expr.now))
+        result }
+    ensures decided { IsTrue (is_closed (well_formed_env values.now) (bare_expr expr.now))
+        → IfOk result (λ m. meaning_of m ≢ Err Open) }
+{
+    well_formed_maps_bind_plain_values();
+    never_open::<NoExtension>();
+    expr.try_into_expr_by::<Evaluator, WellFormedValue, SharedValue>(alloc, values)
 }

@@ -28,7 +28,7 @@ use std::rc::RcStr;
 /// fault `Open`, and what the store of entities alone could answer is `Store`. An operation on
 /// faults has the first one's fault; `if`, `and` and `or` look at no operand that they do not
 /// choose. Of equal keys of a record the last one's value counts. A call of an extension function
-/// is refused wherever it stands.
+/// is refused wherever it stands. A fault has the place of the builder at which it came up.
 ///
 /// ```rust
 /// fn outcome(alloc: Global, expr: &Expr) -> Result<Outcome, BuildFault<CallRefused>> {
@@ -36,7 +36,9 @@ use std::rc::RcStr;
 /// }
 /// ```
 #[derive(Debug, Drop)]
-pub struct Evaluator;
+pub struct Evaluator {
+    source_loc: Option<Loc>,
+}
 
 impl ExprBuilder for Evaluator {
     type Expr = Outcome;
@@ -57,24 +59,28 @@ impl ExprBuilder for Evaluator {
 
     ghost fault_of = { λ refused. bare_name refused.name };
 
+    ghost place_of = { λ b. b.source_loc };
+
+    ghost kept_place = { λ place. place };
+
     fn new() -> Evaluator {
-        Evaluator
+        Evaluator { source_loc: None }
     }
 
     fn with_data(_data: ()) -> Evaluator {
-        Evaluator
+        Evaluator { source_loc: None }
     }
 
     fn loc(&self) -> Option<&Loc> {
-        None
+        self.source_loc.as_ref()
     }
 
     fn data(&self) -> &() {
         &()
     }
 
-    fn with_maybe_source_loc(self, _source_loc: Option<Loc>) -> Evaluator {
-        self
+    fn with_maybe_source_loc(self, source_loc: Option<Loc>) -> Evaluator {
+        Evaluator { source_loc }
     }
 
     fn val(self, _alloc: Global, literal: Literal) -> Result<Outcome, AllocError> {
@@ -82,15 +88,15 @@ impl ExprBuilder for Evaluator {
     }
 
     fn var(self, _alloc: Global, _var: Var) -> Result<Outcome, AllocError> {
-        Ok(Outcome::fail(EvalFault::Open))
+        Ok(Outcome::fail(EvalFault::Open, self.source_loc))
     }
 
     fn slot(self, _alloc: Global, _slot: SlotId) -> Result<Outcome, AllocError> {
-        Ok(Outcome::fail(EvalFault::Open))
+        Ok(Outcome::fail(EvalFault::Open, self.source_loc))
     }
 
     fn unknown(self, _alloc: Global, _unknown: Unknown) -> Result<Outcome, AllocError> {
-        Ok(Outcome::fail(EvalFault::Open))
+        Ok(Outcome::fail(EvalFault::Open, self.source_loc))
     }
 
     fn ite(
@@ -103,28 +109,28 @@ impl ExprBuilder for Evaluator {
         match test_expr.truth() {
             Ok(true) => Ok(then_expr),
             Ok(false) => Ok(else_expr),
-            Err(fault) => Ok(Outcome::fail(fault)),
+            Err(_) => Ok(test_expr.no_truth(self.source_loc)),
         }
     }
 
     fn and(self, _alloc: Global, left: Outcome, right: Outcome) -> Result<Outcome, AllocError> {
         match left.truth() {
-            Ok(true) => Ok(right.as_truth()),
+            Ok(true) => Ok(right.into_truth(self.source_loc)),
             Ok(false) => Ok(Outcome::lit(Literal::Bool(false))),
-            Err(fault) => Ok(Outcome::fail(fault)),
+            Err(_) => Ok(left.no_truth(self.source_loc)),
         }
     }
 
     fn or(self, _alloc: Global, left: Outcome, right: Outcome) -> Result<Outcome, AllocError> {
         match left.truth() {
             Ok(true) => Ok(Outcome::lit(Literal::Bool(true))),
-            Ok(false) => Ok(right.as_truth()),
-            Err(fault) => Ok(Outcome::fail(fault)),
+            Ok(false) => Ok(right.into_truth(self.source_loc)),
+            Err(_) => Ok(left.no_truth(self.source_loc)),
         }
     }
 
     fn unary_app(self, _alloc: Global, op: UnaryOp, arg: Outcome) -> Result<Outcome, AllocError> {
-        Ok(arg.apply_one(op))
+        Ok(arg.apply_one(op, self.source_loc))
     }
 
     fn binary_app(
@@ -134,7 +140,7 @@ impl ExprBuilder for Evaluator {
         arg1: Outcome,
         arg2: Outcome,
     ) -> Result<Outcome, AllocError> {
-        Ok(Outcome::apply_two(op, &arg1, &arg2))
+        Ok(Outcome::apply_two(op, arg1, arg2, self.source_loc))
     }
 
     fn call_extension_fn(
@@ -150,7 +156,7 @@ impl ExprBuilder for Evaluator {
     }
 
     fn get_attr(self, alloc: Global, expr: Outcome, attr: RcStr) -> Result<Outcome, AllocError> {
-        expr.get(alloc, &attr)
+        expr.get(alloc, &attr, self.source_loc)
     }
 
     fn extended_has_attr(
@@ -159,11 +165,11 @@ impl ExprBuilder for Evaluator {
         expr: Outcome,
         attrs: NonEmpty<RcStr>,
     ) -> Result<Outcome, AllocError> {
-        Ok(expr.has(&attrs.head, &attrs.tail))
+        Ok(expr.has(&attrs.head, &attrs.tail, self.source_loc))
     }
 
     fn like(self, _alloc: Global, expr: Outcome, pattern: Pattern) -> Result<Outcome, AllocError> {
-        Ok(expr.like(&pattern))
+        Ok(expr.like(&pattern, self.source_loc))
     }
 
     fn is_entity_type(
@@ -172,7 +178,7 @@ impl ExprBuilder for Evaluator {
         expr: Outcome,
         entity_type: EntityType,
     ) -> Result<Outcome, AllocError> {
-        Ok(expr.is_of_type(&entity_type))
+        Ok(expr.is_of_type(&entity_type, self.source_loc))
     }
 
     fn set(self, alloc: Global, members: Vec<Outcome>) -> Result<Outcome, AllocError>
@@ -181,7 +187,7 @@ impl ExprBuilder for Evaluator {
     {
         match split_row(alloc, members)? {
             Ok(values) => Ok(Outcome::of_value(set_of(alloc, values)?)),
-            Err(fault) => Ok(Outcome::fail(fault)),
+            Err(fault) => Ok(Outcome::of_fault(fault)),
         }
     }
 
@@ -197,7 +203,7 @@ impl ExprBuilder for Evaluator {
     {
         match split_pairs(alloc, pairs)? {
             Ok(values) => Ok(Outcome::of_value(record_of(alloc, values)?)),
-            Err(fault) => Ok(Outcome::fail(fault)),
+            Err(fault) => Ok(Outcome::of_fault(fault)),
         }
     }
 }

@@ -1,5 +1,9 @@
 //! Why an expression has no value.
-use cedar_names::Name;
+ghost use Rattle.std.specs.Prelude.{◌≡◌};
+ghost use Rattle.std.specs.Option.{option_copied};
+ghost use Rattle.cedar_evaluator.specs.Outcomes.{fault_in, place_in};
+
+use cedar_names::{Loc, Name};
 use std::fmt;
 use thiserror::Error;
 
@@ -35,6 +39,54 @@ impl fmt::Display for EvalFault {
             EvalFault::Missing => write!(f, "fault: missing"),
             EvalFault::Store => write!(f, "fault: store"),
         }
+    }
+}
+
+/// Why an evaluation gives no value, and where: the place of the first node, in the order of
+/// evaluation, that has operands with values and no value itself.
+///
+/// Its text is that of the fault. Places do not compare.
+#[derive(Debug, Drop, Error)]
+#[derive_where(PartialEq, Eq)]
+pub struct EvaluationFault {
+    fault: EvalFault,
+    #[derive_where(skip(EqHashOrd))]
+    source_loc: Option<Loc>,
+}
+
+impl EvaluationFault {
+    // A fault that comes up at this place.
+    pub(crate) fn new(fault: EvalFault, source_loc: Option<Loc>) -> EvaluationFault
+        ensures fault { fault_in result ≡ fault }
+        ensures place { place_in result ≡ source_loc }
+    {
+        EvaluationFault { fault, source_loc }
+    }
+
+    /// Why there is no value.
+    pub fn fault(&self) -> EvalFault
+        ensures { result ≡ fault_in self.now }
+    {
+        self.fault
+    }
+
+    /// The place of the node at which the fault came up, if it has one.
+    pub fn source_loc(&self) -> Option<&Loc>
+        ensures { option_copied result ≡ place_in self.now }
+    {
+        self.source_loc.as_ref()
+    }
+}
+
+impl fmt::Display for EvaluationFault {
+    ghost use Rattle.std.specs.Prelude.{Some};
+    ghost use Rattle.cedar_evaluator.specs.Outcomes.{bare_fault, fault_in};
+    ghost use Rattle.cedar_evaluator.specs.Texts.{fault_text};
+
+    ghost output = { λ e. Some (fault_text (bare_fault (fault_in e))) };
+
+    fn fmt<W: fmt::Write>(&self, f: &mut fmt::Formatter<W>) -> fmt::Result {
+        write!(f, "{}", self.fault)
     }
 }
 

@@ -11,8 +11,10 @@ pub mod operations;
 mod operators;
 mod outcome;
 mod rows;
+mod shared_value;
 
-pub use evaluation::evaluate;
+pub use evaluation::{evaluate, evaluate_shared};
 pub use evaluator::Evaluator;
-pub use fault::{CallRefused, EvalFault};
+pub use fault::{CallRefused, EvalFault, EvaluationFault};
 pub use outcome::Outcome;
+pub use shared_value::SharedValue;

@@ -4,9 +4,10 @@ ghost use Rattle.std.specs.Result.{ForOk};
 ghost use Rattle.cedar_values.specs.WellFormed.{well_formed};
 
 use crate::attributes::{attribute, has_path};
-use crate::fault::EvalFault;
+use crate::fault::{EvalFault, EvaluationFault};
 use crate::kinds::{as_bool, literal_value};
 use crate::operators::{apply_one, apply_two, is_like, is_of_type, test};
+use cedar_names::Loc;
 use cedar_terms::{BinaryOp, EntityType, Literal, Pattern, UnaryOp};
 use cedar_values::{NoExtension, Value};
 use std::alloc::{AllocError, Global};
@@ -26,7 +27,7 @@ use std::rc::RcStr;
 /// ```
 #[derive(Debug, Drop)]
 pub struct Outcome {
-    result: Result<Value<NoExtension>, EvalFault>,
+    result: Result<Value<NoExtension>, EvaluationFault>,
     ghost kept: { ForOk result (λ v. IsTrue (well_formed ⟦<NoExtension as Ord>⟧.cmp v)) },
 }
 
@@ -39,40 +40,45 @@ impl Outcome {
     ghost use Rattle.cedar_terms.specs.Entities.{bare_entity_type};
     ghost use Rattle.semantics_eval.specs.Attributes.{get_in, has_path as path_in, is_in, like_in};
     ghost use Rattle.semantics_eval.specs.Operators.{apply_one as one, apply_two as two};
-    ghost use Rattle.semantics_eval.specs.Outcomes.{as_truth, strict, strict_two};
+    ghost use Rattle.semantics_eval.specs.Outcomes.{Fault, as_truth, strict, strict_two};
     ghost use Rattle.cedar_evaluator.specs.Outcomes.{
       bare_fault,
+      fault_in,
       faulted,
       literal_outcome,
       meaning_of,
+      placed_result_of,
       result_of,
       truth_in,
+      unplaced,
     };
 
-    /// The value, or why there is none.
-    pub fn as_result(&self) -> &Result<Value<NoExtension>, EvalFault>
-        ensures same { result.now ≡ result_of self.now }
+    /// The value, or why and where there is none.
+    pub fn as_result(&self) -> &Result<Value<NoExtension>, EvaluationFault>
+        ensures placed { result.now ≡ placed_result_of self.now }
+        ensures same { unplaced result.now ≡ result_of self.now }
         ensures well_formed { IfOk result.now
             (λ v. IsTrue (well_formed ⟦<NoExtension as Ord>⟧.cmp v)) }
     {
         &self.result
     }
 
-    /// The value, or why there is none, of a consumed outcome.
-    pub fn into_result(self) -> Result<Value<NoExtension>, EvalFault>
-        ensures same { result ≡ result_of self }
+    /// The value, or why and where there is none, of a consumed outcome.
+    pub fn into_result(self) -> Result<Value<NoExtension>, EvaluationFault>
+        ensures placed { result ≡ placed_result_of self }
+        ensures same { unplaced result ≡ result_of self }
         ensures well_formed { IfOk result (λ v. IsTrue (well_formed ⟦<NoExtension as Ord>⟧.cmp v)) }
     {
         self.result
     }
 
-    // A literal, or a fault.
-    pub(crate) fn settle(settled: Result<Literal, EvalFault>) -> Outcome
+    // A literal, or a fault that comes up at this place.
+    pub(crate) fn settle(settled: Result<Literal, EvalFault>, source_loc: Option<Loc>) -> Outcome
         ensures { meaning_of result ≡ literal_outcome (faulted settled) }
     {
         match settled {
             Ok(literal) => Outcome::lit(literal),
-            Err(fault) => Outcome::fail(fault),
+            Err(fault) => Outcome::fail(fault, source_loc),
         }
     }
 
@@ -85,9 +91,16 @@ impl Outcome {
         }
     }
 
-    // A fault.
-    pub(crate) fn fail(fault: EvalFault) -> Outcome
+    // A fault that comes up at this place.
+    pub(crate) fn fail(fault: EvalFault, source_loc: Option<Loc>) -> Outcome
         ensures { meaning_of result ≡ Err (bare_fault fault) }
+    {
+        Outcome::of_fault(EvaluationFault::new(fault, source_loc))
+    }
+
+    // A fault.
+    pub(crate) fn of_fault(fault: EvaluationFault) -> Outcome
+        ensures { meaning_of result ≡ Err (bare_fault (fault_in fault)) }
     {
         Outcome { result: Err(fault) }
     }
@@ -101,61 +114,79 @@ impl Outcome {
                 Some(truth) => Ok(truth),
                 None => Err(EvalFault::WrongType),
             },
-            Err(fault) => Err(*fault),
+            Err(fault) => Err(fault.fault()),
+        }
+    }
+
+    // The fault of what is no Boolean: its own, or a wrong type at this place.
+    #[tactic(auto, using(crate::proofs::Truths::no_truth))]
+    pub(crate) fn no_truth(self, source_loc: Option<Loc>) -> Outcome
+        ensures { (f : Fault) → truth_in (meaning_of self) ≡ Err f → meaning_of result ≡ Err f }
+    {
+        match &self.result {
+            Ok(_) => Outcome::fail(EvalFault::WrongType, source_loc),
+            Err(_) => self,
         }
     }
 
     // The outcome, if it is a Boolean or a fault.
-    pub(crate) fn as_truth(&self) -> Outcome
-        ensures { meaning_of result ≡ strict as_truth (meaning_of self.now) }
+    pub(crate) fn into_truth(self, source_loc: Option<Loc>) -> Outcome
+        ensures { meaning_of result ≡ strict as_truth (meaning_of self) }
     {
         match self.truth() {
             Ok(truth) => Outcome::lit(Literal::Bool(truth)),
-            Err(fault) => Outcome::fail(fault),
+            Err(_) => self.no_truth(source_loc),
         }
     }
 
     // An operator on the value.
-    pub(crate) fn apply_one(&self, op: UnaryOp) -> Outcome
-        ensures { meaning_of result ≡ strict (one op) (meaning_of self.now) }
+    pub(crate) fn apply_one(self, op: UnaryOp, source_loc: Option<Loc>) -> Outcome
+        ensures { meaning_of result ≡ strict (one op) (meaning_of self) }
     {
         match &self.result {
-            Ok(value) => Outcome::settle(apply_one(op, value)),
-            Err(fault) => Outcome::fail(*fault),
+            Ok(value) => Outcome::settle(apply_one(op, value), source_loc),
+            Err(_) => self,
         }
     }
 
     // An operator on two values: the first fault in their place answers.
-    pub(crate) fn apply_two(op: BinaryOp, left: &Outcome, right: &Outcome) -> Outcome
+    pub(crate) fn apply_two(
+        op: BinaryOp,
+        left: Outcome,
+        right: Outcome,
+        source_loc: Option<Loc>,
+    ) -> Outcome
         ensures { meaning_of result
             ≡ strict_two (two ⟦<NoExtension as Ord>⟧.cmp ⟦<NoExtension as PartialEq>⟧.eq op)
-            (meaning_of left.now) (meaning_of right.now) }
+            (meaning_of left) (meaning_of right) }
     {
         match (&left.result, &right.result) {
-            (Ok(first), Ok(second)) => Outcome::settle(apply_two(op, first, second)),
-            (Ok(_), Err(fault)) => Outcome::fail(*fault),
-            (Err(fault), _) => Outcome::fail(*fault),
+            (Ok(first), Ok(second)) => Outcome::settle(apply_two(op, first, second), source_loc),
+            (Ok(_), Err(_)) => right,
+            (Err(_), _) => left,
         }
     }
 
     // Whether a pattern matches the text.
-    pub(crate) fn like(&self, pattern: &Pattern) -> Outcome
-        ensures { meaning_of result ≡ strict (like_in pattern.now) (meaning_of self.now) }
+    pub(crate) fn like(self, pattern: &Pattern, source_loc: Option<Loc>) -> Outcome
+        ensures { meaning_of result ≡ strict (like_in pattern.now) (meaning_of self) }
     {
         match &self.result {
-            Ok(value) => Outcome::settle(test::<NoExtension>(is_like(value, pattern))),
-            Err(fault) => Outcome::fail(*fault),
+            Ok(value) => {
+                Outcome::settle(test::<NoExtension>(is_like(value, pattern)), source_loc)
+            }
+            Err(_) => self,
         }
     }
 
     // Whether the entity is of a type.
-    pub(crate) fn is_of_type(&self, ty: &EntityType) -> Outcome
+    pub(crate) fn is_of_type(self, ty: &EntityType, source_loc: Option<Loc>) -> Outcome
         ensures { meaning_of result
-            ≡ strict (is_in (bare_entity_type ty.now)) (meaning_of self.now) }
+            ≡ strict (is_in (bare_entity_type ty.now)) (meaning_of self) }
     {
         match &self.result {
-            Ok(value) => Outcome::settle(test::<NoExtension>(is_of_type(value, ty))),
-            Err(fault) => Outcome::fail(*fault),
+            Ok(value) => Outcome::settle(test::<NoExtension>(is_of_type(value, ty)), source_loc),
+            Err(_) => self,
         }
     }
 
@@ -168,32 +199,37 @@ impl Outcome {
     }
 
     // The value of an attribute.
-    pub(crate) fn get(&self, alloc: Global, key: &RcStr) -> Result<Outcome, AllocError>
+    pub(crate) fn get(
+        self,
+        alloc: Global,
+        key: &RcStr,
+        source_loc: Option<Loc>,
+    ) -> Result<Outcome, AllocError>
         ensures { IfOk result (λ m.
-            meaning_of m ≡ strict (get_in (rc_str_bytes key.now)) (meaning_of self.now)) }
+            meaning_of m ≡ strict (get_in (rc_str_bytes key.now)) (meaning_of self)) }
     {
         match &self.result {
             Ok(value) => match attribute(value, key) {
                 Ok(Some(found)) => Ok(Outcome::of_value(found.clone(alloc)?)),
-                Ok(None) => Ok(Outcome::fail(EvalFault::Missing)),
-                Err(fault) => Ok(Outcome::fail(fault)),
+                Ok(None) => Ok(Outcome::fail(EvalFault::Missing, source_loc)),
+                Err(fault) => Ok(Outcome::fail(fault, source_loc)),
             },
-            Err(fault) => Ok(Outcome::fail(*fault)),
+            Err(_) => Ok(self),
         }
     }
 
     // Whether a path of attributes is there.
     #[tactic(auto, using(crate::proofs::Paths::fault_path))]
-    pub(crate) fn has(&self, first: &RcStr, rest: &[RcStr]) -> Outcome
+    pub(crate) fn has(self, first: &RcStr, rest: &[RcStr], source_loc: Option<Loc>) -> Outcome
         ensures { meaning_of result
-            ≡ path_in (meaning_of self.now) (rc_str_bytes first.now) (map rc_str_bytes rest.now) }
+            ≡ path_in (meaning_of self) (rc_str_bytes first.now) (map rc_str_bytes rest.now) }
     {
         match &self.result {
             Ok(value) => match has_path(value, first, rest) {
                 Ok(truth) => Outcome::lit(Literal::Bool(truth)),
-                Err(fault) => Outcome::fail(fault),
+                Err(fault) => Outcome::fail(fault, source_loc),
             },
-            Err(fault) => Outcome::fail(*fault),
+            Err(_) => self,
         }
     }
 }

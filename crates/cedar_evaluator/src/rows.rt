@@ -9,9 +9,9 @@ ghost use Rattle.cedar_values.specs.BareValues.{bare_value};
 ghost use Rattle.cedar_values.specs.Records.{key_cmp};
 ghost use Rattle.cedar_values.specs.WellFormed.{well_formed};
 ghost use Rattle.semantics_eval.specs.Rows.{all_pairs, all_values, set_value};
-ghost use Rattle.cedar_evaluator.specs.Outcomes.{faulted, meaning_of};
+ghost use Rattle.cedar_evaluator.specs.Outcomes.{faulted, meaning_of, unplaced};
 
-use crate::fault::EvalFault;
+use crate::fault::EvaluationFault;
 use crate::outcome::Outcome;
 use cedar_values::laws::{no_extension_values, values_by_kind};
 use cedar_values::{NoExtension, Set, Value, ValueKind};
@@ -25,8 +25,8 @@ use std::rc::{Rc, RcStr};
 pub(crate) fn split_row(
     alloc: Global,
     row: Vec<Outcome>,
-) -> Result<Result<Vec<Value<NoExtension>>, EvalFault>, AllocError>
-    ensures values { IfOk result (λ split. on_one (λ vs. map bare_value vs.items) (faulted split)
+) -> Result<Result<Vec<Value<NoExtension>>, EvaluationFault>, AllocError>
+    ensures values { IfOk result (λ split. on_one (λ vs. map bare_value vs.items) (faulted (unplaced split))
         ≡ all_values (map meaning_of row.items)) }
     ensures well_formed { IfOk result (λ split. IfOk split (λ vs.
         IsTrue (list_all (well_formed ⟦<NoExtension as Ord>⟧.cmp) vs.items))) }
@@ -63,9 +63,9 @@ pub fn set_of(
 pub(crate) fn split_pairs(
     alloc: Global,
     row: Vec<(RcStr, Outcome)>,
-) -> Result<Result<Vec<(RcStr, Value<NoExtension>)>, EvalFault>, AllocError>
+) -> Result<Result<Vec<(RcStr, Value<NoExtension>)>, EvaluationFault>, AllocError>
     ensures pairs { IfOk result (λ split.
-        on_one (λ ps. meant_pairs bare_value ps.items) (faulted split)
+        on_one (λ ps. meant_pairs bare_value ps.items) (faulted (unplaced split))
         ≡ all_pairs (meant_pairs meaning_of row.items)) }
     ensures keys { IfOk result (λ split. IfOk split (λ ps.
         keys_of ps.items ≡ keys_of row.items)) }

@@ -9,11 +9,11 @@ use Rattle.cedar_ast.specs.declared.BuildFault.{BuildFault}
 
 -- where building after substitution is building in some environment, and this is another one
 pub gives_in : {E D M F : Type 0} (meaning_of : E → M) (fault_of : D → F) (B : Ops M F)
-    (first second env other : Env) (rule left : BareExpr) (answer : Result E (BuildFault D))
-    → fold tree_ops first rule ≡ Ok left
+    (first second env other : Env) (rule substituted : BareExpr) (answer : Result E (BuildFault D))
+    → fold tree_ops first rule ≡ Ok substituted
     → fold B second (sure (fold tree_ops first rule)) ≡ fold B env rule → env ≡ other
-    → Gives meaning_of fault_of (fold B second left) answer
+    → Gives meaning_of fault_of (fold B second substituted) answer
     → Gives meaning_of fault_of (fold B other rule) answer
-gives_in meaning_of fault_of B first second env other rule left answer made twice is =
+gives_in meaning_of fault_of B first second env other rule substituted answer made twice is =
     subst (λ wanted. Gives meaning_of fault_of wanted answer)
     (ap (λ e. fold B second (sure e)) (sym made) ∙ twice ∙ ap (λ n. fold B n rule) is)

@@ -8,9 +8,9 @@ use Rattle.cedar_ast.specs.declared.BuildFault.{BuildFault}
 
 -- where the residual means the same
 pub gives_later : {E D M F : Type 0} (meaning_of : E → M) (fault_of : D → F) (B : Ops M F)
-    (later envs : Env) (rule rest left : BareExpr) (answer : Result E (BuildFault D))
-    → left ≡ rest → fold B later rest ≡ fold B envs rule
-    → Gives meaning_of fault_of (fold B later left) answer
+    (later envs : Env) (rule rest residual : BareExpr) (answer : Result E (BuildFault D))
+    → residual ≡ rest → fold B later rest ≡ fold B envs rule
+    → Gives meaning_of fault_of (fold B later residual) answer
     → Gives meaning_of fault_of (fold B envs rule) answer
-gives_later meaning_of fault_of B later envs rule rest left answer made same =
+gives_later meaning_of fault_of B later envs rule rest residual answer made same =
     subst (λ wanted. Gives meaning_of fault_of wanted answer) (ap (fold B later) made ∙ same)

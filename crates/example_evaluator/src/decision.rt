@@ -46,7 +46,10 @@ fn is_open(answer: &Result<Outcome, BuildFault<CallRefused>>) -> bool
     ensures { IsTrue result ↔ IsOkAnd answer.now (λ outcome. meaning_of outcome ≡ Err Open) }
 {
     match answer {
-        Ok(outcome) => matches!(outcome.as_result(), Err(EvalFault::Open)),
+        Ok(outcome) => match outcome.as_result() {
+            Ok(_) => false,
+            Err(fault) => matches!(fault.fault(), EvalFault::Open),
+        },
         Err(_) => false,
     }
 }
@@ -65,6 +68,6 @@ fn decide_in_both(
     substituted_twice::<Evaluator>();
     then_is_both_of_maps::<NoExtension>();
     plain_where_none::<NoExtension>();
-    let left = rule.substitute(alloc, first)?;
-    evaluate(alloc, &left, second)
+    let substituted = rule.substitute(alloc, first)?;
+    evaluate(alloc, &substituted, second)
 }

@@ -3,11 +3,11 @@
 #![tactic(auto)]
 
 mod decision;
-mod left;
+mod residual;
 mod values;
 
 use crate::decision::decide;
-use crate::left::{outcome_of_rest, what_is_left};
+use crate::residual::{outcome_of_residual, residual_text};
 use crate::values::{count_answers, has_number, numbers, worker};
 use cedar_ast::evaluator::{CallRefused, Outcome, evaluate};
 use cedar_ast::{BuildFault, Expr, Literal, PartialValue, Unknown, Value};
@@ -35,10 +35,10 @@ fn main(rt: HostRuntime) -> io::Result<()> {
     let at_night = decide(alloc, &rule, &night, &staff);
     show(&rt, "night, staff", at_night)?;
 
-    // What is left of the rule by the hour, and what that comes to with the badge.
+    // The residual of the rule by the hour, and what that comes to with the badge.
     for (when, hour) in [("morning", &morning), ("night", &night)] {
-        println!(rt; "{when}, left: {}", what_is_left(alloc, &rule, hour)?)?;
-        show(&rt, when, outcome_of_rest(alloc, &rule, hour, &staff))?;
+        println!(rt; "{when}, residual: {}", residual_text(alloc, &rule, hour)?)?;
+        show(&rt, when, outcome_of_residual(alloc, &rule, hour, &staff))?;
     }
     Ok(())
 }

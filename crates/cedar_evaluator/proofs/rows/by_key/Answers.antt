@@ -1,7 +1,7 @@
 use Rattle.std.proofs.Common.{ap, sym, ◌∙◌}
 use Rattle.std.specs.List.{list_all}
 use Rattle.std.specs.Vec.Iter.{into_iter_items}
-use Rattle.cedar_sorted_slices.specs.Ascending.{and_left, and_right}
+use Rattle.std.proofs.lemmas.Bool.{and_parts}
 use Rattle.cedar_values.specs.WellFormed.{well_formed}
 use Rattle.cedar_evaluator.proofs.Inserted.{kept_inserted}
 use Rattle.cedar_evaluator.proofs.Pairs.{put_next}
@@ -22,8 +22,8 @@ loop-key-preserved c =
           let kept = c.loop-key.invariant.1 R all in
           let rest = ap (list_all (λ p. well_formed R p.1)) (sym steps) ∙ kept.1 in (
             ap (list_all (λ e. well_formed R e.1)) put
-                ∙ kept_inserted (well_formed R) es k v kept.0 (and_left (well_formed R v) _ rest),
-            and_right (well_formed R v) _ rest,
+                ∙ kept_inserted (well_formed R) es k v kept.0 (and_parts (well_formed R v) _ rest).0,
+            (and_parts (well_formed R v) _ rest).1,
           ),
     )
 

@@ -14,7 +14,7 @@ use std::collections::HashMap;
 use std::rc::RcStr;
 
 /// The text of the rule's value, if it is known, or of its residual.
-pub fn what_is_left(
+pub fn residual_text(
     alloc: Global,
     rule: &Expr,
     now: &HashMap<RcStr, Value>,
@@ -31,7 +31,7 @@ pub fn what_is_left(
 
 /// What a rule comes to where two maps bind its unknowns: the outcome, with the second one, of the
 /// residual by the first one.
-pub fn outcome_of_rest(
+pub fn outcome_of_residual(
     alloc: Global,
     rule: &Expr,
     now: &HashMap<RcStr, Value>,
@@ -41,6 +41,6 @@ pub fn outcome_of_rest(
         let envs = both (plain_env now.now) (plain_env later.now) in
         Gives B.meaning_of B.fault_of (fold B.ops envs (bare_expr rule.now)) result }
 {
-    let left = simplify(alloc, rule, now)?.into_expr(alloc)?;
-    evaluate(alloc, &left, later)
+    let residual = simplify(alloc, rule, now)?.into_expr(alloc)?;
+    evaluate(alloc, &residual, later)
 }

@@ -1,0 +1,58 @@
+//! Bound values that evaluation takes as they are.
+ghost use Rattle.std.specs.Prelude.{◌≡◌, IfOk, IfErr, Ok, Err};
+ghost use Rattle.cedar_values.specs.BareValues.{bare_value};
+ghost use Rattle.cedar_values.specs.WellFormedValues.{value_of};
+ghost use Rattle.cedar_evaluator.specs.Outcomes.{bare_fault, fault_in, meaning_of};
+
+use crate::evaluator::Evaluator;
+use crate::fault::{CallRefused, EvaluationFault};
+use crate::outcome::Outcome;
+use cedar_builders::BuildFault;
+use cedar_exprs::ValueBuilder;
+use cedar_values::laws::{no_extension_values, well_formed_parts};
+use cedar_values::{NoExtension, WellFormedValue};
+use semantics_eval::laws::value_kept;
+use std::alloc::{AllocError, Global};
+
+/// Each bound value is shared: its outcome is the value itself, and no expression of it is built.
+/// So an unknown costs the same whatever the size of its value.
+pub struct SharedValue;
+
+impl ValueBuilder<Evaluator, WellFormedValue> for SharedValue {
+    fn build_value(
+        alloc: Global,
+        value: &WellFormedValue,
+    ) -> Result<Outcome, BuildFault<CallRefused>> {
+        value_kept::<NoExtension>();
+        no_extension_values();
+        well_formed_parts::<NoExtension>();
+        Ok(Outcome::share(alloc, value)?)
+    }
+}
+
+impl Outcome {
+    // A value that is known to be well formed: a copy, which shares what is inside.
+    fn share(alloc: Global, value: &WellFormedValue) -> Result<Outcome, AllocError>
+        ensures { IfOk result (λ m. meaning_of m ≡ Ok (bare_value (value_of value.now))) }
+    {
+        Ok(Outcome::of_value(value.as_value().clone(alloc)?))
+    }
+
+    /// The value as one that an unknown may be bound to, or why and where there is none. It is not
+    /// looked at.
+    ///
+    /// ```rust
+    /// if let Ok(value) = evaluate(alloc, &limit, &values)?.into_value() {
+    ///     drop(values.insert(RcStr::from_str(alloc, "limit")?, value)?);
+    /// }
+    /// ```
+    pub fn into_value(self) -> Result<WellFormedValue, EvaluationFault>
+        ensures value { IfOk result (λ w. meaning_of self ≡ Ok (bare_value (value_of w))) }
+        ensures fault { IfErr result (λ e. meaning_of self ≡ Err (bare_fault (fault_in e))) }
+    {
+        match self.into_result() {
+            Ok(value) => Ok(WellFormedValue::new_unchecked(value)),
+            Err(fault) => Err(fault),
+        }
+    }
+}
