@@ -5,7 +5,7 @@ use Rattle.std.specs.List.{cons_option, filter_map, list_all}
 use Rattle.std.specs.Rc.{rc_str_bytes}
 use Rattle.std.specs.declared.cmp.Ordering.{Ordering}
 use Rattle.std.specs.declared.rc.RcStr.{RcStr}
-use Rattle.cedar_sorted_slices.specs.Ascending.{and_left, and_right}
+use Rattle.std.proofs.lemmas.Bool.{and_parts}
 use Rattle.cedar_builders.specs.BareExpr.{Text, BareExpr}
 use Rattle.cedar_builders.specs.Fold.{on_one}
 use Rattle.cedar_builders.specs.Keys.{IsAscending, keys_of, meant_pairs}
@@ -57,8 +57,8 @@ all_known : (ps : List Simplified) → are_known ps ≡ true
 all_known [] h = refl
 all_known (p ∷ ps) h =
     one_known p.kind (filter_map held_value ps) (outcomes_of ps)
-    (and_left (is_known (meaning_of p)) (are_known ps) h)
-    (all_known ps (and_right (is_known (meaning_of p)) (are_known ps) h))
+    (and_parts (is_known (meaning_of p)) (are_known ps) h).0
+    (all_known ps (and_parts (is_known (meaning_of p)) (are_known ps) h).1)
 
 not_known : (ps : List Simplified) → are_known ps ≡ false → all_values (outcomes_of ps) ≡ Err Open
 not_known [] h = cc
@@ -110,8 +110,8 @@ pairs_known : (ps : List (RcStr Global × Simplified)) → have_known ps ≡ tru
 pairs_known [] h = refl
 pairs_known (p ∷ ps) h =
     pair_known p.0 p.1.kind (filter_map held_pair ps) (outcomes_by_key ps)
-    (and_left (is_known (meaning_of p.1)) (have_known ps) h)
-    (pairs_known ps (and_right (is_known (meaning_of p.1)) (have_known ps) h))
+    (and_parts (is_known (meaning_of p.1)) (have_known ps) h).0
+    (pairs_known ps (and_parts (is_known (meaning_of p.1)) (have_known ps) h).1)
 
 pairs_residual : (ps : List (RcStr Global × Simplified)) → have_known ps ≡ false
     → all_pairs (outcomes_by_key ps) ≡ Err Open
@@ -147,9 +147,9 @@ known_keys : (ps : List (RcStr Global × Simplified)) → have_known ps ≡ true
 known_keys [] h = refl
 known_keys (p ∷ ps) h =
     key_known p.0 p.1.kind (filter_map held_pair ps)
-    (and_left (is_known (meaning_of p.1)) (have_known ps) h)
+    (and_parts (is_known (meaning_of p.1)) (have_known ps) h).0
     ∙ ap (λ ks. rc_str_bytes p.0 ∷ ks)
-    (known_keys ps (and_right (is_known (meaning_of p.1)) (have_known ps) h))
+    (known_keys ps (and_parts (is_known (meaning_of p.1)) (have_known ps) h).1)
 
 -- the record that is made of values, each of which is known
 pub known_record : (node : BareExpr) (ps : List (RcStr Global × Simplified)) (t : BareValue NoExtension)

@@ -7,11 +7,13 @@ mod children;
 mod kind;
 mod operations;
 mod residual;
+mod shared_value;
 mod simplification;
 mod simplified;
 mod simplifier;
 mod tree;
 
-pub use simplification::simplify;
+pub use shared_value::SharedValue;
+pub use simplification::{simplify, simplify_shared};
 pub use simplified::Simplified;
 pub use simplifier::Simplifier;

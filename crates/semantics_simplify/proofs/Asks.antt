@@ -3,7 +3,7 @@ use Rattle.std.proofs.Common.{◌≡◌, refl, sym, subst, Bool, true, false, �
 use Rattle.std.specs.List.{list_all}
 use Rattle.std.specs.Prelude.{if◌then◌else◌}
 use Rattle.std.specs.declared.cmp.Ordering.{Ordering}
-use Rattle.cedar_sorted_slices.specs.Ascending.{and_left}
+use Rattle.std.proofs.lemmas.Bool.{and_parts}
 use Rattle.cedar_names.specs.Names.{BareName}
 use Rattle.cedar_terms.specs.Types.{BareType}
 use Rattle.cedar_builders.specs.BareExpr.{Text, BareExpr, Lit, Var, Slot, Unknown, If, And, Or, UnaryApp, BinaryApp, ExtensionFunctionApp, GetAttr, HasAttr, Like, Set, Record, Is, BareExprs, no_trees, tree, BareFields, no_fields, field}
@@ -146,7 +146,7 @@ module _ {X : Type 0} {R : X → X → Ordering} {E : X → X → Bool} (laws : 
       passed (Lit l) h = tt
       passed (Var v) h = h
       passed (Slot s) h = h
-      passed (Unknown n t) h = at_unbound n t (and_left (P (Unknown n t)) true h)
+      passed (Unknown n t) h = at_unbound n t (and_parts (P (Unknown n t)) true h).0
       passed (If a b c) h =
           let p = behind P (If a b c) (preorder a ∷ preorder b ∷ preorder c ∷ []) h in
           sure_three Both Passes ops.if_of (on_three if_outcome) of_if
@@ -180,7 +180,7 @@ module _ {X : Type 0} {R : X → X → Ordering} {E : X → X → Bool} (laws : 
       passed (ExtensionFunctionApp n es) h =
           sure_then ChildrenPass Passes (λ ps. Residual (ExtensionFunctionApp n (child_trees C ps)))
           (and_then (λ ms. Err n))
-          (λ ps r k i. and_left (Q (OfCall n)) _ h i
+          (λ ps r k i. (and_parts (Q (OfCall n)) _ h).0 i
           && together (passes Q) (rows (child_trees C ps)) k i)
           (fold_all ops g es) (fold_all (evaluator_ops R E) f es)
           (all_passed es (behind P (ExtensionFunctionApp n es) (rows es) h))

@@ -1,10 +1,9 @@
 -- What passes at every position, and trees that hold no call.
 use Rattle.std.proofs.Common.{◌≡◌, refl, sym, ◌∙◌, ap, Bool, true, false, ◌&&◌, List, [], ◌∷◌, map, Option, Result, Ok, Err}
-use Rattle.std.proofs.lemmas.Bool.{true≢false, false≢true, or_parts}
+use Rattle.std.proofs.lemmas.Bool.{and_parts, true≢false, false≢true, or_parts}
 use Rattle.std.proofs.lemmas.List.Folds.{list_all-append}
 use Rattle.std.specs.List.{AllByRecursion, list_all}
 use Rattle.std.specs.declared.cmp.Ordering.{Ordering}
-use Rattle.cedar_sorted_slices.specs.Ascending.{and_left, and_right}
 use Rattle.cedar_names.specs.Names.{BareName}
 use Rattle.cedar_terms.specs.Literals.{BareLiteral}
 use Rattle.cedar_terms.specs.Types.{BareType}
@@ -33,7 +32,7 @@ module _ (P : BareExpr → Bool) where
   each [] h = tt
   each (xs ∷ rest) h =
       let k = sym (list_all-append P xs (forward rest)) ∙ h in
-      (and_left (list_all P xs) _ k, each rest (and_right (list_all P xs) _ k))
+      ((and_parts (list_all P xs) _ k).0, each rest (and_parts (list_all P xs) _ k).1)
 
   pub together : (xss : List (List BareExpr)) → AllPass xss → list_all P (forward xss) ≡ true
   together [] h = refl
@@ -43,7 +42,7 @@ module _ (P : BareExpr → Bool) where
   -- what passes at a node and behind it passes behind it
   pub behind : (e : BareExpr) (xss : List (List BareExpr)) → list_all P (e ∷ forward xss) ≡ true
       → AllPass xss
-  behind e xss h = each xss (and_right (P e) (list_all P (forward xss)) h)
+  behind e xss h = each xss (and_parts (P e) (list_all P (forward xss)) h).1
 
   pub only : (e a : BareExpr) → list_all P (e ∷ forward (preorder a ∷ [])) ≡ true
       → list_all P (preorder a) ≡ true
@@ -102,8 +101,8 @@ pub weaker : (P Q : BareExpr → Bool) → ((e : BareExpr) → P e ≡ true → 
     → (es : List BareExpr) → list_all P es ≡ true → list_all Q es ≡ true
 weaker P Q f [] h = refl
 weaker P Q f (e ∷ es) h =
-    let here = f e (and_left (P e) _ h) in
-    let rest = weaker P Q f es (and_right (P e) _ h) in
+    let here = f e (and_parts (P e) _ h).0 in
+    let rest = weaker P Q f es (and_parts (P e) _ h).1 in
     λ i. here i && rest i
 
 -- the answer is no error

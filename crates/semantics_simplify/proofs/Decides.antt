@@ -1,11 +1,10 @@
 -- Where no position is a variable, a slot, a call, or an unknown that is not bound, a value of the
 -- outcome is known: one lemma a kind, and one induction over trees.
 use Rattle.std.proofs.Common.{◌≡◌, refl, sym, ◌∙◌, ap, subst, Bool, true, false, ◌&&◌, ◌||◌, List, [], ◌∷◌, map, Option, Some, None, Result, Ok, Err}
-use Rattle.std.proofs.lemmas.Bool.{false≢true}
+use Rattle.std.proofs.lemmas.Bool.{and_parts, false≢true}
 use Rattle.std.specs.List.{list_all}
 use Rattle.std.specs.Prelude.{is_some, if◌then◌else◌}
 use Rattle.std.specs.declared.cmp.Ordering.{Ordering}
-use Rattle.cedar_sorted_slices.specs.Ascending.{and_left, and_right}
 use Rattle.cedar_names.specs.Names.{BareName}
 use Rattle.cedar_terms.specs.Literals.{BoolLit}
 use Rattle.cedar_terms.specs.Types.{BareType}
@@ -38,7 +37,7 @@ is_settled_node env e = is_closed_node env e && passes is_no_call e
 -- such a node is no call
 node_calls : (env : Env) (e : BareExpr) → is_settled_node env e ≡ true
     → passes (is_bound_or env is_no_call) e ≡ true
-node_calls env (Unknown n t) h = ap (λ b. b || true) (and_left (is_some (env n)) true h)
+node_calls env (Unknown n t) h = ap (λ b. b || true) (and_parts (is_some (env n)) true h).0
 node_calls env (ExtensionFunctionApp n es) h = h
 node_calls env e h = refl
 
@@ -47,8 +46,8 @@ pub both_pass : (P Q : BareExpr → Bool) (es : List BareExpr) → list_all P es
 both_pass P Q [] h k = refl
 both_pass P Q (e ∷ es) h k =
     let here : (P e && Q e) ≡ true =
-    λ i. and_left (P e) _ h i && and_left (Q e) _ k i in
-    let rest = both_pass P Q es (and_right (P e) _ h) (and_right (Q e) _ k) in
+    λ i. (and_parts (P e) _ h).0 i && (and_parts (Q e) _ k).0 i in
+    let rest = both_pass P Q es (and_parts (P e) _ h).1 (and_parts (Q e) _ k).1 in
     λ i. here i && rest i
 
 three_given : {A D F : Type 0} (f : A → A → A → D) (x y z : Result A F) (d : D)
@@ -367,7 +366,7 @@ module _ {X : Type 0} {R : X → X → Ordering} {E : X → X → Bool} (laws : 
       decided (Var v) h = absurd (false≢true h)
       decided (Slot s) h = absurd (false≢true h)
       decided (Unknown n t) h =
-          at_bound n t (and_left (is_some (env n)) true (and_left (is_some (env n) && true) true h))
+          at_bound n t (and_parts (is_some (env n)) true (and_parts (is_some (env n) && true) true h).0).0
       decided (If a b c) h =
           let p = behind P (If a b c) (preorder a ∷ preorder b ∷ preorder c ∷ []) h in
           sure_three Both Decides ops.if_of (on_three if_outcome) of_if

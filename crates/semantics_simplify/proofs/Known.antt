@@ -20,7 +20,7 @@ use Rattle.semantics_eval.specs.Laws.{is_closed_node, is_closed}
 use Rattle.semantics_simplify.specs.Asks.{Ask, OfUnknown, passes, asks_only, is_bound_or, is_no_call, holds_no_call}
 use Rattle.semantics_simplify.specs.Simplified.{Simplified, Known, tree_of, outcome_of}
 use Rattle.semantics_simplify.specs.Simplifier.{simplifier_ops, simplified_in}
-use Rattle.semantics_simplify.specs.Laws.{ClosedIsKnown, AsksNoMore}
+use Rattle.semantics_simplify.specs.Laws.{ClosedIsKnown, AsksNoMore, ValueKnown}
 use Rattle.semantics_simplify.proofs.Plain.{IsPlain}
 use Rattle.semantics_simplify.proofs.Values.{IsPlainTree, EvaluatorLaws, bound_value, evaluates}
 use Rattle.semantics_simplify.proofs.Calls.{value_passes, IsAnswer}
@@ -174,3 +174,11 @@ module _ {X : Type 0} {R : X → X → Ordering} {E : X → X → Bool} (laws : 
 
   pub asks_no_more : AsksNoMore R E
   asks_no_more C env plain Q e h = asked_in laws C env plain Q e h
+
+  -- nothing is bound
+  nothing_bound : (C : X → BareCall) → BindsPlainValues C empty
+  nothing_bound C n r is = cc
+
+  pub value_known : ValueKnown R E
+  value_known C t kept plain =
+      value_made laws C empty (nothing_bound C) t (record { well_formed = kept; plain = plain })

@@ -1,6 +1,6 @@
 -- Of well formed values without extension values, the evaluator's operations make such values.
 use Rattle.std.proofs.Common.{◌≡◌, refl, ◌∙◌, ap, Bool, true, false, ◌&&◌, ◌||◌, List, [], ◌∷◌, ℤ, neg_ℤ, ◌+ℤ◌, ◌-ℤ◌, ◌*ℤ◌, int_lt, int_le, Option, Some, None, Result, Ok, Err}
-use Rattle.std.proofs.lemmas.Bool.{or_parts}
+use Rattle.std.proofs.lemmas.Bool.{and_parts, or_parts}
 use Rattle.std.specs.Prelude.{cond, nat_eq, if◌then◌else◌}
 use Rattle.std.specs.BTreeSet.{insert_key}
 use Rattle.std.specs.Cmp.Lexicographic.{pointwise}
@@ -10,7 +10,7 @@ use Rattle.std.specs.Ordering.{match_ordering}
 use Rattle.std.specs.declared.cmp.Ordering.{Ordering}
 use Rattle.std.specs.declared.cmp.Ordering.TheVariants.{Less, Equal, Greater}
 use Rattle.cedar_sorted_slices.specs.Classes.{ascends}
-use Rattle.cedar_sorted_slices.specs.Ascending.{and_left, and_right, ascends_of_sorted}
+use Rattle.cedar_sorted_slices.specs.Ascending.{ascends_of_sorted}
 use Rattle.cedar_names.specs.Names.{BareName}
 use Rattle.cedar_terms.specs.Literals.{BareLiteral, BoolLit, LongLit, StringLit, EntityLit}
 use Rattle.cedar_terms.specs.declared.ops.UnaryOp.{UnaryOp}
@@ -111,12 +111,12 @@ module _ {X : Type 0} (R : X → X → Ordering) where
   at_key k no_pairs w h = tt
   at_key k (pair j t ps) w h =
       go (pointwise nat_eq k j)
-      (at_key k ps (and_right (is_well_formed R t) _ w) (or_parts (has_extension t) _ h).1)
+      (at_key k ps (and_parts (is_well_formed R t) _ w).1 (or_parts (has_extension t) _ h).1)
     where
       go : (b : Bool) → IfPlain (ok_or (value_at k ps) Missing)
           → IfPlain (ok_or (cond b (Some t) (value_at k ps)) Missing)
       go true rest = record {
-        well_formed = and_left (is_well_formed R t) _ w;
+        well_formed = (and_parts (is_well_formed R t) _ w).0;
         plain = (or_parts (has_extension t) _ h).0;
       }
       go false rest = rest

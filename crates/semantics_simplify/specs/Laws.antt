@@ -3,18 +3,19 @@ use Rattle.std.specs.Prelude.{◌≡◌, Bool, false, ◌&&◌, IsTrue, Ok}
 use Rattle.std.specs.List.{list_all}
 use Rattle.std.specs.declared.cmp.Ordering.{Ordering}
 use Rattle.cedar_builders.specs.BareExpr.{BareExpr}
-use Rattle.cedar_builders.specs.Environment.{Env, fold}
+use Rattle.cedar_builders.specs.Environment.{Env, empty, fold}
 use Rattle.cedar_builders.specs.Laws.{both}
 use Rattle.cedar_builders.specs.Trees.{tree_ops, sure}
 use Rattle.cedar_builders.specs.Walks.{children}
 use Rattle.semantics_values.specs.BareValue.{BareCall, BareValue}
 use Rattle.semantics_values.specs.ValueExpr.{value_expr, has_extension}
+use Rattle.semantics_values.specs.WellFormed.{is_well_formed}
 use Rattle.semantics_values.specs.Laws.{BindsPlainValues}
 use Rattle.semantics_eval.specs.Evaluator.{evaluator_ops}
 use Rattle.semantics_eval.specs.Laws.{is_closed}
 use Rattle.semantics_simplify.specs.Asks.{Ask, passes, asks_only, is_bound_or, holds_no_call}
 use Rattle.semantics_simplify.specs.Simplified.{Known, tree_of}
-use Rattle.semantics_simplify.specs.Simplifier.{simplified_in, simplified}
+use Rattle.semantics_simplify.specs.Simplifier.{simplifier_ops, simplified_in, simplified}
 
 -- R and E are the order and the equality of extension values
 module _ {X : Type 0} (R : X → X → Ordering) (E : X → X → Bool) where
@@ -57,6 +58,12 @@ module _ {X : Type 0} (R : X → X → Ordering) (E : X → X → Bool) where
       → IsTrue (is_closed env e) → IsTrue (holds_no_call e)
       → (t : BareValue X) → fold (evaluator_ops R E) env e ≡ Ok (Ok t)
       → simplified_in R E C env e ≡ Known t
+
+  -- the expression of a well formed value without extension values is made that value, known
+  abbrev pub ValueKnown : Type 0
+  ValueKnown =
+      (C : X → BareCall) (t : BareValue X) → IsTrue (is_well_formed R t) → has_extension t ≡ false
+      → fold (simplifier_ops R E C) empty (value_expr C t) ≡ Ok (Known t)
 
   -- where unknowns are bound to such values, the simplified tree asks only for what the tree asks
   -- for, and for no unknown that is bound

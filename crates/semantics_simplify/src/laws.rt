@@ -14,6 +14,7 @@ ghost use Rattle.semantics_simplify.specs.Laws.{
   PartialIsSound,
   SimplifiedTwice,
   StagesAreOne,
+  ValueKnown,
   ValuesAskNothing,
 };
 ghost use Rattle.semantics_simplify.specs.Simplifier.{simplifier_ops};
@@ -68,6 +69,15 @@ pub fn known_stays<X: Ord>()
 /// slot and no call, and the outcome is a value, the tree is made that value.
 pub fn closed_is_known<X: Ord>()
     ensures { ClosedIsKnown X.cmp X.eq }
+{
+    value_kept::<X>();
+    ascending_lists::<X>();
+}
+
+/// The expression of a well formed value without extension values is made that value, which is
+/// known: so a value that an unknown is bound to need not be written out as an expression.
+pub fn value_known<X: Ord>()
+    ensures { ValueKnown X.cmp X.eq }
 {
     value_kept::<X>();
     ascending_lists::<X>();
