@@ -3,6 +3,7 @@ pub mod EscapeTexts
 pub mod FirstPieceLemmas
 pub mod FirstTokenLemmas
 pub mod Lines
+pub mod OneText
 pub mod OneWay
 pub mod Pairs
 pub mod ReadingLemmas

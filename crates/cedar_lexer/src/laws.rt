@@ -26,3 +26,11 @@ pub fn texts_read_back()
     ensures patterns { (es : List PatternElem) → IsTrue (has_scalars es) →
         IsInsideOfPattern (chars (encode_utf8_all (pattern_text es))) es }
 {}
+
+/// What is written between quotes stands for one text, and for one pattern.
+pub fn texts_are_unique()
+    ensures texts { (inside cs ds : List ℕ) →
+        IsInsideOfText inside cs → IsInsideOfText inside ds → cs ≡ ds }
+    ensures patterns { (inside : List ℕ) (es fs : List PatternElem) →
+        IsInsideOfPattern inside es → IsInsideOfPattern inside fs → es ≡ fs }
+{}
