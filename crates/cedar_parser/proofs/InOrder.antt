@@ -120,6 +120,16 @@ pub step_about : (at : ℕ) (span : Span) (old new : TokenStream) (r : Parser) (
 step_about at span old new r (Ok h) u l p f = left_from at _ old new (omega (arith, u.opened, u.operand)) l
 step_about at span old new r (Err e) u l p f = about span (stop_of old) e p f u
 
+-- a step that takes the last token of what begins at a place
+pub step_ended : (at start : ℕ) (old new : TokenStream) (t : Token) (r : Parser) (result : Result (Option Operand) ParseFailure)
+    → IsBefore at old → IsTaken old t new → start ≤ at
+    → MatchResult result (IsUpTo at r) (IsAbout (record { start = start; stop = t.span.stop }))
+    → IsStep old new r result
+step_ended at start old new t r result b h p u =
+    let k = taken at old new t b h in
+    step_about at (record { start = start; stop = t.span.stop }) old new r result u
+    (skipped at old new t b h) (omega (arith, p, k.0.first, k.0.piece)) (omega (arith, k.0.fits, k.1))
+
 pub step_opened : (at : ℕ) (old new : TokenStream) (r : Parser) (result : Result (Option Operand) ParseFailure)
     → MatchResult result (IsUpTo at r) (λ e. e ≡ failure.Memory) → IsLeft at old new
     → IsStep old new r result

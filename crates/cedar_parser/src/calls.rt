@@ -58,7 +58,10 @@ impl Nodes<'_> {
         }
         match BinaryOp::from_text(method) {
             Some(op) => self.binary_method(op, args, span),
-            None => self.extension_method(method, args, span),
+            None => {
+                let name = name_of(self.alloc, method, span)?;
+                Ok(self.extension_call(name, args, span)?)
+            }
         }
     }
 
@@ -92,19 +95,6 @@ impl Nodes<'_> {
             }
             _ => Err(ParseFailure::Syntax(span, WRONG_COUNT)),
         }
-    }
-
-    // A method of an extension.
-    fn extension_method(
-        &self,
-        method: &str,
-        args: Vec<Expr>,
-        span: Span,
-    ) -> Result<Expr, ParseFailure>
-        ensures { IfErr result (IsAbout span) }
-    {
-        let name = name_of(self.alloc, method, span)?;
-        Ok(self.extension_call(name, args, span)?)
     }
 }
 

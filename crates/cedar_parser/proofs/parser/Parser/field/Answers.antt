@@ -1,17 +1,13 @@
 use Rattle.std.proofs.Common.{max, arith}
 use Rattle.cedar_parser.specs.Refused.{next_start, open_start}
-use Rattle.cedar_parser.proofs.InOrder.{left_from, maybe_taken, skipped, step_about, step_opened, taken, then_left}
+use Rattle.cedar_parser.proofs.InOrder.{left_from, maybe_taken, skipped, step_ended, step_opened, then_left}
 use Rattle.cedar_parser.proofs.parser.Parser.field.Goals as goal
 
 pub returns-in-Some-clause-goes_on : goal.returns-in-Some-clause-goes_on
 returns-in-Some-clause-goes_on c =
     let at = max (open_start c.args.self.now) c.args.start in
-    let old = c.args.tokens.now in
-    let new = c.take_if.new.self in
-    let t = c.in-Some.field-0 in
-    let k = taken at old new t c.requires c.in-Some.ensures.gives.1 in
-    step_about at (record { start = c.args.start; stop = t.span.stop }) old new c.record.new.self c.record.result c.record.ensures
-    (skipped at old new t c.requires c.in-Some.ensures.gives.1) (omega (arith, k.0.first, k.0.piece)) (omega (arith, k.0.fits, k.1))
+    step_ended at c.args.start c.args.tokens.now c.take_if.new.self c.in-Some.field-0 c.record.new.self c.record.result
+    c.requires c.in-Some.ensures.gives.1 (omega arith) c.record.ensures
 
 pub returns-clause-goes_on : goal.returns-clause-goes_on
 returns-clause-goes_on c =
