@@ -1,14 +1,14 @@
 //! The answer to a condition.
 use crate::bindings::Bindings;
-use crate::place::fault_place;
 use cedar_builders::BuildFault;
-use cedar_evaluator::{EvalFault, evaluate};
+use cedar_evaluator::{EvalFault, evaluate_shared};
 use cedar_exprs::Expr;
-use cedar_parser::{ParseError, SyntaxError, parse_with_values};
+use cedar_names::Loc;
+use cedar_parser::{Excerpt, ParseError, SyntaxError, parse_with_values};
 use cedar_printer::policy_text;
-use cedar_simplifier::simplify;
+use cedar_simplifier::simplify_shared;
+use cedar_values::Value;
 use std::alloc::{AllocError, Global};
-use std::collections::HashMap;
 use std::fmt;
 
 /// What comes of a condition, as text in Cedar's syntax.
@@ -75,30 +75,31 @@ fn answer_expr(
     expr: &Expr,
     bindings: &Bindings,
 ) -> Result<Answer, AllocError> {
-    let part = simplify(alloc, expr, &bindings.values)?;
-    let is_known = part.is_known();
-    let residual = part.into_expr(alloc)?;
-    if is_known {
-        return Ok(Answer::Value(policy_text(alloc, &residual)?.text));
-    }
-    match lasting_fault(alloc, &residual)? {
-        Some(words) => answer_fault(alloc, text, words, &residual),
-        None => Ok(Answer::Residual(policy_text(alloc, &residual)?.text)),
-    }
-}
-
-// The fault of a residual, in words, if no binding, store of entities or function takes it away.
-fn lasting_fault(alloc: Global, residual: &Expr) -> Result<Option<&'static str>, AllocError> {
-    match evaluate(alloc, residual, &HashMap::new(alloc)) {
-        Ok(outcome) => match outcome.as_result() {
-            Ok(_) => Ok(None),
-            Err(fault) => Ok(lasting(*fault)),
+    match evaluate_shared(alloc, expr, &bindings.values) {
+        Ok(outcome) => match outcome.into_result() {
+            Ok(value) => answer_value(alloc, &value),
+            Err(fault) => match lasting(fault.fault()) {
+                Some(words) => answer_fault(alloc, text, words, fault.source_loc()),
+                None => answer_residual(alloc, expr, bindings),
+            },
         },
-        Err(BuildFault::Build(_)) => Ok(None),
+        Err(BuildFault::Build(_)) => answer_residual(alloc, expr, bindings),
         Err(BuildFault::Memory) => Err(AllocError),
     }
 }
 
+fn answer_value(alloc: Global, value: &Value) -> Result<Answer, AllocError> {
+    let expr = value.to_expr(alloc)?;
+    Ok(Answer::Value(policy_text(alloc, &expr)?.text))
+}
+
+// The residual of what has no value yet.
+fn answer_residual(alloc: Global, expr: &Expr, bindings: &Bindings) -> Result<Answer, AllocError> {
+    let residual = simplify_shared(alloc, expr, &bindings.values)?.into_expr(alloc)?;
+    Ok(Answer::Residual(policy_text(alloc, &residual)?.text))
+}
+
+// A fault in words, if no binding and no store of entities takes it away.
 fn lasting(fault: EvalFault) -> Option<&'static str> {
     match fault {
         EvalFault::WrongType => Some("a value has the wrong type"),
@@ -108,15 +109,20 @@ fn lasting(fault: EvalFault) -> Option<&'static str> {
     }
 }
 
-// A residual's fault, with its place.
+// A fault in words, with its place in the text.
 fn answer_fault(
     alloc: Global,
     text: &str,
     words: &str,
-    residual: &Expr,
+    place: Option<&Loc>,
 ) -> Result<Answer, AllocError> {
-    let text = match fault_place(alloc, text, residual)? {
-        Some(piece) => {
+    let text = match place {
+        Some(place) => {
+            let piece = Excerpt {
+                text,
+                start: place.start,
+                stop: place.stop,
+            };
             let (line, column) = (piece.line(), piece.column());
             format!(in alloc; "line {line}, column {column}: {words}\n{piece}")?
         }

@@ -5,7 +5,7 @@ ghost use Rattle.cedar_conditions.specs.declared.bindings.BindingsError.TheVaria
 use crate::json::{NoValue, expr_of};
 use cedar_exprs::Expr;
 use cedar_terms::Unknown;
-use cedar_values::{NotValue, Value};
+use cedar_values::{NotValue, Value, WellFormedValue};
 use std::alloc::{AllocError, AllocFailed, Global};
 use std::collections::HashMap;
 use std::rc::RcStr;
@@ -16,7 +16,7 @@ use thiserror::Error;
 #[derive(Drop)]
 pub struct Bindings {
     // The values of those that have one.
-    pub(crate) values: HashMap<RcStr, Value>,
+    pub(crate) values: HashMap<RcStr, WellFormedValue>,
     // What each is parsed as: one that has a value as the unknown of that name.
     pub(crate) parsed_as: HashMap<RcStr, Expr>,
 }
@@ -133,9 +133,9 @@ fn member(
 }
 
 // The value of an expression, if no call stands in it.
-fn value_of(alloc: Global, expr: &Expr) -> Result<Option<Value>, AllocError> {
+fn value_of(alloc: Global, expr: &Expr) -> Result<Option<WellFormedValue>, AllocError> {
     match Value::try_from_expr(alloc, expr.clone(alloc)?) {
-        Ok(value) => Ok(Some(value)),
+        Ok(value) => Ok(Some(WellFormedValue::new_unchecked(value))),
         Err(NotValue::NotValue { loc: _loc }) => Ok(None),
         Err(NotValue::Memory) => Err(AllocError),
     }

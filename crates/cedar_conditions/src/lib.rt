@@ -4,7 +4,6 @@
 mod answer;
 mod bindings;
 mod json;
-mod place;
 
 pub use answer::{Answer, evaluate_condition};
 pub use bindings::{Bindings, BindingsError};
