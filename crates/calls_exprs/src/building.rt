@@ -1,8 +1,14 @@
 //! What builders make of an expression, before substitution and after.
+ghost use Rattle.std.specs.Prelude.{◌≡◌, IfOk, Ok};
+ghost use Rattle.cedar_builders.specs.Environment.{empty, fold};
+ghost use Rattle.cedar_builders.specs.Trees.{tree_ops};
+ghost use Rattle.cedar_exprs.specs.BareExpr.{bare_expr};
+
 use crate::chosen::{Chosen, bit};
 use crate::substitution::{clash_text, refusal_of, substituted, substituted_typed};
 use calls_decode::{KeyedValue, bindings, placed, sketch};
 use calls_syntax::{CallError, Sexpr, holds, ok};
+use cedar_exprs::laws::struct_makes_trees;
 use cedar_exprs::{Expr, ExprBuilder, TypedBuildFault};
 use std::alloc::{AllocError, Global};
 use std::collections::HashMap;
@@ -21,7 +27,10 @@ pub fn rebuild_placed(alloc: Global, e: &Expr) -> Result<String, CallError> {
 
 /// What the struct makes again. The type of data is a parameter: at a concrete one the check of the
 /// call's bound does not come to its end.
-pub fn rebuilt<T: Default + Copy>(alloc: Global, e: &Expr<T>) -> Result<Expr<T>, AllocError> {
+pub fn rebuilt<T: Default + Copy>(alloc: Global, e: &Expr<T>) -> Result<Expr<T>, AllocError>
+    ensures { IfOk result (λ made. fold tree_ops empty (bare_expr e.now) ≡ Ok (bare_expr made)) }
+{
+    struct_makes_trees::<T>();
     e.into_expr::<ExprBuilder<T>>(alloc)
 }
 

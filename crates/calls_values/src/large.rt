@@ -1,8 +1,14 @@
 //! Sets of very many equal values, and records of very many keys.
+ghost use Rattle.std.specs.Prelude.{◌≡◌, IfOk, Ok};
+ghost use Rattle.cedar_builders.specs.Environment.{empty, fold};
+ghost use Rattle.cedar_builders.specs.Trees.{tree_ops};
+ghost use Rattle.cedar_exprs.specs.BareExpr.{bare_expr};
+
 use crate::copies::is_same;
 use calls_decode::{Keyed, KeyedValue, value};
 use calls_syntax::{Answer, CallError, Sexpr, count, holds};
 use cedar_builders::ExpressionConstructionError;
+use cedar_exprs::laws::struct_makes_trees;
 use cedar_exprs::{Expr, ExprBuilder};
 use cedar_values::{NotValue, Set, Value, ValueKind};
 use std::alloc::{AllocError, Global};
@@ -237,7 +243,10 @@ fn substituted(alloc: Global, e: &Expr) -> Result<Expr, AllocError> {
 }
 
 // The type of data is a parameter: at a concrete one the check of the call's bound takes long.
-fn rebuilt<T: Default + Copy>(alloc: Global, e: &Expr<T>) -> Result<Expr<T>, AllocError> {
+fn rebuilt<T: Default + Copy>(alloc: Global, e: &Expr<T>) -> Result<Expr<T>, AllocError>
+    ensures { IfOk result (λ made. fold tree_ops empty (bare_expr e.now) ≡ Ok (bare_expr made)) }
+{
+    struct_makes_trees::<T>();
     e.into_expr::<ExprBuilder<T>>(alloc)
 }
 

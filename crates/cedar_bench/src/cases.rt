@@ -6,7 +6,9 @@ use crate::patterns::Wild;
 use crate::scripts::Script;
 use crate::sets::Members::{self, Few, Longs, Nested, Strings};
 use crate::simplifier::Rest;
-use crate::{calls, evaluator, expressions, names, patterns, scripts, sets, simplifier, values};
+use crate::{
+    calls, context, evaluator, expressions, names, patterns, scripts, sets, simplifier, values,
+};
 use std::time::Duration;
 
 /// What a case times.
@@ -44,7 +46,10 @@ pub enum Call {
     CallVariadic,
     Validate,
     Evaluate(Rule),
+    EvaluateContext,
+    EvaluatePolicies,
     Simplify(Rest),
+    SimplifyContext,
     RunScript(Script),
 }
 
@@ -84,7 +89,10 @@ impl Call {
             Call::CallVariadic => calls::time_variadic(rt, size),
             Call::Validate => calls::time_validate(rt, size),
             Call::Evaluate(rule) => evaluator::time_evaluate(rt, rule, size),
+            Call::EvaluateContext => context::time_evaluate(rt, size),
+            Call::EvaluatePolicies => context::time_policies(rt, size),
             Call::Simplify(rest) => simplifier::time_simplify(rt, rest, size),
+            Call::SimplifyContext => context::time_simplify(rt, size),
             Call::RunScript(script) => scripts::time_run(rt, script, size),
         }
     }
@@ -117,6 +125,12 @@ const ASKED: [usize; 4] = [122, 1_222, 12_222, 122_222];
 // Numbers of members of a set.
 const MEMBERS: [usize; 4] = [100, 1_000, 10_000, 100_000];
 
+// Numbers of members of a record that is bound.
+const CONTEXT: [usize; 3] = [10, 1_000, 100_000];
+
+// Numbers of conditions.
+const POLICIES: [usize; 1] = [1_000];
+
 // Numbers of sets inside one another.
 const SETS: [usize; 3] = [10, 100, 1_000];
 
@@ -127,7 +141,7 @@ const CALLS: [usize; 3] = [1_000, 10_000, 100_000];
 const LINES: [usize; 3] = [1_000, 10_000, 100_000];
 
 /// The name of each case, its sizes from the least up, and its call.
-pub static CASES: [(&str, &[usize], Call); 75] = [
+pub static CASES: [(&str, &[usize], Call); 78] = [
     ("names-read", &NAMES, Call::ReadNames),
     ("names-refuse", &NAMES, Call::RefuseNames),
     ("names-sort", &NAMES, Call::SortNames),
@@ -194,9 +208,12 @@ pub static CASES: [(&str, &[usize], Call); 75] = [
     ("eval-deep", &NODES, Call::Evaluate(Rule::Deep)),
     ("eval-records", &ASKED, Call::Evaluate(Rule::Records)),
     ("eval-sets", &MEMBERS, Call::Evaluate(Rule::Sets)),
+    ("eval-context", &CONTEXT, Call::EvaluateContext),
+    ("eval-policies", &POLICIES, Call::EvaluatePolicies),
     ("simplify-balanced", &FULL, Call::Simplify(Rest::Balanced)),
     ("simplify-closed", &FULL, Call::Simplify(Rest::Closed)),
     ("simplify-open", &FULL, Call::Simplify(Rest::Open)),
+    ("simplify-context", &CONTEXT, Call::SimplifyContext),
     ("script-flat", &LINES, Call::RunScript(Script::Flat)),
     ("script-deep-and", &LINES, Call::RunScript(Script::DeepAnd)),
     ("script-bind", &LINES, Call::RunScript(Script::Bind)),

@@ -75,7 +75,8 @@ fn number(arg: &Value<Count>) -> i64 {
 fn answer(n: i64) -> Result<ExtensionOutputValue<Count>, EvaluationError>
     ensures { Keeps (λ _. unqualified (codes "count")) (Some LongType) result }
 {
-    Ok(ExtensionOutputValue::Known(Value::from(n)))
+    let number = Value::new(ValueKind::Lit(Literal::Long(n)), None);
+    Ok(ExtensionOutputValue::Known(number))
 }
 
 /// The sum of the arguments, of however many; it wraps around.

@@ -1,7 +1,13 @@
 //! The cases of `cedar_exprs`, but for validation.
+ghost use Rattle.std.specs.Prelude.{◌≡◌, IfOk, Ok};
+ghost use Rattle.cedar_builders.specs.Environment.{empty, fold};
+ghost use Rattle.cedar_builders.specs.Trees.{tree_ops};
+ghost use Rattle.cedar_exprs.specs.BareExpr.{bare_expr};
+
 use crate::fault::{CaseFault, expect};
 use crate::stopwatch::Stopwatch;
 use crate::trees::{Leaves, bound_to, negations, records, set, sums};
+use cedar_exprs::laws::struct_makes_trees;
 use cedar_exprs::{Expr, ExprBuilder};
 use cedar_sketch::Sketch;
 use cedar_terms::Literal;
@@ -96,7 +102,11 @@ impl Input {
 }
 
 // Through the struct, whose data type is chosen at the call.
-fn rebuilt<T: Copy + Default>(alloc: Global, expr: &Expr) -> Result<Expr<T>, AllocError> {
+fn rebuilt<T: Copy + Default>(alloc: Global, expr: &Expr) -> Result<Expr<T>, AllocError>
+    ensures { IfOk result (λ made.
+        fold tree_ops empty (bare_expr expr.now) ≡ Ok (bare_expr made)) }
+{
+    struct_makes_trees::<T>();
     expr.into_expr::<ExprBuilder<T>>(alloc)
 }
 

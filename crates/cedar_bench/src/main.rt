@@ -7,6 +7,7 @@
 
 mod calls;
 mod cases;
+mod context;
 mod count;
 mod evaluator;
 mod expressions;

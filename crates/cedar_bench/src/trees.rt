@@ -102,6 +102,16 @@ pub fn additions(alloc: Global, levels: usize) -> Result<Expr, AllocError> {
     Ok(expr)
 }
 
+/// A full tree of `+` over attributes of the unknown x, which are k0 to k9 in turn.
+pub fn attribute_sums(alloc: Global, count: usize) -> Result<Expr, CaseFault> {
+    let mut leaves = Vec::new(alloc);
+    for index in 0..count {
+        let attr = key(alloc, index % 10)?;
+        leaves.push(Expr::get_attr(alloc, unknown(alloc, false)?, attr)?)?;
+    }
+    tree_of_level(alloc, leaves, Level::Pairs(BinaryOp::Add))
+}
+
 fn make_leaves(alloc: Global, leaves: Leaves, count: usize) -> Result<Vec<Expr>, CaseFault> {
     let mut exprs = Vec::new(alloc);
     for index in 0..count {
@@ -187,7 +197,8 @@ fn by_ten(alloc: Global, exprs: Vec<Expr>) -> Result<Vec<Expr>, CaseFault> {
     Ok(records)
 }
 
-fn key(alloc: Global, index: usize) -> Result<RcStr, AllocError> {
+/// The key of this number in a record.
+pub fn key(alloc: Global, index: usize) -> Result<RcStr, AllocError> {
     Ok(RcStr::from_string(format!(in alloc; "k{index}")?)?)
 }
 

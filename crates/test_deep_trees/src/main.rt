@@ -3,6 +3,11 @@
 //! expressions are written and read back; and scripts that nest expressions as deep.
 #![tactic(auto)]
 
+ghost use Rattle.std.specs.Prelude.{◌≡◌, IfOk, Ok};
+ghost use Rattle.cedar_builders.specs.Environment.{empty, fold};
+ghost use Rattle.cedar_builders.specs.Trees.{tree_ops};
+ghost use Rattle.cedar_exprs.specs.BareExpr.{bare_expr};
+
 mod checks;
 mod scripts;
 mod values;
@@ -10,6 +15,7 @@ mod values;
 use crate::checks::{is_restricted, is_valid};
 use crate::scripts::work_scripts;
 use crate::values::{Nest, show_value};
+use cedar_exprs::laws::struct_makes_trees;
 use cedar_exprs::{Expr, ExprBuilder};
 use cedar_names::{FromNormalizedStr, Name};
 use cedar_sketch::Sketch;
@@ -140,7 +146,11 @@ fn check(alloc: Global, innermost: Expr, levels: usize) -> Result<Checked, Alloc
 }
 
 // Through the struct, whose data type is chosen at the call.
-fn rebuild<T: Copy + Default>(alloc: Global, expr: &Expr<T>) -> Result<Expr<T>, AllocError> {
+fn rebuild<T: Copy + Default>(alloc: Global, expr: &Expr<T>) -> Result<Expr<T>, AllocError>
+    ensures { IfOk result (λ made.
+        fold tree_ops empty (bare_expr expr.now) ≡ Ok (bare_expr made)) }
+{
+    struct_makes_trees::<T>();
     expr.into_expr::<ExprBuilder<T>>(alloc)
 }
 

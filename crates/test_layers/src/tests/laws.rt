@@ -24,7 +24,7 @@ use semantics_simplify::laws::{
 };
 use std::process::Abort;
 use std::rc::RcStr;
-use test_support::RefuseCount;
+use test_support::{Counted, RefuseCount, Simplifying, refusing_makes_trees};
 
 #[test]
 fn laws_of_names_hold() {
@@ -36,6 +36,7 @@ fn laws_of_names_hold() {
 fn laws_of_the_builder<T: Default + Copy>() {
     built_after::<ExprBuilder<T>>();
     substituted_twice::<ExprBuilder<T>>();
+    struct_makes_trees::<T>();
 }
 
 #[test]
@@ -61,6 +62,7 @@ fn laws_of_expressions_hold() {
 fn laws_of_a_builder_that_refuses_hold() {
     built_after::<RefuseCount<0>>();
     substituted_twice::<RefuseCount<0>>();
+    refusing_makes_trees::<Counted<0>, Simplifying>();
 }
 
 // Two pairs, from the later key to the earlier.

@@ -90,6 +90,7 @@ use cedar_ast::VariadicExtensionFunctionObject;
 use cedar_ast::VariadicFunction;
 use cedar_ast::evaluator::CallRefused;
 use cedar_ast::evaluator::EvalFault;
+use cedar_ast::evaluator::EvaluationFault;
 use cedar_ast::evaluator::Evaluator;
 use cedar_ast::evaluator::Outcome;
 use cedar_ast::evaluator::evaluate;
