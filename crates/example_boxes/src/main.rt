@@ -4,15 +4,18 @@
 
 mod storing;
 
-ghost use Rattle.std.specs.Prelude.{Some};
+ghost use Rattle.std.specs.Prelude.{◌≡◌, MatchResult, Some, pos};
 ghost use Rattle.cedar_terms.specs.Types.{BoolType, LongType};
 ghost use Rattle.cedar_values.specs.Holders.{held_name};
 ghost use Rattle.cedar_calls.specs.Types.{Keeps};
+ghost use Rattle.cedar_calls.specs.declared.err.EvaluationError.TheVariants.{Memory};
+ghost use Rattle.example_boxes.specs.Numbers.{AnswersNumber, IsNumber};
 
-use crate::storing::{binary, nullary, ternary, unary, variadic};
+use crate::storing::{answer, binary, name, nullary, show, ternary, unary, variadic};
 use cedar_calls::{BoxedFunction, EvaluationError, ExtensionOutputValue, FunctionBox};
+use cedar_names::Name;
 use cedar_terms::SchemaType;
-use cedar_values::{NoExtension, Value, ValueKind};
+use cedar_values::{NoExtension, PartialValue, Value, ValueKind};
 use std::alloc::Global;
 use std::boxed::Box;
 use std::io;
@@ -22,6 +25,11 @@ type Answer = Result<ExtensionOutputValue, EvaluationError>;
 
 fn main(rt: HostRuntime) -> io::Result<()> {
     seven(&rt)?;
+    show(
+        &rt,
+        &name(&rt, "eight")?,
+        &eight(rt.alloc(), name(&rt, "eight")?),
+    )?;
     is_set(&rt)?;
     same(&rt)?;
     between(&rt)?;
@@ -38,6 +46,22 @@ fn seven(rt: &HostRuntime) -> io::Result<()> {
     )?;
     let func = BoxedFunction::new(func, Some(SchemaType::Long));
     nullary::<NoExtension>(rt, "seven", func, SchemaType::Long)
+}
+
+// Of no arguments as well: the number eight. That it is eight that a call answers is proved: the
+// stored box is the one that was made here, and a call hands on what the box answers.
+#[tactic(auto, using(crate::proofs::Passed::passed_number))]
+fn eight(alloc: Global, name: Name) -> Result<PartialValue, EvaluationError>
+    ensures { MatchResult result (IsNumber (pos 8)) (λ e. e ≡ Memory) }
+{
+    let func: FunctionBox = Box::new(
+        alloc,
+        |_alloc: Global, _args: &[&Value]| -> Answer
+            ensures { AnswersNumber (pos 8) result }
+        { Ok(ExtensionOutputValue::Known(Value::from(8))) },
+    )?;
+    let func = BoxedFunction::new(func, Some(SchemaType::Long));
+    answer::<NoExtension>(alloc, name, func, SchemaType::Long)
 }
 
 // Of one argument: whether it is a set.

@@ -3,16 +3,31 @@
 //! Where the extension values are a box's, as `NoExtension`, what holds a stored function can't be
 //! named: the checker knows such a function only behind a type parameter. So these are generic.
 ghost use Rattle.std.specs.Prelude.{Some};
+ghost use Rattle.cedar_calls.specs.Calls.{IsPassedOn};
 ghost use Rattle.cedar_calls.specs.Types.{Keeps, declared};
 
 use cedar_calls::{CallStyle, EvaluationError, Extension, ExtensionFunction, ExtensionFunctions};
 use cedar_names::Name;
 use cedar_terms::SchemaType;
 use cedar_values::{ExtensionValue, PartialValue, Value};
-use std::alloc::AllocError;
+use std::alloc::{AllocError, Global};
 use std::io;
 
 const STYLE: CallStyle = CallStyle::FunctionStyle;
+
+/// What a stored function of no arguments answers: what the function itself may answer.
+pub fn answer<X: ExtensionFunctions>(
+    alloc: Global,
+    name: Name,
+    func: X::Nullary,
+    returns: SchemaType,
+) -> Result<PartialValue<X>, EvaluationError>
+    requires { (r : _) → X.Nullary.gives func r → Keeps X.type_name (declared (Some returns)) r }
+    ensures { (r : _) × X.Nullary.gives func r × IsPassedOn r result }
+{
+    let function = ExtensionFunction::<X>::nullary(name, STYLE, func, returns);
+    function.call(alloc, &Vec::new(alloc))
+}
 
 /// Stores and calls a function of no arguments.
 pub fn nullary<X: ExtensionFunctions>(
@@ -107,7 +122,8 @@ pub fn variadic<X: ExtensionFunctions>(
     )
 }
 
-fn name(rt: &HostRuntime, text: &str) -> Result<Name, AllocError> {
+/// The name of a text.
+pub fn name(rt: &HostRuntime, text: &str) -> Result<Name, AllocError> {
     Name::parse_unqualified_name(rt.alloc(), text).map_err(|_| AllocError)
 }
 
@@ -132,7 +148,8 @@ fn call<X: ExtensionFunctions>(
     }
 }
 
-fn show<X: ExtensionValue>(
+/// Prints what a function answers.
+pub fn show<X: ExtensionValue>(
     rt: &HostRuntime,
     f: &Name,
     answer: &Result<PartialValue<X>, EvaluationError>,

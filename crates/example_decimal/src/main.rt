@@ -27,7 +27,8 @@ fn main(rt: HostRuntime) -> io::Result<()> {
     show_comparison(&rt, &extensions, "lessThanOrEqual")?;
     show_comparison(&rt, &extensions, "greaterThan")?;
     show_validation(&rt, &extensions, "lessThan")?;
-    show_validation(&rt, &extensions, "lessThen")
+    show_validation(&rt, &extensions, "lessThen")?;
+    show_validation(&rt, &no_extensions(alloc), "lessThan")
 }
 
 // The set of some decimals, of which two are equal.
@@ -74,6 +75,11 @@ fn call(
     ensures { IfOk result (IsOfType decimal_name (declared (return_type_of function.now))) }
 {
     function.call(alloc, args)
+}
+
+// The table without any extension: it knows no function.
+fn no_extensions(alloc: Global) -> Extensions<Decimal> {
+    Extensions::new(Vec::new(alloc))
 }
 
 // Prints whether `decimal("1.5").f(decimal("2.0"))` is an expression over these extensions.
