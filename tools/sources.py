@@ -4,65 +4,53 @@ It reads files in the layout of `rt fmt` by their indents, and knows no more of 
 """
 import os
 import re
+from collections.abc import Iterator
 from dataclasses import dataclass, field
+from itertools import chain, takewhile
+from textwrap import dedent
 
 from repository import files_below, source_files
 
-# Comments, attributes of one line or more, and what stands behind them, at an indent.
-DOCS = r"^((?:{0}///.*\n)*)((?:{0}(?:#\[(?:.*\]|.*\n(?:{0} +.*\n)*{0}\)\])|//(?!/).*)\n)*)"
-ITEM = re.compile(
-    DOCS.format("") + r"pub (struct|enum|trait|type|const) (\w+)"
-    r"(?:.*[;}]$|[\s\S]*?^(?:\};?|>;|\).*;|\} .*)$)",
-    re.M,
+# In what follows @ is an indent. First comments, and attributes of one line or more.
+DOCS = r"^((?:@///.*\n)*)((?:@(?:#\[(?:.*\]|.*\n(?:@ +.*\n)*@\)\])|//(?!/).*)\n)*)"
+# A function: its header, which ends before a line {, in a ; or in a { of its own; and its body.
+FN = (
+    r"@((pub )?(?:const |final )*fn (\w+)"
+    r"(?:.*(?:;| \{\}?)$|.*\n(?:.*\n)*?(?:(?=@\{)|.*;$|@[)>].* \{\}?$)))"
+    r"(?:(?:(?<= \{)|@\{)\n[\s\S]*?^@\}$|@\{.*$)?"
 )
-IMPL = re.compile(r"^impl\b([\s\S]*?) \{(\}|\n[\s\S]*?^\})$", re.M)
-CLAUSE = re.compile(r" {4}(requires|ensures)\b")
-USE = re.compile(r"^pub use ([^;]*);", re.M)
-
-
-FN = r"(pub )?(?:const |final )*fn (\w+)"
-FREE, INNER = (re.compile(DOCS.format(it) + it + FN, re.M) for it in ("", "    "))
-
-
-@dataclass
-class Call:
-    """A public function, method, or function of a trait; `text` is the whole of it."""
-
-    name: str
-    owner: str
-    file: str
-    docs: list[str]
-    signature: str
-    clauses: list[str]
-    text: str
-    head: str = ""
-
-    @property
-    def path(self) -> str:
-        return f"{self.owner}::{self.name}" if self.owner else self.name
-
-    @property
-    def module(self) -> str:
-        return module_of(self.file)
-
-    @property
-    def of_trait(self) -> bool:
-        return bool(self.owner) and not self.head
+# Another item: to the end of its line or of what it has in brackets.
+ITEM = (
+    r"(pub (struct|enum|trait|type|const) (\w+)"
+    r"(?:.*[;}]$|[\s\S]*?^(?:\};?|>;|\).*;|\} .*)$))"
+)
+ITEMS = re.compile(DOCS.replace("@", "") + ITEM, re.M)
+FUNCTIONS = {it: re.compile((DOCS + FN).replace("@", it), re.M) for it in ("", "    ")}
+IMPLS = re.compile(r"^impl\b([\s\S]*?) \{(\}|\n[\s\S]*?^\})$", re.M)
 
 
 @dataclass
 class Item:
-    """A public type, trait or constant; `text` is its declaration as it stands."""
+    """A public type, trait, constant or function; `text` is the whole of it."""
 
     kind: str
     name: str
     file: str
     docs: list[str]
+    marks: str
     text: str
-    traits: list[str]
-    # Of an error that is a struct, as its `#[error("..")]` has it; else none.
-    error_text: str
-    calls: list[Call] = field(default_factory=list)
+    # Of a type or a trait.
+    traits: list[str] = field(default_factory=list)
+    calls: list["Item"] = field(default_factory=list)
+    # Of a function: of a method also its type, of one of an `impl` the head of that.
+    signature: str = ""
+    clauses: list[str] = field(default_factory=list)
+    owner: str = ""
+    head: str = ""
+
+    @property
+    def path(self) -> str:
+        return f"{self.owner}::{self.name}" if self.owner else self.name
 
 
 @dataclass
@@ -72,139 +60,92 @@ class Library:
     name: str
     about: list[str]
     items: list[Item]
-    calls: list[Call]
-    # Names of other crates, each with the crate that it is of.
-    passed_on: list[tuple[str, str]]
-    # The public module that a name is named in; none where it is the root.
+    calls: list[Item]
+    # Names of other crates, by their crates.
+    passed_on: dict[str, list[str]]
+    # The public module that a name is named in; empty where it is the root.
     modules: dict[str, str]
 
 
 def module_of(file: str) -> str:
-    return os.path.basename(file).removesuffix(".rt")
+    return os.path.splitext(os.path.basename(file))[0]
 
 
-def comment(text: str, sign: str) -> list[str]:
+def comment(text: str, sign: str = "///") -> list[str]:
     """The lines of a comment, without the sign that each begins with."""
     lines = (line.strip().removeprefix(sign) for line in text.splitlines())
     return [line.removeprefix(" ") for line in lines]
 
 
-def after_brackets(text: str, at: int, opening: str = "<", closing: str = ">") -> int:
-    """Where the bracket that opens at this place is closed, one behind it."""
+def depths(text: str) -> Iterator[tuple[str, int]]:
+    """Each character, with how many brackets are open behind it. An arrow closes none."""
     depth = 0
-    for place in range(at, len(text)):
-        if text[place] == opening:
-            depth += 1
-        elif text[place] == closing and text[place - 1] not in "-=":
-            depth -= 1
-            if depth == 0:
-                return place + 1
-    return len(text)
-
-
-def parted(text: str) -> list[str]:
-    """The parts of a list between commas that stand in no bracket."""
-    parts, depth = [""], 0
     for before, char in zip(" " + text, text):
-        if char in "<([{":
-            depth += 1
-        elif char in ")]}" or (char == ">" and before not in "-="):
-            depth -= 1
-        if char == "," and depth == 0:
-            parts.append("")
-        else:
-            parts[-1] += char
-    return [part.strip() for part in parts if part.strip()]
+        is_arrow = char == ">" and before in "-="
+        depth += (char in "<([{") - (char in ">)]}" and not is_arrow)
+        yield char, depth
 
 
-def cut(lines: list[str], indent: str) -> tuple[int, int]:
-    """How many lines the header of a function has, and how many the whole of it."""
-    head = len(lines)
-    for at, line in enumerate(lines):
-        if line.startswith(indent + "{"):
-            head = at
-            break
-        opens = at == 0 or line.startswith((indent + ")", indent + ">"))
-        if line.endswith(";") or (opens and line.endswith((" {", " {}"))):
-            head = at + 1
-            break
-    last = lines[head] if head < len(lines) else ""
-    if last == indent + "{" or lines[head - 1].endswith(" {"):
-        ends = (at + 1 for at in range(head, len(lines)) if lines[at] == indent + "}")
-        return head, next(ends, head)
-    return head, head + last.startswith(indent + "{")
+def parted(text: str, sign: str = ",") -> list[str]:
+    """The parts of a text between the signs that stand in no bracket."""
+    marked = ("\0" if char == sign and depth == 0 else char for char, depth in depths(text))
+    return [part.strip() for part in "".join(marked).split("\0") if part.strip()]
 
 
-def signature(lines: list[str]) -> str:
-    """The lines of a signature as one."""
-    joined = " ".join(line.strip() for line in lines)
-    joined = joined.replace("( ", "(").replace(", )", ")").replace("< ", "<")
-    return re.sub(r"\s*(\{|\{\}|;)$", "", re.sub(r",? >", ">", joined))
+def parameters(signature: str) -> tuple[dict[str, str], str]:
+    """The type of each parameter, by its name, and the type of the result."""
+    words = parted(signature, " ")
+    head, *rest = words[words.index("fn") + 1 :]
+    start = next(at for at, brackets in enumerate(depths(head)) if brackets == ("(", 1))
+    pairs = (part.partition(": ") for part in parted(head[start + 1 : -1]))
+    result = " ".join(takewhile("where".__ne__, rest)).removeprefix("-> ")
+    return {name.removeprefix("mut "): ty for name, _, ty in pairs}, result
 
 
-def read_calls(text: str, file: str, owner: str = "", head: str = "") -> list[Call]:
+def read_calls(text: str, file: str, owner: str = "", head: str = "") -> list[Item]:
     """The public functions of a file, of an `impl` with this head, or, with none, of a trait."""
     found, indent = [], "    " if owner else ""
-    for at in (INNER if owner else FREE).finditer(text):
-        if at[3] or (owner and not head):
-            lines = text[at.end(2) :].split("\n")
-            end, whole = cut(lines, indent)
-            header = [line.removeprefix(indent) for line in lines[:end]]
-            begins = (i for i, line in enumerate(header) if CLAUSE.match(line))
-            first = next(begins, end)
-            clauses = [line.removeprefix("    ") for line in header[first:]]
-            clauses[-1:] = [re.sub(r"(\}) ?;$", r"\1", line) for line in clauses[-1:]]
-            docs, whole_text = comment(at[1], "///"), at[1] + at[2] + "\n".join(lines[:whole])
-            shown = signature(header[:first])
-            found.append(Call(at[4], owner, file, docs, shown, clauses, whole_text, head))
+    clause = re.compile(rf"^(?={indent}    (?:requires|ensures)\b)", re.M)
+    for at in FUNCTIONS[indent].finditer(text):
+        docs, marks, header, is_public, name = at.groups()
+        if is_public or (owner and not head):
+            shown, *clauses = clause.split(header, 1)
+            joined = re.sub(r"(?<=[(<]) |,? (?=[)>])", "", " ".join(shown.split()))
+            signature = re.sub(r"\s*(\{\}?|;)$", "", joined)
+            lines = re.sub(r"\} ?;$", "}", dedent("".join(clauses))).splitlines()
+            of = ([], [], signature, lines, owner, head)
+            found.append(Item("fn", name, file, comment(docs), marks, at[0], *of))
     return found
 
 
 def impl_target(head: str) -> tuple[str, str]:
     """The type of an impl, and the trait if it is of one."""
-    rest = head[after_brackets(head, 0) :] if head.startswith("<") else head
-    trait, _, ty = rest.strip().rpartition(" for ")
+    words = [word for word in parted(head, " ") if not word.startswith("<")]
+    trait, ty = (words[0], words[2]) if "for" in words else ("", words[0])
     return re.match(r"[&\w:]*", ty)[0], trait
 
 
-def derived(marks: str) -> list[str]:
-    """The traits of derives."""
-    lists = re.findall(r"^#\[derive(?:_where)?\(([\w, :]*)", marks, re.M)
-    words = [word.strip().rpartition(":")[2] for words in lists for word in words.split(",")]
-    return [word for word in words if word not in ("", "skip", "Drop")]
-
-
-def read_file(file: str, text: str) -> tuple[list[Item], list[Call], list[tuple[str, str]]]:
-    """The items, the functions, and the impls of traits (type and trait) of one file."""
+def read_file(file: str, text: str) -> tuple[list[Item], list[Item], list[tuple[str, str]]]:
+    """The types and the like, the functions, and the impls of traits (type and trait)."""
     items, calls, impls = [], read_calls(text, file), []
-    for at in ITEM.finditer(text):
-        declared, error = text[at.end(2) : at.end()], re.findall(r'^#\[error\("(.*?)"', at[2], re.M)
-        docs, traits = comment(at[1], "///"), derived(at[2])
-        item = Item(at[3], at[4], file, docs, declared, traits, "".join(error))
-        if item.kind == "trait":
-            item.calls = read_calls(declared, file, item.name)
-        items.append(item)
-    for at in IMPL.finditer(text):
-        name, trait = impl_target(at[1])
-        if trait:
-            impls.append((name, trait))
-        else:
-            calls += read_calls(at[2], file, name, "impl" + at[1])
+    for docs, marks, declared, kind, name in ITEMS.findall(text):
+        derives = re.findall(r"^#\[derive(?:_where)?\(([\w, :]*)", marks, re.M)
+        words = re.findall(r"(\w+) *(?:,|$)", ",".join(derives))
+        traits = [word for word in words if word != "Drop"]
+        inside = read_calls(declared, file, name) if kind == "trait" else []
+        items.append(Item(kind, name, file, comment(docs), marks, declared, traits, inside))
+    for head, body in IMPLS.findall(text):
+        name, trait = impl_target(head)
+        impls += [(name, trait)] if trait else []
+        calls += [] if trait else read_calls(body, file, name, "impl" + head)
     return items, calls, impls
 
 
 def leaves(path: str) -> list[str]:
     """The paths of a `use`, each written out."""
-    head, brace, inner = path.partition("{")
-    if not brace:
-        return [path.strip()]
-    parts = parted(inner.rstrip()[:-1])
-    return [head.strip() + leaf for part in parts for leaf in leaves(part)]
-
-
-def used(text: str) -> list[list[str]]:
-    """What a file lets others name by `pub use`, each name as the words of its path."""
-    return [path.split("::") for use in USE.findall(text) for path in leaves(use)]
+    head, brace, inner = path.strip().partition("{")
+    parts = parted(inner[:-1]) if brace else []
+    return [head + leaf for part in parts for leaf in leaves(part)] if brace else [head]
 
 
 def read_library(name: str) -> Library:
@@ -212,35 +153,31 @@ def read_library(name: str) -> Library:
     files = source_files(name)
     root = files["src/lib.rt"]
     own = {"crate", "super", "self", *re.findall(r"^(?:pub )?mod (\w+);", root, re.M)}
-    public = re.findall(r"^pub mod (\w+);", root, re.M)
-    names, modules, passed_on = set(), {}, []
-    for module in ["", *public]:
-        text = files.get(f"src/{module}.rt", "") if module else root
-        paths = used(text)
-        inside = [path[-1] for path in paths if path[0] in own]
-        inside += re.findall(r"^pub fn (\w+)", text, re.M) if module else []
-        modules.update((word, module) for word in inside if module and word not in names)
-        names.update(inside)
-        begin = [module] if module else []
-        passed_on += [(of[0], "::".join([*begin, of[-1]])) for of in paths if of[0] not in own]
-    read = {file: read_file(file, text) for file, text in files.items()}
-    is_open = {"src/lib.rt", *(f"src/{module}.rt" for module in public)}
-    items = {
-        item.name: item
-        for file, (found, _, _) in read.items()
-        for item in found
-        if file in is_open or item.name in names
-    }
-    free = []
-    for file, (_, calls, impls) in read.items():
-        for of, trait in impls:
-            if of in items:
-                items[of].traits.append(trait)
-        for call in calls:
-            if call.owner in items:
-                items[call.owner].calls.append(call)
-            elif not call.owner and (file in is_open or call.name in names):
-                free.append(call)
+    public = {"": "src/lib.rt"}
+    public |= {module: f"src/{module}.rt" for module in re.findall(r"^pub mod (\w+);", root, re.M)}
+    modules: dict[str, str] = {}
+    passed_on: dict[str, list[str]] = {}
+    for module, file in public.items():
+        uses = re.findall(r"^pub use ([^;]*);", files.get(file, ""), re.M)
+        named = re.findall(r"^pub fn (\w+)", files.get(file, ""), re.M) if module else []
+        for path in (leaf.split("::") for use in uses for leaf in leaves(use)):
+            if path[0] in own:
+                named.append(path[-1])
+            else:
+                word = f"{module}::{path[-1]}".removeprefix("::")
+                passed_on.setdefault(path[0], []).append(word)
+        modules = dict.fromkeys(named, module) | modules
+    read = zip(*(read_file(file, text) for file, text in files.items()))
+    found, calls, impls = (list(chain(*part)) for part in read)
+    is_open = public.values()
+    items = {it.name: it for it in found if it.file in is_open or it.name in modules}
+    for of, trait in impls:
+        if of in items:
+            items[of].traits.append(trait)
+    for call in calls:
+        if call.owner in items:
+            items[call.owner].calls.append(call)
+    free = [it for it in calls if not it.owner and (it.file in is_open or it.name in modules)]
     about = comment("\n".join(re.findall(r"^//!.*", root, re.M)), "//!")
     return Library(name, about, list(items.values()), free, passed_on, modules)
 
@@ -257,6 +194,5 @@ def read_words(crate: str) -> dict[str, tuple[str, str]]:
     found: dict[str, tuple[str, str]] = {}
     for file, text in files_below(crate, "specs", ending=".antt").items():
         for said, word in WORD.findall(text):
-            module = os.path.basename(file).removesuffix(".antt")
-            found.setdefault(word, (module, " ".join(comment(said, "--"))))
+            found.setdefault(word, (module_of(file), " ".join(comment(said, "--"))))
     return found

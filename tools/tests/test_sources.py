@@ -166,8 +166,8 @@ class OfOneFile(unittest.TestCase):
 
     def test_derives_and_error_texts(self) -> None:
         self.assertEqual(self.items["Shape"].traits, ["Debug", "PartialEq", "Hash"])
-        self.assertEqual(self.items["NoShape"].error_text, "no shape of {0}")
-        self.assertEqual(self.items["Shape"].error_text, "")
+        self.assertIn('#[error("no shape of {0}")]', self.items["NoShape"].marks)
+        self.assertEqual(self.items["Kind"].marks, "")
 
     def test_impls_of_traits(self) -> None:
         self.assertEqual(self.impls, [("Shape", "fmt::Display"), ("Shape", "Clone")])
@@ -200,9 +200,8 @@ class OfOneFile(unittest.TestCase):
         corners, has_some = self.items["Corners"].calls
         self.assertEqual(corners.signature, "fn corners(&self) -> usize")
         self.assertEqual(corners.clauses, ["ensures { result ≡ Self.corners_of self.now }"])
-        self.assertTrue(corners.of_trait)
+        self.assertEqual((corners.path, corners.head), ("Corners::corners", ""))
         self.assertEqual(has_some.text.split("\n")[-1], "    }")
-        self.assertFalse(self.by_path["all"].of_trait)
 
 
 class OfALibrary(unittest.TestCase):
@@ -220,7 +219,7 @@ class OfALibrary(unittest.TestCase):
         self.assertEqual([item.name for item in self.library.items], ["Square", "Shape"])
         self.assertEqual([call.name for call in self.library.calls], ["round", "of_sides"])
         self.assertEqual(self.library.modules["of_sides"], "laws")
-        self.assertNotIn("round", self.library.modules)
+        self.assertEqual(self.library.modules["round"], "")
 
     def test_methods_and_traits_stand_with_their_type(self) -> None:
         square, shape = self.library.items
@@ -229,7 +228,7 @@ class OfALibrary(unittest.TestCase):
         self.assertEqual(shape.traits, ["Debug", "PartialEq", "Hash", "fmt::Display", "Clone"])
 
     def test_names_of_other_crates(self) -> None:
-        passed = [("other", "Else"), ("other", "Other"), ("other", "laws::passed_law")]
+        passed = {"other": ["Else", "Other", "laws::passed_law"]}
         self.assertEqual(self.library.passed_on, passed)
 
     def test_about(self) -> None:
@@ -246,8 +245,19 @@ class OfALibrary(unittest.TestCase):
 
 class OfTexts(unittest.TestCase):
     def test_brackets_do_not_end_at_arrows(self) -> None:
-        text = "<F: Fn(u8) -> u8>(x: F)"
-        self.assertEqual(text[sources.after_brackets(text, 0) :], "(x: F)")
+        words = sources.parted("<F: Fn(u8) -> u8> Shape<F>", " ")
+        self.assertEqual(words, ["<F: Fn(u8) -> u8>", "Shape<F>"])
+
+    def test_parameters_and_result(self) -> None:
+        text = "pub fn of<F: Fn(&T) -> u8>(mut x: (u8, F), &self) -> Vec<(u8, F)> where F: Drop"
+        params = {"x": "(u8, F)", "&self": ""}
+        self.assertEqual(sources.parameters(text), (params, "Vec<(u8, F)>"))
+        self.assertEqual(sources.parameters("fn none() where T: Drop"), ({}, ""))
+
+    def test_targets_of_impls(self) -> None:
+        target = sources.impl_target("<'a, T: Drop> Iterator for Slots<'a, T>")
+        self.assertEqual(target, ("Slots", "Iterator"))
+        self.assertEqual(sources.impl_target(" Slots<'a>"), ("Slots", ""))
 
     def test_parts_of_lists(self) -> None:
         parts = sources.parted("a: (u8, u8), f: Fn(A, B) -> C<D, E>, ")
