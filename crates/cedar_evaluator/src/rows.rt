@@ -26,7 +26,8 @@ pub(crate) fn split_row(
     alloc: Global,
     row: Vec<Outcome>,
 ) -> Result<Result<Vec<Value<NoExtension>>, EvaluationFault>, AllocError>
-    ensures values { IfOk result (λ split. on_one (λ vs. map bare_value vs.items) (faulted (unplaced split))
+    ensures values { IfOk result (λ split.
+        on_one (λ vs. map bare_value vs.items) (faulted (unplaced split))
         ≡ all_values (map meaning_of row.items)) }
     ensures well_formed { IfOk result (λ split. IfOk split (λ vs.
         IsTrue (list_all (well_formed ⟦<NoExtension as Ord>⟧.cmp) vs.items))) }

@@ -68,10 +68,22 @@ impl WellFormedValue {
     }
 
     /// A copy, which shares what is inside and takes no memory.
-    pub fn clone(&self, alloc: Global) -> Result<WellFormedValue, AllocError>
+    pub fn clone(&self, _alloc: Global) -> Result<WellFormedValue, AllocError>
         ensures { IfOk result (λ w. bare_value (value_of w) ≡ bare_value (value_of self.now)) }
     {
-        Ok(WellFormedValue::new_unchecked(self.value.clone(alloc)?))
+        Clone::clone(self)
+    }
+}
+
+impl Clone for WellFormedValue {
+    ghost use Rattle.std.specs.Prelude.{◌≡◌};
+    ghost use Rattle.cedar_values.specs.BareValues.{bare_value};
+    ghost use Rattle.cedar_values.specs.WellFormedValues.{value_of};
+
+    ghost is_clone = { λ w copy. bare_value (value_of copy) ≡ bare_value (value_of w) };
+
+    fn clone(&self) -> Result<WellFormedValue, AllocError> {
+        Ok(WellFormedValue::new_unchecked(Clone::clone(&self.value)?))
     }
 }
 

@@ -17,8 +17,8 @@ pub fn show(rt: &HostRuntime, lines: &str) -> Result<()> {
     Ok(())
 }
 
-// The bindings of a line; where it has none, why.
-fn bound(rt: &HostRuntime, json: &str) -> Result<Bindings> {
+/// The bindings of a line; where it has none, prints why.
+pub fn bound(rt: &HostRuntime, json: &str) -> Result<Bindings> {
     let mut bindings = Bindings::new(rt.alloc());
     match bindings.bind_json(rt.alloc(), json) {
         Ok(()) => {}

@@ -29,20 +29,20 @@ fn display(rt: &HostRuntime) -> io::Result<()> {
 
 fn normalized_name(rt: &HostRuntime) -> io::Result<()> {
     title(rt, "name: normalized_name")?;
-    for text in [
-        "foo",
-        "foo::bar",
-        "foo::\"bar\"",
-        " foo",
-        "foo ",
-        "foo\n",
-        "foo//comment",
-        "if",
-        "foo::if",
-    ] {
-        show_read::<InternalName>(rt, text)?;
-    }
-    Ok(())
+    show_read::<InternalName>(
+        rt,
+        &[
+            "foo",
+            "foo::bar",
+            "foo::\"bar\"",
+            " foo",
+            "foo ",
+            "foo\n",
+            "foo//comment",
+            "if",
+            "foo::if",
+        ],
+    )
 }
 
 fn qualify_with(rt: &HostRuntime) -> io::Result<()> {
@@ -100,22 +100,20 @@ fn test_reserved(rt: &HostRuntime) -> io::Result<()> {
 
 fn test_name_identifier_intersection(rt: &HostRuntime) -> io::Result<()> {
     title(rt, "name: test_name_identifier_intersection")?;
-    for text in [
-        "A::permit",
-        "A::forbid",
-        "A::when",
-        "A::unless",
-        "A::principal",
-        "A::action",
-        "A::resource",
-        "A::context",
-    ] {
-        show_read::<Name>(rt, text)?;
-    }
-    for text in RESERVED_IDS {
-        show_read::<Name>(rt, text)?;
-    }
-    Ok(())
+    show_read::<Name>(
+        rt,
+        &[
+            "A::permit",
+            "A::forbid",
+            "A::when",
+            "A::unless",
+            "A::principal",
+            "A::action",
+            "A::resource",
+            "A::context",
+        ],
+    )?;
+    show_read::<Name>(rt, &RESERVED_IDS)
 }
 
 const RESERVED_IDS: [&str; 10] = [
