@@ -6,7 +6,7 @@ use Rattle.std.specs.declared.rc.Rc.{Rc}
 use Rattle.std.specs.declared.rc.RcStr.{RcStr}
 use Rattle.cedar_builders.specs.Count.{count, count_is}
 use Rattle.cedar_iterative_drop.specs.Rows as rows
-use Rattle.cedar_exprs.specs.BareExpr.{ExprKind, bare_expr, bare_expr_kind}
+use Rattle.cedar_exprs.specs.BareExpr.{ExprKind, bare_expr, bare_expr_kind, kind_of}
 use Rattle.cedar_exprs.specs.declared.expr.Expr.{Expr}
 use Rattle.cedar_exprs.specs.declared.drop.subtrees.Subtrees.{Subtrees}
 use Rattle.cedar_exprs.specs.declared.drop.subtrees.Row as below
@@ -64,6 +64,37 @@ is_leaf _ = false
 -- the nodes of all that is left
 abbrev pub all_nodes : {T : Type 0} → Remaining T → ℕ
 all_nodes l = below_nodes l.below + (if_node l.waiting + if_row l.rows)
+
+-- what stands below a node of this kind
+abbrev pub subtrees_of : {T : Type 0} → ExprKind T → Subtrees T
+subtrees_of (KindOf.Lit l) = Subtrees.Nothing
+subtrees_of (KindOf.Var v) = Subtrees.Nothing
+subtrees_of (KindOf.Slot s) = Subtrees.Nothing
+subtrees_of (KindOf.Unknown u) = Subtrees.Nothing
+subtrees_of (KindOf.If a b c) = Subtrees.Three a b c
+subtrees_of (KindOf.And a b) = Subtrees.Two a b
+subtrees_of (KindOf.Or a b) = Subtrees.Two a b
+subtrees_of (KindOf.UnaryApp o a) = Subtrees.One a
+subtrees_of (KindOf.BinaryApp o a b) = Subtrees.Two a b
+subtrees_of (KindOf.ExtensionFunctionApp n es) = Subtrees.Row (row.Items es)
+subtrees_of (KindOf.GetAttr a k) = Subtrees.One a
+subtrees_of (KindOf.HasAttr a ks) = Subtrees.One a
+subtrees_of (KindOf.Like a p) = Subtrees.One a
+subtrees_of (KindOf.Set es) = Subtrees.Row (row.Items es)
+subtrees_of (KindOf.Record es) = Subtrees.Row (row.Fields es)
+subtrees_of (KindOf.Is a n) = Subtrees.One a
+
+-- the same, where something does
+abbrev pub unless_nothing : {T : Type 0} → Subtrees T → Option (Subtrees T)
+unless_nothing Subtrees.Nothing = None
+unless_nothing (Subtrees.One a) = Some (Subtrees.One a)
+unless_nothing (Subtrees.Two a b) = Some (Subtrees.Two a b)
+unless_nothing (Subtrees.Three a b c) = Some (Subtrees.Three a b c)
+unless_nothing (Subtrees.Row r) = Some (Subtrees.Row r)
+
+-- what stands below an expression, if it is no leaf
+abbrev pub branch_of : {T : Type 0} → Expr T → Option (Subtrees T)
+branch_of e = unless_nothing (subtrees_of (kind_of e))
 
 -- from k nodes, of n in all: no more nodes and a smaller part, or fewer nodes
 abbrev pub IsStep : {T : Type 0} → ℕ → ℕ → Step T → Type 0

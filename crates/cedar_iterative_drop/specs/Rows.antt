@@ -1,5 +1,6 @@
 -- Rows that are taken apart, by the nodes that their items have.
-use Rattle.std.specs.Prelude.{◌≡◌, ℕ, ◌+◌, ◌<◌, ◌≤◌, Bool, true, false, List, [], ◌∷◌, Option, Some, None, Result, Ok, Err}
+use Rattle.std.specs.Prelude.{◌≡◌, ℕ, ◌+◌, ◌<◌, ◌≤◌, Bool, true, false, List, [], ◌∷◌, ◌++◌, Option, Some, None, Result, Ok, Err}
+use Rattle.std.specs.List.{filter_map}
 use Rattle.std.specs.Global.{Global}
 use Rattle.std.specs.declared.rc.RcStr.{RcStr}
 use Rattle.cedar_iterative_drop.specs.declared.Taken.{Taken}
@@ -36,3 +37,12 @@ abbrev pub IsPut : {B : Type 0} → (B → ℕ) → ℕ → ℕ → ℕ → Resu
 IsPut g m w n (Ok (Some old)) = (g old ≤ m) × (g old + n ≡ m + w)
 IsPut g m w n (Ok None) = n < m + w
 IsPut g m w n (Err next) = (g next ≡ w) × (n ≡ m)
+
+-- branches, and one more behind them
+abbrev pub with_taken : {B : Type 0} → List B → Option B → List B
+with_taken bs None = bs
+with_taken bs (Some b) = bs ++ b ∷ []
+
+-- what a row hands out from its end: its last branch, behind which only leaves go; h gives what stands below an item, if it is no leaf
+abbrev pub HandsOut : {I B : Type 0} → (I → Option B) → List I → List I → Option B → Type 0
+HandsOut h old new taken = filter_map h old ≡ with_taken (filter_map h new) taken

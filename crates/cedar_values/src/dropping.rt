@@ -5,6 +5,8 @@ ghost use Rattle.cedar_values.specs.Counts.{kind_nodes};
 ghost use Rattle.cedar_values.specs.Drops.{
   IsStep,
   all_nodes,
+  branch_of,
+  branch_of_kind,
   entry_nodes,
   row_nodes,
   value_nodes,
@@ -268,7 +270,8 @@ impl<X: Drop> Value<X> {
     // The kind. A leaf is dropped, and gives none.
     #[inline(always)]
     pub(crate) fn into_branch(self) -> Option<ValueKind<X>>
-        ensures { IfSome result (λ kind. kind_nodes kind ≡ value_nodes self) }
+        ensures branch { result ≡ branch_of self }
+        ensures nodes { IfSome result (λ kind. kind_nodes kind ≡ value_nodes self) }
     {
         unless_leaf(self.into_kind())
     }
@@ -277,6 +280,7 @@ impl<X: Drop> Value<X> {
     #[inline(always)]
     pub(crate) fn replace_branch(&mut self, kind: ValueKind<X>) -> Option<ValueKind<X>>
         ensures put { value_nodes self.new ≡ kind_nodes kind }
+        ensures branch { result ≡ branch_of self.old }
         ensures taken { IfSome result (λ old. kind_nodes old ≡ value_nodes self.old) }
     {
         unless_leaf(self.replace_kind(kind))
@@ -286,7 +290,8 @@ impl<X: Drop> Value<X> {
 // Drops a kind that has no values inside.
 #[inline(always)]
 fn unless_leaf<X: Drop>(kind: ValueKind<X>) -> Option<ValueKind<X>>
-    ensures { IfSome result (λ branch. branch ≡ kind) }
+    ensures branch { result ≡ branch_of_kind kind }
+    ensures same { IfSome result (λ branch. branch ≡ kind) }
 {
     match kind {
         ValueKind::Lit(literal) => {

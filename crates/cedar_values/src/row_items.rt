@@ -1,9 +1,9 @@
 //! Items that are taken out of a row that is dropped: the members of a set or the values of a
 //! record.
 ghost use Rattle.std.specs.Prelude.{◌+◌, ◌≤◌, IfSome};
-ghost use Rattle.cedar_iterative_drop.specs.Rows.{IsPut, IsTaken};
+ghost use Rattle.cedar_iterative_drop.specs.Rows.{HandsOut, IsPut, IsTaken};
 ghost use Rattle.cedar_values.specs.Counts.{kind_nodes};
-ghost use Rattle.cedar_values.specs.Drops.{entry_nodes, row_nodes, waiting_nodes};
+ghost use Rattle.cedar_values.specs.Drops.{branch_of, entry_nodes, row_nodes, waiting_nodes};
 
 use crate::value::{Value, ValueKind};
 use cedar_iterative_drop::{Taken, after_leaf};
@@ -51,6 +51,7 @@ fn put_first<X: Drop>(
 // Takes off the last members, down to one that is no leaf, and drops the leaves.
 #[inline(never)]
 pub(crate) fn last_branch<X: Drop>(members: &mut Vec<Value<X>>) -> Option<ValueKind<X>>
+    ensures gives { HandsOut branch_of members.old.items members.new.items result }
     ensures taken { IfSome result (λ last.
         kind_nodes last + row_nodes members.new.items ≤ row_nodes members.old.items) }
     ensures fewer { row_nodes members.new.items ≤ row_nodes members.old.items }
@@ -104,6 +105,7 @@ fn put_first_value<X: Drop>(
 pub(crate) fn last_branch_value<X: Drop>(
     pairs: &mut BTreeMap<RcStr, Value<X>>,
 ) -> Option<ValueKind<X>>
+    ensures gives { HandsOut (λ p. branch_of p.1) pairs.old.entries pairs.new.entries result }
     ensures taken { IfSome result (λ last.
         kind_nodes last + entry_nodes pairs.new.entries ≤ entry_nodes pairs.old.entries) }
     ensures fewer { entry_nodes pairs.new.entries ≤ entry_nodes pairs.old.entries }

@@ -1,8 +1,8 @@
 //! Items that are taken out of a row that is dropped: the members of a set, the arguments of a call
 //! or the values of a record.
 ghost use Rattle.std.specs.Prelude.{◌+◌, ◌≤◌, IfSome};
-ghost use Rattle.cedar_iterative_drop.specs.Rows.{IsPut, IsTaken};
-ghost use Rattle.cedar_exprs.specs.Steps.{below_nodes, field_nodes, if_row, item_nodes};
+ghost use Rattle.cedar_iterative_drop.specs.Rows.{HandsOut, IsPut, IsTaken};
+ghost use Rattle.cedar_exprs.specs.Steps.{below_nodes, branch_of, field_nodes, if_row, item_nodes};
 
 use crate::drop::subtrees::Subtrees;
 use crate::expr::Expr;
@@ -51,6 +51,7 @@ fn put_first<T: Drop>(
 // Takes off the last items, down to one that is no leaf, and drops the leaves.
 #[inline(never)]
 pub(crate) fn last_branch<T: Drop>(items: &mut Vec<Expr<T>>) -> Option<Subtrees<T>>
+    ensures gives { HandsOut branch_of items.old.items items.new.items result }
     ensures taken { IfSome result (λ last.
         below_nodes last + item_nodes items.new.items ≤ item_nodes items.old.items) }
     ensures fewer { item_nodes items.new.items ≤ item_nodes items.old.items }
@@ -104,6 +105,7 @@ fn put_first_value<T: Drop>(
 pub(crate) fn last_branch_value<T: Drop>(
     pairs: &mut BTreeMap<RcStr, Expr<T>>,
 ) -> Option<Subtrees<T>>
+    ensures gives { HandsOut (λ p. branch_of p.1) pairs.old.entries pairs.new.entries result }
     ensures taken { IfSome result (λ last.
         below_nodes last + field_nodes pairs.new.entries ≤ field_nodes pairs.old.entries) }
     ensures fewer { field_nodes pairs.new.entries ≤ field_nodes pairs.old.entries }

@@ -1,6 +1,13 @@
 //! What stands below a node that a drop is done with.
 ghost use Rattle.std.specs.Prelude.{◌≡◌, IfSome, IsTrue};
-ghost use Rattle.cedar_exprs.specs.Steps.{below_nodes, is_leaf, kind_nodes, nodes};
+ghost use Rattle.cedar_exprs.specs.Steps.{
+  below_nodes,
+  branch_of,
+  is_leaf,
+  kind_nodes,
+  nodes,
+  subtrees_of,
+};
 
 use crate::expr::{Expr, ExprKind};
 use cedar_terms::{UnaryOp, Var};
@@ -29,7 +36,8 @@ impl<T: Drop> Expr<T> {
     // What stands below the expression. A leaf is dropped, and gives none.
     #[inline(always)]
     pub(crate) fn into_subtrees(self) -> Option<Subtrees<T>>
-        ensures { IfSome result (λ below. below_nodes below ≡ nodes self) }
+        ensures branch { result ≡ branch_of self }
+        ensures nodes { IfSome result (λ below. below_nodes below ≡ nodes self) }
     {
         if self.is_leaf() {
             drop_leaf(self.into_parts().0);
@@ -44,6 +52,7 @@ impl<T: Drop> Expr<T> {
     #[inline(always)]
     pub(crate) fn replace_subtrees(&mut self, below: Subtrees<T>) -> Option<Subtrees<T>>
         ensures put { nodes self.new ≡ below_nodes below }
+        ensures branch { result ≡ branch_of self.old }
         ensures taken { IfSome result (λ old. below_nodes old ≡ nodes self.old) }
     {
         match take_subtrees(mem::replace(&mut self.expr_kind, kind_over(below))) {
@@ -56,7 +65,8 @@ impl<T: Drop> Expr<T> {
 // Drops all of a kind but what stands below it.
 #[inline(always)]
 pub(crate) fn take_subtrees<T: Drop>(kind: ExprKind<T>) -> Subtrees<T>
-    ensures { below_nodes result ≡ kind_nodes kind }
+    ensures subtrees { result ≡ subtrees_of kind }
+    ensures nodes { below_nodes result ≡ kind_nodes kind }
 {
     match kind {
         ExprKind::Lit(literal) => {

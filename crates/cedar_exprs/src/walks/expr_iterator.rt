@@ -46,9 +46,10 @@ impl<'a, T> Iterator for ExprIterator<'a, T> {
     type Item = &'a Expr<T>;
 
     ghost use Rattle.std.specs.Iterator.{YieldsFirstRef, item_count};
-    ghost use Rattle.cedar_exprs.specs.Iterators.{positions_left};
+    ghost use Rattle.cedar_exprs.specs.Iterators.{positions_left, reserved};
 
-    ghost next_gives = { YieldsFirstRef positions_left };
+    ghost next_gives = { λ old r new. YieldsFirstRef positions_left old r new
+        × (reserved new ≡ reserved old) };
 
     ghost remaining = { item_count positions_left };
 
@@ -143,9 +144,10 @@ impl<'a, T> Iterator for Slots<'a, T> {
     type Item = SlotRef<'a>;
 
     ghost use Rattle.std.specs.Iterator.{YieldsFirstBy, item_count};
-    ghost use Rattle.cedar_exprs.specs.Iterators.{slot_at, slots_left};
+    ghost use Rattle.cedar_exprs.specs.Iterators.{slot_at, slots_left, reserved_by_slots};
 
-    ghost next_gives = { YieldsFirstBy slot_at slots_left };
+    ghost next_gives = { λ old r new. YieldsFirstBy slot_at slots_left old r new
+        × (reserved_by_slots new ≡ reserved_by_slots old) };
 
     ghost remaining = { item_count slots_left };
 
@@ -172,9 +174,10 @@ impl<'a, T> Iterator for Unknowns<'a, T> {
     type Item = &'a Unknown;
 
     ghost use Rattle.std.specs.Iterator.{YieldsFirstRef, item_count};
-    ghost use Rattle.cedar_exprs.specs.Iterators.{unknowns_left};
+    ghost use Rattle.cedar_exprs.specs.Iterators.{unknowns_left, reserved_by_unknowns};
 
-    ghost next_gives = { YieldsFirstRef unknowns_left };
+    ghost next_gives = { λ old r new. YieldsFirstRef unknowns_left old r new
+        × (reserved_by_unknowns new ≡ reserved_by_unknowns old) };
 
     ghost remaining = { item_count unknowns_left };
 

@@ -1,10 +1,13 @@
-use Rattle.std.proofs.Common.{◌≤◌, length}
-use Rattle.cedar_values.specs.Drops.{entry_nodes}
+use Rattle.std.proofs.Common.{◌≡◌, ◌≤◌, length}
+use Rattle.std.specs.List.{filter_map}
+use Rattle.cedar_values.specs.Drops.{branch_of, entry_nodes}
 use Rattle.cedar_values.proofs.row_items.last_branch_value.Given as goal
 
--- no more values are left than there were
+-- no more values are left than there were, and each branch
 abbrev pub invariant-leaves : goal.invariant-leaves
-invariant-leaves g l = entry_nodes l.pairs.entries ≤ entry_nodes l.initial.pairs.entries
+invariant-leaves g l =
+    (entry_nodes l.pairs.entries ≤ entry_nodes l.initial.pairs.entries)
+    × (filter_map (λ p. branch_of p.1) l.pairs.entries ≡ filter_map (λ p. branch_of p.1) l.initial.pairs.entries)
 
 abbrev pub decreases-leaves : goal.decreases-leaves
 decreases-leaves g l = length l.pairs.entries

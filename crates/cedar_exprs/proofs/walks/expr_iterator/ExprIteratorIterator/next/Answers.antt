@@ -1,4 +1,4 @@
-use Rattle.std.proofs.Common.{◌≤◌, length, arith, ap, sym, subst, vec_capacity}
+use Rattle.std.proofs.Common.{◌≤◌, length, arith, ap, sym, ◌∙◌, subst, vec_capacity}
 use Rattle.cedar_exprs.specs.Walks.{need_of}
 use Rattle.cedar_exprs.proofs.Stacks.{still_fit, count_fits, gives_top}
 use Rattle.cedar_exprs.proofs.walks.expr_iterator.ExprIteratorIterator.next.Goals as goal
@@ -18,7 +18,8 @@ invariant_of-self-2 g c =
 
 pub returns-clause-steps : goal.returns-clause-steps
 returns-clause-steps g c =
-    gives_top c.args.self.now.expression_stack.items c.pop.new.self.items c.in_ok-expr.expr c.in_ok-expr.ensures.items _ c.push_children.ensures.items
+    let gives = gives_top c.args.self.now.expression_stack.items c.pop.new.self.items c.in_ok-expr.expr c.in_ok-expr.ensures.items _ c.push_children.ensures.items in
+    (gives, c.push_children.ensures.room ∙ c.in_ok-expr.ensures.capacity)
 
 pub returns-clause-goes : goal.returns-clause-goes
 returns-clause-goes g c =
