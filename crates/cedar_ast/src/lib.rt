@@ -15,11 +15,9 @@ pub use cedar_builders::{
     SubstitutionError,
 };
 pub use cedar_calls::{
-    BinaryExtensionFunctionObject, BinaryFunction, BoxedFunction, EvaluationError, Extension,
-    ExtensionFunction, ExtensionFunctionObject, ExtensionFunctions, ExtensionOutputValue,
-    Extensions, FunctionBox, NoFunction, NullaryExtensionFunctionObject, NullaryFunction,
-    TernaryExtensionFunctionObject, TernaryFunction, UnaryExtensionFunctionObject, UnaryFunction,
-    VariadicExtensionFunctionObject, VariadicFunction,
+    BinaryFunction, BoxedFunction, EvaluationError, Extension, ExtensionFunction,
+    ExtensionFunctionObject, ExtensionFunctions, ExtensionOutputValue, Extensions, FunctionBox,
+    NoFunction, NullaryFunction, TernaryFunction, UnaryFunction, VariadicFunction,
 };
 pub use cedar_exprs::{
     CallStyle, Expr, ExprBuilder, ExprIterator, ExprKind, ExprShapeOnly, ExprValidationError,

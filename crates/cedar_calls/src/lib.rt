@@ -18,9 +18,7 @@ pub use extension_function::ExtensionFunction;
 pub use extensions::Extensions;
 pub use no_function::NoFunction;
 pub use object::{
-    BinaryExtensionFunctionObject, BinaryFunction, ExtensionFunctionObject, ExtensionFunctions,
-    NullaryExtensionFunctionObject, NullaryFunction, TernaryExtensionFunctionObject,
-    TernaryFunction, UnaryExtensionFunctionObject, UnaryFunction, VariadicExtensionFunctionObject,
-    VariadicFunction,
+    BinaryFunction, ExtensionFunctionObject, ExtensionFunctions, NullaryFunction, TernaryFunction,
+    UnaryFunction, VariadicFunction,
 };
 pub use output_value::ExtensionOutputValue;

@@ -7,38 +7,7 @@ use crate::err::EvaluationError;
 use crate::output_value::ExtensionOutputValue;
 use cedar_values::{ExtensionValue, NoExtension, Value};
 use std::alloc::Global;
-use std::boxed::Box;
 use std::fmt;
-
-/// A boxed function of no arguments.
-pub type NullaryExtensionFunctionObject<X = NoExtension> = Box<
-    dyn Fn(Global) -> Result<ExtensionOutputValue<X>, EvaluationError>,
->;
-
-/// A boxed function of one argument.
-pub type UnaryExtensionFunctionObject<X = NoExtension> = Box<
-    dyn Fn(Global, &Value<X>) -> Result<ExtensionOutputValue<X>, EvaluationError>,
->;
-
-/// A boxed function of two arguments.
-pub type BinaryExtensionFunctionObject<X = NoExtension> = Box<
-    dyn Fn(Global, &Value<X>, &Value<X>) -> Result<ExtensionOutputValue<X>, EvaluationError>,
->;
-
-/// A boxed function of three arguments.
-pub type TernaryExtensionFunctionObject<X = NoExtension> = Box<
-    dyn Fn(
-        Global,
-        &Value<X>,
-        &Value<X>,
-        &Value<X>,
-    ) -> Result<ExtensionOutputValue<X>, EvaluationError>,
->;
-
-/// A boxed function of a first argument and one or more further ones.
-pub type VariadicExtensionFunctionObject<X = NoExtension> = Box<
-    dyn Fn(Global, &Value<X>, &[Value<X>]) -> Result<ExtensionOutputValue<X>, EvaluationError>,
->;
 
 /// A function of no arguments.
 pub trait NullaryFunction<X>: Drop {
