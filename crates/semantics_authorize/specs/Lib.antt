@@ -1,0 +1,6 @@
+pub mod Policies
+pub mod Decisions
+pub mod Authorization
+pub mod DecisionLaws
+pub mod Laws
+pub mod Worked
