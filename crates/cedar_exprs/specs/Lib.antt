@@ -11,6 +11,7 @@ pub mod Children
 pub mod FirstNodes
 pub mod NotRestricted
 pub mod RestrictedExprs
+pub mod BoundWalks
 pub mod Refusals
 pub mod TypedAnswers
 pub mod TypedFaults

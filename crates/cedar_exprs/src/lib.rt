@@ -17,6 +17,8 @@ mod validation;
 mod walks;
 
 pub use builder::ExprBuilder;
+pub use building::bound::BoundBuilding;
+pub use building::build::Building;
 pub use building::typed_build::TypedBuildFault;
 pub use building::value_builder::{ThroughExpr, ValueBuilder};
 pub use cedar_builders::SubstitutionError;
@@ -25,3 +27,5 @@ pub use expr::{Expr, ExprKind, KindOf};
 pub use restricted_expr::{RestrictedExpr, RestrictedExprError, SubstituteValue};
 pub use shapes::expr_shape_only::ExprShapeOnly;
 pub use walks::expr_iterator::{ExprIterator, SlotRef, Slots, Unknowns};
+pub use walks::post_order::{PostOrder, PostOrderFault};
+pub use walks::results::{push_item, take_many, take_two};

@@ -4,6 +4,7 @@ ghost use Rattle.cedar_builders.specs.Answers.{Gives};
 ghost use Rattle.cedar_builders.specs.Environment.{bound, empty, fold};
 ghost use Rattle.cedar_builders.specs.NodeByNode.{IsBuiltOf, fold_by_nodes};
 ghost use Rattle.cedar_exprs.specs.BareExpr.{bare_expr};
+ghost use Rattle.cedar_exprs.specs.BoundWalks.{values_of};
 ghost use Rattle.cedar_exprs.specs.PostOrder.{IsPut};
 ghost use Rattle.cedar_exprs.specs.RestrictedExprs.{binding_of, env_of};
 
@@ -54,21 +55,30 @@ impl<T> Expr<T> {
             (fold B.ops (env_of V.bare_type_of V.bare_expr_of values.now) (bare_expr self.now))
             result }
     {
-        let walk = BoundBuilding::<B, V, W> {
-            values,
-            of: PhantomData,
-            by: PhantomData,
-        };
-        build_by(alloc, &walk, self)
+        build_by(alloc, &BoundBuilding::<B, V, W>::new(values), self)
     }
 }
 
-// Each node by a new builder, but for unknowns that are bound: these are built from their values.
+/// The walk of a builder with values put for unknowns: each node by a new builder, but for unknowns
+/// that are bound, which `W` builds from their values.
 #[derive(Drop)]
-struct BoundBuilding<'a, B, V, W> {
+pub struct BoundBuilding<'a, B, V, W> {
     values: &'a HashMap<RcStr, V>,
     of: PhantomData<B>,
     by: PhantomData<W>,
+}
+
+impl<'a, B, V, W> BoundBuilding<'a, B, V, W> {
+    /// The walk with these values.
+    pub fn new(values: &'a HashMap<RcStr, V>) -> BoundBuilding<'a, B, V, W>
+        ensures { values_of result ≡ values.now }
+    {
+        BoundBuilding {
+            values,
+            of: PhantomData,
+            by: PhantomData,
+        }
+    }
 }
 
 impl<T, B: ExprBuilder, V: SubstituteValue, W: ValueBuilder<B, V>> PostOrder<T>
@@ -85,10 +95,10 @@ impl<T, B: ExprBuilder, V: SubstituteValue, W: ValueBuilder<B, V>> PostOrder<T>
 
     ghost fault_of = { B.fault_of };
 
-    ghost answer = { λ w e. fold B.ops (env_of V.bare_type_of V.bare_expr_of w.values.now) e };
+    ghost answer = { λ w e. fold B.ops (env_of V.bare_type_of V.bare_expr_of (values_of w)) e };
 
     ghost is_made_of = { λ w e. IsBuiltOf B.ops
-        (λ n t. bound B.ops (env_of V.bare_type_of V.bare_expr_of w.values.now n) n t) e };
+        (λ n t. bound B.ops (env_of V.bare_type_of V.bare_expr_of (values_of w) n) n t) e };
 
     #[inline(always)]
     fn make(
@@ -99,15 +109,12 @@ impl<T, B: ExprBuilder, V: SubstituteValue, W: ValueBuilder<B, V>> PostOrder<T>
     ) -> Result<(), PostOrderFault<B::BuildError>> {
         match binding(self.values, node) {
             Some(value) => put_value::<B, V, W>(alloc, value, done),
-            None => {
-                let building = Building::<B> { of: PhantomData };
-                building.make(alloc, node, done)
-            }
+            None => { Building::<B>::new().make(alloc, node, done) }
         }
     }
 
     ghost by_nodes = { λ w. fold_by_nodes B.ops
-        (λ n t. bound B.ops (env_of V.bare_type_of V.bare_expr_of w.values.now n) n t) };
+        (λ n t. bound B.ops (env_of V.bare_type_of V.bare_expr_of (values_of w) n) n t) };
 }
 
 // The value that a node is bound to, where it is an unknown.

@@ -49,7 +49,7 @@ impl<T> Expr<T> {
     ) -> Result<B::Expr, BuildFault<B::BuildError>>
         ensures { Gives B.meaning_of B.fault_of (fold B.ops empty (bare_expr self.now)) result }
     {
-        build_by(alloc, &Building::<B> { of: PhantomData }, self)
+        build_by(alloc, &Building::<B>::new(), self)
     }
 
     /// What a builder makes of the expression, if none of the builder's calls is refused for a
@@ -96,10 +96,17 @@ pub(crate) fn build_by<T, W: PostOrder<T>>(
     }
 }
 
-// Each node by a new builder.
+/// The walk of a builder: each node by a new one, with the node's place.
 #[derive(Drop)]
-pub(crate) struct Building<B> {
-    pub(crate) of: PhantomData<B>,
+pub struct Building<B> {
+    of: PhantomData<B>,
+}
+
+impl<B> Building<B> {
+    /// The walk of this builder.
+    pub fn new() -> Building<B> {
+        Building { of: PhantomData }
+    }
 }
 
 impl<T, B: ExprBuilder> PostOrder<T> for Building<B> {

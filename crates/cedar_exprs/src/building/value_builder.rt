@@ -27,6 +27,6 @@ pub struct ThroughExpr;
 impl<B: ExprBuilder, V: SubstituteValue> ValueBuilder<B, V> for ThroughExpr {
     fn build_value(alloc: Global, value: &V) -> Result<B::Expr, BuildFault<B::BuildError>> {
         let expr = value.value_expr(alloc)?;
-        build_by(alloc, &Building::<B> { of: PhantomData }, expr.as_expr())
+        build_by(alloc, &Building::<B>::new(), expr.as_expr())
     }
 }

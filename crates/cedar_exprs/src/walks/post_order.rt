@@ -14,12 +14,12 @@ use std::alloc::{AllocError, AllocFailed, Global};
 use std::collections::BTreeMap;
 use std::rc::RcStr;
 
-// Why a walk gives no answer.
+/// Why a walk from the children up gives no answer.
 #[derive(Drop)]
-pub(crate) enum PostOrderFault<R> {
-    // A node was refused.
+pub enum PostOrderFault<R> {
+    /// A node was refused.
     Refused(R),
-    // Memory was.
+    /// Memory was.
     Memory,
 }
 
@@ -39,12 +39,15 @@ impl<R, X: Drop> From<AllocFailed<X>> for PostOrderFault<R> {
     }
 }
 
-// A walk from the children up: what each node gives, by what its children gave.
-pub(crate) trait PostOrder<T> {
-    // What a node gives.
+/// A walk from the children up: what each node gives, by what its children gave.
+///
+/// `Building` is the walk of a builder. A walk that needs more than a builder has, as a request or a
+/// store, holds it, makes some nodes itself, and leaves the others to a `Building`.
+pub trait PostOrder<T> {
+    /// What a node gives.
     type Out: Drop;
 
-    // Why a node gives nothing.
+    /// Why a node gives nothing.
     type Refusal: Drop;
 
     ghost Meaning: { Type 0 };
@@ -61,8 +64,8 @@ pub(crate) trait PostOrder<T> {
     // What is made of a node and what its children gave.
     ghost is_made_of: { Self → BareExpr → List Meaning → Result Meaning Fault → Type 0 };
 
-    // Puts what a node gives in the place of what its children gave, the last of `done`, in field
-    // order.
+    /// Puts what a node gives in the place of what its children gave, the last of `done`, in field
+    /// order.
     fn make(
         &self,
         alloc: Global,
@@ -83,6 +86,20 @@ enum Task<'a, T> {
     Visit(&'a Expr<T>),
     // To make what a node gives, where its children are done.
     Make(&'a Expr<T>),
+}
+
+impl<T> Expr<T> {
+    /// What a walk from the children up gives: the children of a node in field order, those of a
+    /// record in the order of their keys. The first refusal ends it. It takes no machine stack.
+    pub fn post_order<W: PostOrder<T>>(
+        &self,
+        alloc: Global,
+        walk: &W,
+    ) -> Result<W::Out, PostOrderFault<W::Refusal>>
+        ensures { IsAnswer W.meaning_of W.fault_of (W.answer walk.now (bare_expr self.now)) result }
+    {
+        run(alloc, walk, self)
+    }
 }
 
 // What a tree gives, or the first refusal.

@@ -7,9 +7,9 @@ use std::alloc::{AllocError, Global};
 use std::collections::BTreeMap;
 use std::rc::RcStr;
 
-// Puts an item on top. `push` would move it once more, since its error has the item.
+/// Puts an item on top. `push` would move it once more, since its error has the item.
 #[inline(always)]
-pub(crate) fn push_item<X: Drop>(done: &mut Vec<X>, out: X) -> Result<(), AllocError>
+pub fn push_item<X: Drop>(done: &mut Vec<X>, out: X) -> Result<(), AllocError>
     ensures { IfOk result (λ _. done.new.items ≡ done.old.items ++ out ∷ []) }
 {
     done.reserve(1)?;
@@ -17,9 +17,9 @@ pub(crate) fn push_item<X: Drop>(done: &mut Vec<X>, out: X) -> Result<(), AllocE
     Ok(())
 }
 
-// The last two results, which are taken off.
+/// The last two results, which are taken off.
 #[inline(always)]
-pub(crate) fn take_two<X: Drop>(done: &mut Vec<X>) -> (X, X)
+pub fn take_two<X: Drop>(done: &mut Vec<X>) -> (X, X)
     requires { 2 ≤ vec_len done.old }
     ensures { done.old.items ≡ done.new.items ++ result.0 ∷ result.1 ∷ [] }
 {
@@ -39,8 +39,8 @@ pub(crate) fn take_three<X: Drop>(done: &mut Vec<X>) -> (X, X, X)
     (first, second, third)
 }
 
-// The last results, this many, which are taken off.
-pub(crate) fn take_many<X: Drop>(done: &mut Vec<X>, count: usize) -> Result<Vec<X>, AllocError>
+/// The last results, this many, which are taken off.
+pub fn take_many<X: Drop>(done: &mut Vec<X>, count: usize) -> Result<Vec<X>, AllocError>
     requires { count ≤ vec_len done.old }
     ensures taken { IfOk result (λ last. done.old.items ≡ done.new.items ++ last.items) }
     ensures count { IfOk result (λ last. length last.items ≡ count) }

@@ -8,9 +8,9 @@ pub returns-in-Some-into_subtrees : goal.returns-in-Some-into_subtrees
 returns-in-Some-into_subtrees g c =
     let less = one_off nodes _ _ _ c.in-Some.ensures.items in
     record {
-      gives = sym c.leaves.invariant.1 ∙ branch_off branch_of _ _ _ _ c.in-Some.ensures.items (sym c.into_subtrees.ensures.branch ∙ c.in-Some-into_subtrees.is)
-      ; taken = omega (arith, less, c.in-Some-into_subtrees.ensures.nodes, c.leaves.invariant.0)
-      ; fewer = omega (arith, less, c.leaves.invariant.0)
+      gives = sym c.leaves.invariant.1 ∙ branch_off branch_of _ _ _ _ c.in-Some.ensures.items (sym c.into_subtrees.ensures.branch ∙ c.in-Some-into_subtrees.is);
+      taken = omega (arith, less, c.in-Some-into_subtrees.ensures.nodes, c.leaves.invariant.0);
+      fewer = omega (arith, less, c.leaves.invariant.0);
     }
 
 pub leaves-preserved : goal.leaves-preserved
