@@ -1,0 +1,11 @@
+pub mod Splits
+pub mod Places
+pub mod DecimalTexts
+pub mod AmountTexts
+pub mod DurationTexts
+pub mod Prefixes
+pub mod PrefixTexts
+pub mod IpTexts
+pub mod CalendarLemmas
+pub mod ShapeLemmas
+pub mod MomentTexts

@@ -1,0 +1,15 @@
+pub mod Numbers
+pub mod Parts
+pub mod Decimals
+pub mod Amounts
+pub mod AmountReads
+pub mod Durations
+pub mod Slashes
+pub mod Ranges
+pub mod AddressReads
+pub mod IpAddrs
+pub mod Calendar
+pub mod Shapes
+pub mod Moments
+pub mod FieldReads
+pub mod Datetimes
