@@ -2,8 +2,10 @@
 ghost use Rattle.std.specs.Prelude.{◌≡◌};
 ghost use Rattle.cedar_conditions.specs.declared.bindings.BindingsError.TheVariants.{Memory};
 
-use crate::json::{NoValue, expr_of};
-use cedar_exprs::Expr;
+use crate::json::{NoValue, entity_of_object, entity_of_text, expr_of};
+use crate::unknowns::asks_for;
+use cedar_exprs::{Expr, ExprKind};
+use cedar_lexer::{ParseFailure, tokenize};
 use cedar_terms::Unknown;
 use cedar_values::{NotValue, Value, WellFormedValue};
 use std::alloc::{AllocError, AllocFailed, Global};
@@ -27,12 +29,15 @@ pub enum BindingsError {
     /// It is no JSON.
     #[error("{0}")]
     Json(serde_json::Error),
+    /// Its objects and arrays nest deeper than 127 levels.
+    #[error("JSON nests at most 127 levels deep: {0}")]
+    TooDeep(serde_json::Error),
     /// It is no object.
     #[error("an object of names and their values is wanted")]
     NoObject,
-    /// A member is no value in Cedar.
-    #[error("{name:?} has no value: {problem}")]
-    NoValue { name: RcStr, problem: &'static str },
+    /// A member is no value in Cedar. The path leads from the name that it stands for.
+    #[error("{path}: {problem}")]
+    NoValue { path: String, problem: String },
     /// Memory was wanted, and none was given.
     #[error("no memory")]
     Memory,
@@ -54,12 +59,16 @@ impl<T: Drop> From<AllocFailed<T>> for BindingsError {
     }
 }
 
-impl From<serde_json::Error> for BindingsError {
-    fn from(error: serde_json::Error) -> BindingsError {
+impl BindingsError {
+    // What is told of an error of the reader of JSON.
+    fn of_json(alloc: Global, error: serde_json::Error) -> BindingsError {
         if error.is_memory() {
-            BindingsError::Memory
-        } else {
-            BindingsError::Json(error)
+            return BindingsError::Memory;
+        }
+        match error.to_string(alloc) {
+            Ok(text) if text.starts_with("recursion limit") => BindingsError::TooDeep(error),
+            Ok(_) => BindingsError::Json(error),
+            Err(_) => BindingsError::Memory,
         }
     }
 }
@@ -83,10 +92,55 @@ impl Bindings {
     /// `docs/CONDITIONS.md` says which value each kind of JSON is. If the text is refused, nothing
     /// is bound; if memory runs out, some names may be.
     pub fn bind_json(&mut self, alloc: Global, text: &str) -> Result<(), BindingsError> {
-        for (name, expr) in members(alloc, text)? {
+        let json = json_of(alloc, text)?;
+        let Some(object) = json.as_object() else {
+            return Err(BindingsError::NoObject);
+        };
+        let mut members = Vec::with_capacity(alloc, object.len())?;
+        for (name, value) in object {
+            members.push((RcStr::from_str(alloc, name)?, member(alloc, name, value)?))?;
+        }
+        for (name, expr) in members {
             self.bind(alloc, name, expr)?;
         }
         Ok(())
+    }
+
+    /// Binds a name to what a piece of JSON stands for, in place of what it stood for.
+    ///
+    /// ```rust
+    /// bindings.bind_value(alloc, "limit", "3")?;
+    /// ```
+    pub fn bind_value(
+        &mut self,
+        alloc: Global,
+        name: &str,
+        text: &str,
+    ) -> Result<(), BindingsError> {
+        let json = json_of(alloc, text)?;
+        let expr = member(alloc, name, &json)?;
+        Ok(self.bind(alloc, RcStr::from_str(alloc, name)?, expr)?)
+    }
+
+    /// The bound names for which none of these conditions asks, but for the variables of the
+    /// request, in ascending order.
+    pub fn unused(&self, alloc: Global, texts: &[&str]) -> Result<Vec<String>, AllocError> {
+        let mut names = Vec::new(alloc);
+        for name in self.parsed_as.keys() {
+            if !is_variable(name) {
+                names.push(String::from_str(alloc, name)?)?;
+            }
+        }
+        for text in texts {
+            keep_unused(alloc, text, &mut names)?;
+        }
+        names.sort()?;
+        Ok(names)
+    }
+
+    // Whether a name is bound to what has calls in it.
+    pub(crate) fn holds_calls(&self) -> bool {
+        self.values.len() != self.parsed_as.len()
     }
 
     // Binds a name to an expression of literals, sets, records and calls.
@@ -106,29 +160,78 @@ impl Bindings {
     }
 }
 
-// The names that a JSON object has, and the expressions of what they stand for.
-fn members(alloc: Global, text: &str) -> Result<Vec<(RcStr, Expr)>, BindingsError> {
-    let json = serde_json::Value::from_str(alloc, text)?;
-    let Some(object) = json.as_object() else {
-        return Err(BindingsError::NoObject);
-    };
-    let mut members = Vec::with_capacity(alloc, object.len())?;
-    for (name, value) in object {
-        members.push(member(alloc, name, value)?)?;
+fn json_of(alloc: Global, text: &str) -> Result<serde_json::Value, BindingsError> {
+    match serde_json::Value::from_str(alloc, text) {
+        Ok(json) => Ok(json),
+        Err(error) => Err(BindingsError::of_json(alloc, error)),
     }
-    Ok(members)
 }
 
-fn member(
-    alloc: Global,
-    name: &str,
-    value: &serde_json::Value,
-) -> Result<(RcStr, Expr), BindingsError> {
-    let name = RcStr::from_str(alloc, name)?;
-    match expr_of(alloc, value) {
-        Ok(expr) => Ok((name, expr)),
-        Err(NoValue::Because(problem)) => Err(BindingsError::NoValue { name, problem }),
+// Whether a name is that of a variable of the request.
+fn is_variable(name: &str) -> bool {
+    is_entity_variable(name) || name == "context"
+}
+
+fn is_entity_variable(name: &str) -> bool {
+    matches!(name, "principal" | "action" | "resource")
+}
+
+// Keeps the names for which a text does not ask; none if that can't be told.
+fn keep_unused(alloc: Global, text: &str, names: &mut Vec<String>) -> Result<(), AllocError> {
+    match tokenize(alloc, text) {
+        Ok(tokens) => names.retain(|name| !asks_for(&tokens, name)),
+        Err(ParseFailure::Syntax(_, _)) => names.clear(),
+        Err(ParseFailure::Memory) => return Err(AllocError),
+    }
+    Ok(())
+}
+
+// What a name stands for, by its JSON.
+fn member(alloc: Global, name: &str, json: &serde_json::Value) -> Result<Expr, BindingsError> {
+    let made = if is_entity_variable(name) {
+        entity(alloc, name, json)
+    } else {
+        expr_of(alloc, json)
+    };
+    match made {
+        Ok(expr) if name == "context" && !is_record(&expr) => Err(BindingsError::NoValue {
+            path: String::from_str(alloc, name)?,
+            problem: String::from_str(alloc, "the context is a record")?,
+        }),
+        Ok(expr) => Ok(expr),
+        Err(
+            NoValue::Because {
+                path: rest,
+                problem,
+            },
+        ) => {
+            let path = format!(in alloc; "{name}{rest}")?;
+            Err(BindingsError::NoValue { path, problem })
+        }
         Err(NoValue::Memory) => Err(BindingsError::Memory),
+    }
+}
+
+fn is_record(expr: &Expr) -> bool {
+    matches!(expr.expr_kind(), ExprKind::Record(_))
+}
+
+// The entity of a variable: an object, or a text as in a request.
+fn entity(alloc: Global, name: &str, json: &serde_json::Value) -> Result<Expr, NoValue> {
+    let found = match json {
+        serde_json::Value::String(text) => entity_of_text(alloc, text)?,
+        serde_json::Value::Object(_) => return entity_of_object(alloc, json),
+        _ => None,
+    };
+    match found {
+        Some(expr) => Ok(expr),
+        None => Err(NoValue::Because {
+            path: String::new(alloc),
+            problem: format!(in alloc;
+                "the {name} is an entity, as \"User::\\\"alice\\\"\" or \
+                {{\"type\": \"User\", \"id\": \"alice\"}}"
+            )?,
+        }),
     }
 }
 

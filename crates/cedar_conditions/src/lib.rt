@@ -3,7 +3,16 @@
 
 mod answer;
 mod bindings;
+mod calls;
+mod faults;
+mod hints;
 mod json;
+mod layout;
+mod nearest;
+mod problem;
+mod size;
+mod unknowns;
 
-pub use answer::{Answer, evaluate_condition};
+pub use answer::{Answer, Residual, evaluate_condition};
 pub use bindings::{Bindings, BindingsError};
+pub use problem::Problem;

@@ -2,6 +2,7 @@
 use crate::conditions::bound;
 use anyhow::Result;
 use cedar_conditions::{Answer, Bindings, evaluate_condition};
+use std::alloc::{AllocError, Global};
 
 /// Compares the answer to each condition of a file with what stands below it there, and shows those
 /// that differ. Blank lines stand between conditions; the first line says what names stand for.
@@ -15,7 +16,7 @@ pub fn compare(rt: &HostRuntime, blocks: &str) -> Result<()> {
         } else if let Some((condition, wanted)) = block.split_once('\n') {
             faults = faults.saturating_add(1);
             let answer = evaluate_condition(rt.alloc(), condition, &bindings)?;
-            if !is_fault(&answer, wanted.trim_end()) {
+            if !is_fault(rt.alloc(), &answer, wanted.trim_end())? {
                 failed = failed.saturating_add(1);
                 println!(rt; "{condition}\n{answer}")?;
             }
@@ -26,6 +27,7 @@ pub fn compare(rt: &HostRuntime, blocks: &str) -> Result<()> {
 }
 
 // Whether an answer is a fault with this text.
-fn is_fault(answer: &Answer, wanted: &str) -> bool {
-    matches!(answer, Answer::Fault(text) if text.as_str() == wanted)
+fn is_fault(alloc: Global, answer: &Answer, wanted: &str) -> Result<bool, AllocError> {
+    let text = answer.to_string(alloc)?;
+    Ok(matches!(answer, Answer::Fault(_)) && text.as_str() == wanted)
 }

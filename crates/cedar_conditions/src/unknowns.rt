@@ -1,0 +1,69 @@
+//! What of a condition is not known.
+use cedar_exprs::{Expr, ExprKind};
+use cedar_lexer::{Token, TokenKind};
+use cedar_terms::{BinaryOp, Literal};
+use std::alloc::{AllocError, Global};
+use std::collections::BTreeSet;
+
+/// What a residual asks for, each once, in ascending order: variables, slots and unknowns as they
+/// are written, `entities` for what the store of entities knows, and `f(..)` for the function `f`.
+pub(crate) fn unknowns_of(alloc: Global, residual: &Expr) -> Result<Vec<String>, AllocError> {
+    let mut seen = BTreeSet::new(alloc);
+    for node in residual.subexpressions(alloc)? {
+        if let Some(text) = unknown_text(alloc, node)? {
+            let _is_new = seen.insert(text)?;
+        }
+    }
+    seen.into_iter().collect(alloc)
+}
+
+// What a node asks for that is not known.
+fn unknown_text(alloc: Global, node: &Expr) -> Result<Option<String>, AllocError> {
+    match node.expr_kind() {
+        ExprKind::Var(var) => Ok(Some(var.to_string(alloc)?)),
+        ExprKind::Slot(slot) => Ok(Some(slot.to_string(alloc)?)),
+        ExprKind::Unknown(unknown) => {
+            let name = unknown.name.as_str();
+            Ok(Some(format!(in alloc; "unknown({name:?})")?))
+        }
+        ExprKind::ExtensionFunctionApp { fn_name, .. } => {
+            Ok(Some(format!(in alloc; "{fn_name}(..)")?))
+        }
+        kind if asks_for_entities(kind) => Ok(Some(String::from_str(alloc, "entities")?)),
+        _ => Ok(None),
+    }
+}
+
+// Whether the store of entities alone may know what a node gives.
+fn asks_for_entities(kind: &ExprKind) -> bool {
+    match kind {
+        ExprKind::BinaryApp { op, .. } => {
+            matches!(op, BinaryOp::In | BinaryOp::GetTag | BinaryOp::HasTag)
+        }
+        ExprKind::GetAttr { expr, .. } | ExprKind::HasAttr { expr, .. } => {
+            matches!(expr.expr_kind(), ExprKind::Lit(Literal::EntityUID(_)))
+        }
+        _ => false,
+    }
+}
+
+/// Whether a text asks for the unknown of a name, as in `unknown("limit")`.
+pub(crate) fn asks_for(tokens: &[Token<'_>], name: &str) -> bool {
+    tokens.windows(3).any(|tokens| match tokens {
+        [function, open, text] => {
+            function.text == "unknown"
+                && open.kind == TokenKind::OpenRound
+                && text.kind == TokenKind::Quoted
+                && is_quoted(text.text, name)
+        }
+        _ => false,
+    })
+}
+
+// Whether a token between quotes is this text.
+fn is_quoted(token: &str, name: &str) -> bool {
+    let inside = token
+        .strip_prefix('"')
+        .and_then(|rest| rest.strip_suffix('"'));
+    inside == Some(name)
+}

@@ -1,0 +1,1 @@
+true && true && true && true && true && true && true && true && true && true && true && true && true && true && true && true && true && true && true && true && 1 + "a" && true && true && true && true && true && true && true && true && true && true && true && true && true && true && true && true && true && true && true && true
