@@ -2,7 +2,8 @@
 use Rattle.std.proofs.Common.{◌≡◌, ap, List, [], ◌∷◌, length, map}
 use Rattle.std.proofs.lemmas.List.{nil_from_length}
 use Rattle.cedar_builders.specs.BareExpr.{Text}
-use Rattle.cedar_printer.specs.Phrases.{function_of, method_call_of, method_of, rope_phrase, row_text}
+use Rattle.semantics_printing.specs.Phrases.{function_of, method_call_of, method_of, row_text}
+use Rattle.cedar_printer.specs.Phrases.{rope_phrase}
 use Rattle.cedar_printer.specs.declared.phrase.RopePhrase.{RopePhrase}
 
 -- with a first argument

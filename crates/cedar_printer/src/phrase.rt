@@ -4,7 +4,8 @@ ghost use Rattle.std.specs.Rc.{rc_str_bytes};
 ghost use Rattle.std.specs.Vec.Iter.{into_iter_items};
 ghost use Rattle.cedar_builders.specs.Keys.{meant_pairs};
 ghost use Rattle.cedar_builders.specs.Ropes.{text_of};
-ghost use Rattle.cedar_printer.specs.Phrases.{
+ghost use Rattle.cedar_printer.specs.Phrases.{phrase_of, rope_phrase};
+ghost use Rattle.semantics_printing.specs.Phrases.{
   attribute_text,
   call_of,
   conditional_text,
@@ -19,9 +20,7 @@ ghost use Rattle.cedar_printer.specs.Phrases.{
   method_of,
   others_text,
   path_text,
-  phrase_of,
   prefix_of,
-  rope_phrase,
   row_text,
   text_at,
 };

@@ -9,8 +9,8 @@ ghost use Rattle.cedar_builders.specs.Errors.{OnDuplicateKey};
 ghost use Rattle.cedar_builders.specs.Keys.{keys_of, meant_pairs, IsAscending, HasRepeat};
 ghost use Rattle.cedar_names.specs.PlainNames.{bare_name};
 ghost use Rattle.cedar_printer.specs.Phrases.{phrase_of, rope_phrase};
-ghost use Rattle.cedar_printer.specs.PolicyTexts.{policy_text_ops};
 ghost use Rattle.cedar_terms.specs.declared.precedence.Precedence.{Precedence};
+ghost use Rattle.semantics_printing.specs.PolicyTexts.{policy_text_ops};
 
 use crate::phrase::{
     Phrase, RopePhrase, make_attribute, make_call, make_conditional, make_fields, make_infix,

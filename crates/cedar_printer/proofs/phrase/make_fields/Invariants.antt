@@ -1,7 +1,8 @@
 use Rattle.std.proofs.Common.{◌≡◌, ◌++◌, map}
 use Rattle.std.specs.Vec.Iter.{into_iter_items}
 use Rattle.cedar_builders.specs.Keys.{meant_pairs}
-use Rattle.cedar_printer.specs.Phrases.{field_of, rope_phrase}
+use Rattle.semantics_printing.specs.Phrases.{field_of}
+use Rattle.cedar_printer.specs.Phrases.{rope_phrase}
 use Rattle.cedar_printer.proofs.phrase.make_fields.Given as goal
 
 -- what is made, and then the rest

@@ -1,6 +1,6 @@
 use Rattle.std.proofs.Common.{◌≡◌, map, take, string_bytes}
 use Rattle.std.specs.Rc.{rc_str_bytes}
-use Rattle.cedar_printer.specs.Phrases.{path_text}
+use Rattle.semantics_printing.specs.Phrases.{path_text}
 use Rattle.cedar_printer.proofs.phrase.make_path.Given as goal
 
 -- what is written is the path so far

@@ -1,7 +1,8 @@
 use Rattle.std.proofs.Common.{◌≡◌, ◌++◌, map}
 use Rattle.std.specs.Vec.Iter.{into_iter_items}
 use Rattle.cedar_builders.specs.Ropes.{text_of}
-use Rattle.cedar_printer.specs.Phrases.{others_text, rope_phrase}
+use Rattle.semantics_printing.specs.Phrases.{others_text}
+use Rattle.cedar_printer.specs.Phrases.{rope_phrase}
 use Rattle.cedar_printer.proofs.phrase.push_others.Given as goal
 
 -- what is written, and then the rest

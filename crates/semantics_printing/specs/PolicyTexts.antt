@@ -15,7 +15,7 @@ use Rattle.cedar_terms.specs.declared.pattern.PatternElem.{PatternElem}
 use Rattle.cedar_terms.specs.Precedences.{infix_precedences, literal_precedence}
 use Rattle.cedar_terms.specs.declared.precedence.Precedence.{Precedence}
 use Rattle.cedar_terms.specs.declared.precedence.Precedence.TheVariants as precedences
-use Rattle.cedar_printer.specs.Phrases.{attribute_text, call_of, conditional_text, field_of, infix_of, member, method_of, path_text, prefix_of, row_text, text_at}
+use Rattle.semantics_printing.specs.Phrases.{attribute_text, call_of, conditional_text, field_of, infix_of, member, method_of, path_text, prefix_of, row_text, text_at}
 
 -- signs before the operand, and a method
 abbrev pub unary_text : UnaryOp → Text × Precedence → Text × Precedence

@@ -1,0 +1,12 @@
+pub mod PolicyLexemes
+pub mod Folds
+pub mod KeyOrder
+pub mod Numbers
+pub mod Readings
+pub mod Read
+pub mod Longest
+pub mod Between
+pub mod Lexing
+pub mod Lexed
+pub mod Printed
+pub mod Unwritten

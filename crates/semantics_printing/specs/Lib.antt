@@ -1,0 +1,4 @@
+pub mod Phrases
+pub mod PolicyTexts
+pub mod Writable
+pub mod Texts
