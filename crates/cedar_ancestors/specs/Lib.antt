@@ -1,0 +1,9 @@
+pub mod Reaching
+pub mod Tables
+pub mod Marks
+pub mod Refusals
+pub mod Reach
+pub mod Keyed
+pub mod Hierarchies
+pub mod Stores
+pub mod Stays
