@@ -1,3 +1,16 @@
 pub mod Greatest
 pub mod InOrder
 pub mod Tokenized
+pub mod Levels
+pub mod Operators
+pub mod Waits
+pub mod Steps
+pub mod Machine
+pub mod TakenSteps
+pub mod GroupSteps
+pub mod TokenTexts
+pub mod CallTrees
+pub mod Paths
+pub mod Records
+pub mod Whole
+pub mod NameSteps

@@ -1,2 +1,4 @@
-pub mod Operations
 pub mod Refused
+pub mod Waiting
+pub mod SoFar
+pub mod Meant

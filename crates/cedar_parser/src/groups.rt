@@ -1,5 +1,38 @@
 //! Brackets, conditionals, sets, records and calls.
-ghost use Rattle.std.specs.Prelude.{◌≡◌, ◌≤◌, IfErr, MatchResult, max};
+ghost use Rattle.std.specs.Prelude.{
+  ◌≡◌,
+  ◌≤◌,
+  ◌++◌,
+  [],
+  ◌∷◌,
+  IfErr,
+  IfOk,
+  IsTrue,
+  MatchResult,
+  None,
+  map,
+  max,
+};
+ghost use Rattle.cedar_builders.specs.Keys.{meant_pairs};
+ghost use Rattle.cedar_exprs.specs.BareExpr.{bare_expr};
+ghost use Rattle.cedar_parser.specs.Meant.{
+  HasNoValues,
+  IsClosing,
+  IsOpenParsed,
+  IsPushed,
+  IsRecordOperand,
+  IsRecordParsed,
+  IsRowOperand,
+  ParsesOn,
+  Takes,
+  from,
+  grouped,
+  here,
+  row_of,
+};
+ghost use Rattle.cedar_parser.specs.Waiting.{closing_of};
+ghost use Rattle.cedar_parser.specs.declared.groups.GroupKind.TheVariants as groupkinds;
+ghost use Rattle.cedar_parser.specs.declared.operand.Operation.TheVariants as operations;
 ghost use Rattle.cedar_lexer.specs.TokenStreams.{tokens_left};
 ghost use Rattle.cedar_lexer.specs.declared.parse_failure.ParseFailure.TheVariants.{Memory};
 ghost use Rattle.cedar_parser.specs.Refused.{
@@ -58,7 +91,9 @@ pub(crate) enum RowKind {
 
 impl RowKind {
     // The bracket at the end.
-    fn closing(&self) -> TokenKind {
+    fn closing(&self) -> TokenKind
+        ensures { result ≡ closing_of (row_of self.now) }
+    {
         match self {
             RowKind::Set => TokenKind::CloseSquare,
             RowKind::Function(_) => TokenKind::CloseRound,
@@ -69,7 +104,9 @@ impl RowKind {
 
 impl Group {
     // Whether a token of this kind may follow an operand in it, beside operators.
-    fn takes(&self, kind: TokenKind) -> bool {
+    fn takes(&self, kind: TokenKind) -> bool
+        ensures { IsTrue result → Takes (grouped self.now.kind) kind }
+    {
         match &self.kind {
             GroupKind::Round => kind == TokenKind::CloseRound,
             GroupKind::If => kind == TokenKind::Then,
@@ -103,22 +140,33 @@ impl Parser<'_> {
     ) -> Step
         requires opened { open_start self.old ≤ token.span.start }
         requires first { IsFirst (group_start group) token tokens.old }
+        ensures parses { ParsesOn
+            (λ ts. IsClosing ts self.old group expr (from token.entry tokens.old))
+            tokens.old result self.new tokens.new }
         ensures left { tokens_left tokens.new ≤ tokens_left tokens.old }
         ensures goes_on { IsStep tokens.old tokens.new self.new result }
     {
         if !group.takes(token.kind) {
             return Err(ParseFailure::Syntax(token.span, group.wanted()));
         }
-        let (start, stop) = (group.start, token.span.stop);
-        let span = Span { start, stop };
-        self.operations = group.operations;
-        match group.kind {
+        let Group {
+            kind,
+            start,
+            operations,
+        } = group;
+        self.operations = operations;
+        let span = Span {
+            start,
+            stop: token.span.stop,
+        };
+        let goes_on = token.kind == TokenKind::Comma;
+        match kind {
             GroupKind::Round => Ok(Some(Operand::member(expr, span))),
             GroupKind::If => self.open(GroupKind::Then(expr), start),
             GroupKind::Then(test) => self.otherwise(start, test, expr),
             GroupKind::Row(kind, items) => {
                 let items = pushed(items, expr)?;
-                if token.kind == TokenKind::Comma {
+                if goes_on {
                     self.item(kind, items, start, tokens)
                 } else {
                     self.row(kind, items, span)
@@ -126,7 +174,7 @@ impl Parser<'_> {
             }
             GroupKind::Record(pairs, key) => {
                 let pairs = pushed(pairs, (key, expr))?;
-                if token.kind == TokenKind::Comma {
+                if goes_on {
                     self.field(pairs, start, tokens)
                 } else {
                     self.record(pairs, span)
@@ -138,7 +186,9 @@ impl Parser<'_> {
     // What stands behind `else` ends with what is around it, so it is no group.
     #[tactic(auto, using(crate::proofs::Greatest::greatest_push))]
     fn otherwise(&mut self, start: usize, test: Expr, then: Expr) -> Step
-        ensures { MatchResult result
+        ensures pushed { IfOk result (λ h. (h ≡ None)
+            × IsPushed self.old (operations.Else start test then) self.new) }
+        ensures opened { MatchResult result
             (IsUpTo (max (open_start self.old) start) self.new)
             (λ e. e ≡ Memory) }
     {
@@ -155,6 +205,9 @@ impl Parser<'_> {
         tokens: &mut TokenStream<'_>,
     ) -> Step
         requires { IsBefore (max (open_start self.old) start) tokens.old }
+        ensures parses { ParsesOn
+            (λ ts. IsOpenParsed ts self.old (groupkinds.Row kind items) (here tokens.old))
+            tokens.old result self.new tokens.new }
         ensures left { tokens_left tokens.new ≤ tokens_left tokens.old }
         ensures goes_on { IsStep tokens.old tokens.new self.new result }
     {
@@ -169,7 +222,10 @@ impl Parser<'_> {
 
     // A whole row.
     fn row(&mut self, kind: RowKind, items: Vec<Expr>, span: Span) -> Step
-        ensures { MatchResult result
+        ensures tree { HasNoValues self.old.nodes →
+            IfOk result (IsRowOperand (row_of kind) (map bare_expr items.items)) }
+        ensures same { self.new ≡ self.old }
+        ensures opened { MatchResult result
             (IsUpTo (max (open_start self.old) span.start) self.new)
             (IsAbout span) }
     {
@@ -189,6 +245,9 @@ impl Parser<'_> {
         tokens: &mut TokenStream<'_>,
     ) -> Step
         requires { IsBefore (max (open_start self.old) start) tokens.old }
+        ensures parses { ParsesOn
+            (λ ts. IsRecordParsed ts self.old pairs.items (here tokens.old))
+            tokens.old result self.new tokens.new }
         ensures left { tokens_left tokens.new ≤ tokens_left tokens.old }
         ensures goes_on { IsStep tokens.old tokens.new self.new result }
     {
@@ -203,7 +262,9 @@ impl Parser<'_> {
 
     // A whole record.
     fn record(&mut self, pairs: Vec<(RcStr, Expr)>, span: Span) -> Step
-        ensures { MatchResult result
+        ensures tree { IfOk result (IsRecordOperand (meant_pairs bare_expr pairs.items)) }
+        ensures same { self.new ≡ self.old }
+        ensures opened { MatchResult result
             (IsUpTo (max (open_start self.old) span.start) self.new)
             (IsAbout span) }
     {
@@ -214,7 +275,8 @@ impl Parser<'_> {
 
 // The items with one more.
 fn pushed<T: Drop>(mut items: Vec<T>, item: T) -> Result<Vec<T>, ParseFailure>
-    ensures { IfErr result (λ e. e ≡ Memory) }
+    ensures items { IfOk result (λ v. v.items ≡ items.items ++ (item ∷ [])) }
+    ensures memory { IfErr result (λ e. e ≡ Memory) }
 {
     items.push(item)?;
     Ok(items)

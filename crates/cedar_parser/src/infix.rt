@@ -1,4 +1,9 @@
 //! Operators between two operands.
+ghost use Rattle.std.specs.Prelude.{◌≡◌};
+ghost use Rattle.std.specs.Option.{option_map};
+ghost use Rattle.cedar_parser.specs.Meant.{operator};
+ghost use Rattle.cedar_parser.specs.Waiting.{operator_precedences, operator_of};
+
 use cedar_lexer::TokenKind;
 use cedar_terms::{BinaryOp, Precedence};
 
@@ -15,7 +20,9 @@ pub(crate) enum Infix {
 
 impl Infix {
     /// The operator that a token is.
-    pub(crate) fn of(kind: TokenKind) -> Option<Infix> {
+    pub(crate) fn of(kind: TokenKind) -> Option<Infix>
+        ensures { option_map operator result ≡ operator_of kind }
+    {
         match kind {
             TokenKind::OrSign => Some(Infix::Or),
             TokenKind::AndSign => Some(Infix::And),
@@ -34,7 +41,10 @@ impl Infix {
     }
 
     /// Its own precedence, and the least of its left operand.
-    pub(crate) fn precedences(self) -> (Precedence, Precedence) {
+    pub(crate) fn precedences(self) -> (Precedence, Precedence)
+        ensures own { result.0 ≡ (operator_precedences (operator self)).0 }
+        ensures left { result.1 ≡ (operator_precedences (operator self)).1 }
+    {
         match self {
             Infix::Or => (Precedence::Or, Precedence::Or),
             Infix::And => (Precedence::And, Precedence::And),

@@ -1,7 +1,47 @@
 //! Literals, names and slots.
-ghost use Rattle.std.specs.Prelude.{◌≡◌, ◌≤◌, IfErr, MatchResult};
-ghost use Rattle.cedar_lexer.specs.TokenStreams.{tokens_left};
+ghost use Rattle.std.specs.Prelude.{
+  ◌≡◌,
+  ◌<◌,
+  ◌≤◌,
+  ◌^◌,
+  ◌∷◌,
+  ◌++◌,
+  [],
+  IfErr,
+  IfOk,
+  IfSome,
+  List,
+  MatchResult,
+  false,
+  neg_ℤ,
+  pos,
+  string_bytes,
+  true,
+  ℕ,
+};
+ghost use Rattle.std.specs.Rc.{rc_str_bytes};
+ghost use Rattle.std.specs.Str.Parse.{digits_value, signed_digits_value};
+ghost use Rattle.cedar_names.specs.Names.{IsNameOf};
+ghost use Rattle.cedar_names.specs.PlainNames.{bare_name};
+ghost use Rattle.cedar_names.specs.Slots.{slot_text};
+ghost use Rattle.cedar_terms.specs.Literals.{LongLit, bare_literal};
+ghost use Rattle.cedar_terms.specs.Ops.{var_text};
+ghost use Rattle.cedar_builders.specs.BareExpr.{Slot as SlotTree, Var as VarTree};
+ghost use Rattle.cedar_exprs.specs.BareExpr.{bare_expr};
+ghost use Rattle.cedar_lexer.specs.Grammar.{IsTokenText};
+ghost use Rattle.cedar_lexer.specs.TokenStreams.{end_of, tokens_left};
 ghost use Rattle.cedar_lexer.specs.declared.parse_failure.ParseFailure.TheVariants.{Memory};
+ghost use Rattle.cedar_lexer.specs.declared.token.TokenKind.TheVariants as kinds;
+ghost use Rattle.semantics_grammar.specs.Lexemes.{Lexeme, lexeme};
+ghost use Rattle.semantics_grammar.specs.Written.{ArePathIds, IsTextOf};
+ghost use Rattle.cedar_parser.specs.Meant.{
+  AreLexemes,
+  HasNoValues,
+  IsKeyTaken,
+  IsLeafTaken,
+  from,
+  here,
+};
 ghost use Rattle.cedar_parser.specs.Refused.{
   IsAbout,
   IsBefore,
@@ -30,6 +70,11 @@ impl Nodes<'_> {
     ) -> Result<(Expr, Span), ParseFailure>
         requires piece { path.span.start ≤ path.span.stop }
         requires before { IsBefore path.span.stop tokens.old }
+        ensures parses { IfOk result (λ x. (ts : List Lexeme) (w colons : List ℕ)
+            → ArePathIds (lexeme kinds.Word w ∷ ts) (string_bytes path.text)
+            (lexeme kinds.Colons colons ∷ here tokens.old)
+            → AreLexemes (here tokens.old)
+            → IsLeafTaken (lexeme kinds.Word w ∷ ts) x.0 tokens.old tokens.new) }
         ensures left { tokens_left tokens.new ≤ tokens_left tokens.old }
         ensures goes_on { MatchResult result
             (λ x. (x.1.start ≡ path.span.start) × IsLeft path.span.stop tokens.old tokens.new)
@@ -45,7 +90,9 @@ impl Nodes<'_> {
 
     /// A variable of the request.
     pub(crate) fn variable(&self, path: &Path) -> Result<Expr, ParseFailure>
-        ensures { IfErr result (IsAbout path.now.span) }
+        ensures tree { HasNoValues self.now → IfOk result (λ e. (v : Var)
+            × (string_bytes path.now.text ≡ var_text v) × (bare_expr e ≡ VarTree v)) }
+        ensures refused { IfErr result (IsAbout path.now.span) }
     {
         let Some(var) = Var::from_text(&path.text) else {
             return Err(ParseFailure::Syntax(path.span, "this is no variable"));
@@ -58,7 +105,9 @@ impl Nodes<'_> {
 
     /// A slot.
     pub(crate) fn slot(&self, token: Token<'_>) -> Result<Expr, ParseFailure>
-        ensures { IfErr result (IsAbout token.entry.span) }
+        ensures tree { IfOk result (λ e. (s : SlotId)
+            × (token.entry.text.now ≡ slot_text s) × (bare_expr e ≡ SlotTree s)) }
+        ensures refused { IfErr result (IsAbout token.entry.span) }
     {
         let slot = match token.text {
             "?principal" => SlotId::Principal,
@@ -74,17 +123,32 @@ impl Nodes<'_> {
 
 /// The integer of these digits, below 0 where a minus stands before them.
 pub(crate) fn integer(digits: Token<'_>, is_negative: bool) -> Result<Literal, ParseFailure>
-    ensures { IfErr result (IsAbout digits.entry.span) }
+    ensures positive { IsTokenText digits.entry.text.now kinds.Digits → is_negative ≡ false →
+        IfOk result (λ l. (digits_value 10 digits.entry.text.now < 2 ^ 63)
+        × (bare_literal l ≡ LongLit (signed_digits_value 10 digits.entry.text.now))) }
+    ensures negative { IsTokenText digits.entry.text.now kinds.Digits → is_negative ≡ true →
+        IfOk result (λ l. (digits_value 10 digits.entry.text.now ≤ 2 ^ 63)
+        × (bare_literal l ≡ LongLit (signed_digits_value 10 (45 ∷ digits.entry.text.now)))) }
+    ensures refused { IfErr result (IsAbout digits.entry.span) }
 {
-    let size = digits.text.parse::<u64>().ok();
-    match size.and_then(|size| signed(size, is_negative)) {
-        Some(integer) => Ok(Literal::Long(integer)),
-        None => Err(ParseFailure::Syntax(digits.span, "this is no integer of 64 bits")),
+    match digits.text.parse::<u64>() {
+        Ok(size) => match signed(size, is_negative) {
+            Some(integer) => Ok(Literal::Long(integer)),
+            None => Err(ParseFailure::Syntax(digits.span, NO_INTEGER)),
+        },
+        Err(_) => Err(ParseFailure::Syntax(digits.span, NO_INTEGER)),
     }
 }
 
+const NO_INTEGER: &str = "this is no integer of 64 bits";
+
 // The integer of this size.
-fn signed(size: u64, is_negative: bool) -> Option<i64> {
+fn signed(size: u64, is_negative: bool) -> Option<i64>
+    ensures positive { is_negative ≡ false →
+        IfSome result (λ integer. (size < 2 ^ 63) × (integer ≡ pos size)) }
+    ensures negative { is_negative ≡ true →
+        IfSome result (λ integer. (size ≤ 2 ^ 63) × (integer ≡ neg_ℤ (pos size))) }
+{
     if is_negative {
         0_i64.checked_sub_unsigned(size)
     } else {
@@ -94,7 +158,9 @@ fn signed(size: u64, is_negative: bool) -> Option<i64> {
 
 /// The text that a token between quotes stands for.
 pub(crate) fn text_of(alloc: Global, token: Token<'_>) -> Result<RcStr, ParseFailure>
-    ensures { IfErr result (IsAbout token.entry.span) }
+    ensures text { IsTokenText token.entry.text.now kinds.Quoted →
+        IfOk result (λ t. IsTextOf token.entry.text.now (rc_str_bytes t)) }
+    ensures refused { IfErr result (IsAbout token.entry.span) }
 {
     match read_text(alloc, inside(token))? {
         Some(text) => Ok(RcStr::from_string(text)?),
@@ -106,9 +172,31 @@ pub(crate) fn text_of(alloc: Global, token: Token<'_>) -> Result<RcStr, ParseFai
 }
 
 /// What stands between the quotes of a token.
-pub(crate) fn inside<'a>(token: Token<'a>) -> &'a str {
-    let open = token.text.strip_prefix('"').unwrap_or(token.text);
-    open.strip_suffix('"').unwrap_or(open)
+pub(crate) fn inside<'a>(token: Token<'a>) -> &'a str
+    ensures { (inside : List ℕ) → token.entry.text.now ≡ 34 ∷ (inside ++ (34 ∷ [])) →
+        result.now ≡ inside }
+{
+    before_quote(behind_quote(token.text))
+}
+
+// What stands behind the quote at the beginning.
+fn behind_quote(text: &str) -> &str
+    ensures { (rest : List ℕ) → text.now ≡ 34 ∷ rest → result.now ≡ rest }
+{
+    match text.strip_prefix('"') {
+        Some(rest) => rest,
+        None => text,
+    }
+}
+
+// What stands before the quote at the end.
+fn before_quote(text: &str) -> &str
+    ensures { (front : List ℕ) → text.now ≡ front ++ (34 ∷ []) → result.now ≡ front }
+{
+    match text.strip_suffix('"') {
+        Some(front) => front,
+        None => text,
+    }
 }
 
 /// The key of a field or of `has`, which may stand in quotes, and where it ends.
@@ -117,6 +205,8 @@ pub(crate) fn key(
     tokens: &mut TokenStream<'_>,
 ) -> Result<(RcStr, usize), ParseFailure>
     requires { IsBefore 0 tokens.old }
+    ensures parses { AreLexemes (here tokens.old) →
+        IfOk result (λ x. IsKeyTaken tokens.old x.0 tokens.new) }
     ensures left { tokens_left tokens.new ≤ tokens_left tokens.old }
     ensures goes_on { MatchResult result
         (λ _. IsLeft (next_start tokens.old) tokens.old tokens.new)
@@ -147,6 +237,11 @@ impl Path {
         tokens: &mut TokenStream<'_>,
     ) -> Result<Path, ParseFailure>
         requires { IsFirst 0 first tokens.old }
+        ensures parses { IfOk result (λ p. first.entry.kind ≡ kinds.Word →
+            ArePathIds (from first.entry tokens.old) (string_bytes p.text) (here tokens.new)) }
+        ensures end { IfOk result (λ _. end_of tokens.new ≡ end_of tokens.old) }
+        ensures lexemes { IfOk result (λ _.
+            AreLexemes (here tokens.old) → AreLexemes (here tokens.new)) }
         ensures left { tokens_left tokens.new ≤ tokens_left tokens.old }
         ensures goes_on { MatchResult result
             (λ p. IsPath first.entry.span.start p.span tokens.old tokens.new)
@@ -164,7 +259,8 @@ impl Path {
 
     /// The name that it is.
     pub(crate) fn name(&self, alloc: Global) -> Result<Name, ParseFailure>
-        ensures { IfErr result (IsAbout self.now.span) }
+        ensures name { IfOk result (λ n. IsNameOf (string_bytes self.now.text) (bare_name n)) }
+        ensures refused { IfErr result (IsAbout self.now.span) }
     {
         name_of(alloc, &self.text, self.span)
     }
@@ -172,7 +268,8 @@ impl Path {
 
 /// The name of this text, which stands here.
 pub(crate) fn name_of(alloc: Global, text: &str, span: Span) -> Result<Name, ParseFailure>
-    ensures { IfErr result (IsAbout span) }
+    ensures name { IfOk result (λ n. IsNameOf text.now (bare_name n)) }
+    ensures refused { IfErr result (IsAbout span) }
 {
     match Name::from_normalized_str(alloc, text) {
         Ok(name) => Ok(name),

@@ -1,5 +1,5 @@
 //! Expressions with their places in a text.
-ghost use Rattle.std.specs.Prelude.{◌≡◌, IfErr, IfOk};
+ghost use Rattle.std.specs.Prelude.{◌≡◌, IfErr, IfOk, None};
 ghost use Rattle.std.specs.Rc.{rc_str_bytes};
 ghost use Rattle.cedar_builders.specs.BareExpr.{
   And,
@@ -12,9 +12,12 @@ ghost use Rattle.cedar_builders.specs.BareExpr.{
   Set,
 };
 ghost use Rattle.cedar_exprs.specs.BareExpr.{bare_expr, bare_expr_kind, bare_exprs, further};
+ghost use Rattle.cedar_builders.specs.Keys.{meant_pairs};
 ghost use Rattle.cedar_terms.specs.Entities.{bare_entity_type};
-ghost use Rattle.cedar_parser.specs.Operations.{infix_tree, operation_tree};
+ghost use Rattle.cedar_terms.specs.declared.precedence.Precedence.TheVariants as precedences;
+ghost use Rattle.cedar_parser.specs.Meant.{HasNoValues, IsRecordTree, operator, waiting};
 ghost use Rattle.cedar_parser.specs.Refused.{IsAbout, start_of};
+ghost use Rattle.cedar_parser.specs.Waiting.{operator_tree, waiting_precedence, waiting_tree};
 
 use crate::infix::Infix;
 use crate::operand::{Operand, Operation};
@@ -55,7 +58,9 @@ impl Nodes<'_> {
     }
 
     /// The expression that an unknown or a variable is parsed as, if it has a value.
-    pub(crate) fn value(&self, name: &str, span: Span) -> Result<Option<Expr>, AllocError> {
+    pub(crate) fn value(&self, name: &str, span: Span) -> Result<Option<Expr>, AllocError>
+        ensures { HasNoValues self.now → IfOk result (λ expr. expr ≡ None) }
+    {
         match self.values.get(name) {
             Some(expr) => {
                 let place = self.place(span)?;
@@ -69,7 +74,9 @@ impl Nodes<'_> {
     /// The operation with its last operand.
     pub(crate) fn apply(&self, operation: Operation, last: Operand) -> Result<Operand, AllocError>
         ensures tree { IfOk result (λ h.
-            bare_expr h.expr ≡ operation_tree operation (bare_expr last.expr)) }
+            bare_expr h.expr ≡ waiting_tree (waiting operation) (bare_expr last.expr)) }
+        ensures precedence { IfOk result (λ h.
+            h.precedence ≡ waiting_precedence (waiting operation)) }
         ensures start { IfOk result (λ h. h.span.start ≡ start_of operation) }
     {
         let precedence = operation.precedence();
@@ -86,7 +93,8 @@ impl Nodes<'_> {
     }
 
     fn applied(&self, operation: Operation, last: Expr, span: Span) -> Result<Expr, AllocError>
-        ensures { IfOk result (λ e. bare_expr e ≡ operation_tree operation (bare_expr last)) }
+        ensures { IfOk result (λ e.
+            bare_expr e ≡ waiting_tree (waiting operation) (bare_expr last)) }
     {
         match operation {
             Operation::Prefix(op, _, _) => self.at(span)?.unary_app(self.alloc, op, last),
@@ -101,7 +109,7 @@ impl Nodes<'_> {
 
     fn infix(&self, sign: Infix, first: Expr, last: Expr, span: Span) -> Result<Expr, AllocError>
         ensures { IfOk result (λ e.
-            bare_expr e ≡ infix_tree sign (bare_expr first) (bare_expr last)) }
+            bare_expr e ≡ operator_tree (operator sign) (bare_expr first) (bare_expr last)) }
     {
         match sign {
             Infix::Or => self.or(first, last, span),
@@ -147,6 +155,7 @@ impl Nodes<'_> {
     ) -> Result<Operand, AllocError>
         ensures tree { IfOk result (λ h.
             bare_expr h.expr ≡ GetAttr (bare_expr operand.expr) (rc_str_bytes attr)) }
+        ensures precedence { IfOk result (λ h. h.precedence ≡ precedences.Member) }
         ensures start { IfOk result (λ h. h.span.start ≡ operand.span.start) }
     {
         let span = operand.span.up_to(stop);
@@ -163,6 +172,7 @@ impl Nodes<'_> {
     ) -> Result<Operand, AllocError>
         ensures tree { IfOk result (λ h. bare_expr h.expr
             ≡ HasAttr (bare_expr operand.expr) (rc_str_bytes attrs.head) (further attrs)) }
+        ensures precedence { IfOk result (λ h. h.precedence ≡ precedences.Relation) }
         ensures start { IfOk result (λ h. h.span.start ≡ operand.span.start) }
     {
         let span = operand.span.up_to(stop);
@@ -180,6 +190,7 @@ impl Nodes<'_> {
         stop: usize,
     ) -> Result<Operand, AllocError>
         ensures tree { IfOk result (λ h. bare_expr h.expr ≡ Like (bare_expr operand.expr) pattern) }
+        ensures precedence { IfOk result (λ h. h.precedence ≡ precedences.Relation) }
         ensures start { IfOk result (λ h. h.span.start ≡ operand.span.start) }
     {
         let span = operand.span.up_to(stop);
@@ -196,6 +207,7 @@ impl Nodes<'_> {
     ) -> Result<Operand, AllocError>
         ensures tree { IfOk result (λ h.
             bare_expr h.expr ≡ Is (bare_expr operand.expr) (bare_entity_type ty)) }
+        ensures precedence { IfOk result (λ h. h.precedence ≡ precedences.Relation) }
         ensures start { IfOk result (λ h. h.span.start ≡ operand.span.start) }
     {
         let span = operand.span.up_to(stop);
@@ -213,7 +225,9 @@ impl Nodes<'_> {
 
     /// A record, which has each key once.
     pub(crate) fn record(&self, pairs: Vec<(RcStr, Expr)>, span: Span) -> Result<Expr, ParseFailure>
-        ensures { IfErr result (IsAbout span) }
+        ensures tree { IfOk result (λ e.
+            IsRecordTree (meant_pairs bare_expr pairs.items) (bare_expr e)) }
+        ensures refused { IfErr result (IsAbout span) }
     {
         match self.at(span)?.record(self.alloc, pairs) {
             Ok(expr) => Ok(expr),

@@ -1,6 +1,52 @@
 //! From tokens to expressions.
-ghost use Rattle.std.specs.Prelude.{◌≡◌, ◌<◌, ◌≤◌, IfErr, IfSome, MatchResult, Some, length, max};
+ghost use Rattle.std.specs.Prelude.{
+  ◌≡◌,
+  ◌<◌,
+  ◌≤◌,
+  IfErr,
+  IfOk,
+  IfSome,
+  IsTrue,
+  List,
+  [],
+  ◌∷◌,
+  MatchOption,
+  MatchResult,
+  None,
+  Some,
+  false,
+  length,
+  max,
+};
+ghost use Rattle.cedar_terms.specs.Literals.{bare_literal};
+ghost use Rattle.cedar_builders.specs.BareExpr.{Lit};
+ghost use Rattle.cedar_exprs.specs.BareExpr.{bare_expr};
+ghost use Rattle.cedar_terms.specs.Precedences.{precedence_number};
+ghost use Rattle.cedar_terms.specs.declared.precedence.Precedence.TheVariants as precedences;
 ghost use Rattle.cedar_lexer.specs.TokenStreams.{tokens_left};
+ghost use Rattle.cedar_lexer.specs.declared.token.TokenKind.TheVariants as kinds;
+ghost use Rattle.semantics_grammar.specs.Grammar.{Primary, Stands};
+ghost use Rattle.semantics_grammar.specs.Lexemes.{Lexeme, lexeme_of};
+ghost use Rattle.semantics_grammar.specs.Written.{is_number_alone};
+ghost use Rattle.cedar_parser.specs.Meant.{
+  HasNone,
+  IsParse,
+  HasNoMinus,
+  IsParsedBehindMinus,
+  IsMinusPopped,
+  IsOpenParsed,
+  IsPopped,
+  IsParsed,
+  IsTestKind,
+  ParsesOn,
+  WaitsBelow,
+  first_kind,
+  from,
+  operator,
+  waits,
+};
+ghost use Rattle.cedar_parser.specs.SoFar.{IsFree, IsSign};
+ghost use Rattle.cedar_parser.specs.Waiting.{StandsOn, least_operand, last_of, operator_of, sign};
 ghost use Rattle.cedar_lexer.specs.declared.parse_failure.ParseFailure.TheVariants.{Memory};
 ghost use Rattle.cedar_parser.specs.Refused.{
   IsAbout,
@@ -41,7 +87,8 @@ use std::rc::RcStr;
 /// the grammar it takes texts in quotes in a path behind `has`. `true && false` stays as it stands;
 /// `a is T in b` shares `a` between two tests. No depth of the text ends it.
 pub fn parse_expr(alloc: Global, text: &str) -> Result<Expr, ParseError>
-    ensures { IfErr result (IsToldIn text.now) }
+    ensures parses { IfOk result (λ e. IsParse text.now (bare_expr e)) }
+    ensures told { IfErr result (IsToldIn text.now) }
 {
     parse_with_values(alloc, text, &HashMap::new(alloc))
 }
@@ -54,7 +101,8 @@ pub fn parse_with_values(
     text: &str,
     values: &HashMap<RcStr, Expr>,
 ) -> Result<Expr, ParseError>
-    ensures { IfErr result (IsToldIn text.now) }
+    ensures parses { HasNone values.now → IfOk result (λ e. IsParse text.now (bare_expr e)) }
+    ensures told { IfErr result (IsToldIn text.now) }
 {
     match parse(alloc, text, values) {
         Ok(expr) => Ok(expr),
@@ -63,7 +111,8 @@ pub fn parse_with_values(
 }
 
 fn parse(alloc: Global, text: &str, values: &HashMap<RcStr, Expr>) -> Result<Expr, ParseFailure>
-    ensures { IfErr result (IsWithin (length text.now)) }
+    ensures parses { HasNone values.now → IfOk result (λ e. IsParse text.now (bare_expr e)) }
+    ensures refused { IfErr result (IsWithin (length text.now)) }
 {
     let found = tokenize(alloc, text)?;
     let mut tokens = TokenStream::new(&found);
@@ -102,6 +151,9 @@ impl Parser<'_> {
         tokens: &mut TokenStream<'_>,
     ) -> Step
         requires { IsFirst (max (open_start self.old) (operand_start operand)) token tokens.old }
+        ensures parses { ParsesOn
+            (λ ts. IsParsed ts self.old operand (from token.entry tokens.old))
+            tokens.old result self.new tokens.new }
         ensures left { tokens_left tokens.new ≤ tokens_left tokens.old }
         ensures goes_on { IsStep tokens.old tokens.new self.new result }
     {
@@ -114,6 +166,9 @@ impl Parser<'_> {
     // The first token of an operand.
     fn operand(&mut self, token: Token<'_>, tokens: &mut TokenStream<'_>) -> Step
         requires { IsFirst (open_start self.old) token tokens.old }
+        ensures parses { ParsesOn
+            (λ ts. IsParsed ts self.old None (from token.entry tokens.old))
+            tokens.old result self.new tokens.new }
         ensures left { tokens_left tokens.new ≤ tokens_left tokens.old }
         ensures goes_on { IsStep tokens.old tokens.new self.new result }
     {
@@ -137,7 +192,12 @@ impl Parser<'_> {
     }
 
     fn literal(&mut self, literal: Literal, token: Token<'_>) -> Step
-        ensures { MatchResult result
+        ensures parses { (ts rest : List Lexeme)
+            → IsParsed ts self.old None (lexeme_of token.entry ∷ rest)
+            → Primary (lexeme_of token.entry ∷ rest) (Lit (bare_literal literal)) rest
+            → is_number_alone (lexeme_of token.entry ∷ rest) ≡ false
+            → IfOk result (λ h. IsParsed ts self.new h rest) }
+        ensures opened { MatchResult result
             (IsUpTo (max (open_start self.old) token.entry.span.start) self.new)
             (λ e. e ≡ Memory) }
     {
@@ -148,40 +208,95 @@ impl Parser<'_> {
     // An integer. A minus before its digits is part of it, unless they are a part of what the minus
     // stands before.
     fn number(&mut self, digits: Token<'_>, next: TokenKind) -> Step
-        ensures { MatchResult result
+        ensures parses { (ts rest : List Lexeme)
+            → IsParsed ts self.old None (lexeme_of digits.entry ∷ rest)
+            → digits.entry.kind ≡ kinds.Digits
+            → next ≡ first_kind rest
+            → IfOk result (λ h. IsParsed ts self.new h rest) }
+        ensures opened { MatchResult result
             (IsUpTo (max (open_start self.old) digits.entry.span.start) self.new)
             (IsAbout digits.entry.span) }
     {
-        let sign = match next {
-            TokenKind::Dot | TokenKind::OpenSquare => None,
-            _ => self.pop_minus(),
+        match next {
+            TokenKind::Dot => self.positive(digits),
+            TokenKind::OpenSquare => self.positive(digits),
+            _ => match self.pop_minus() {
+                Some(start) => self.negative(digits, start),
+                None => self.positive(digits),
+            },
+        }
+    }
+
+    // An integer without a sign.
+    fn positive(&mut self, digits: Token<'_>) -> Step
+        ensures parses { (ts rest : List Lexeme)
+            → IsParsed ts self.old None (lexeme_of digits.entry ∷ rest)
+            → digits.entry.kind ≡ kinds.Digits
+            → IsFree (last_of None (waits self.old)) (lexeme_of digits.entry ∷ rest)
+            → IfOk result (λ h. IsParsed ts self.new h rest) }
+        ensures opened { MatchResult result
+            (IsUpTo (max (open_start self.old) digits.entry.span.start) self.new)
+            (IsAbout digits.entry.span) }
+    {
+        let expr = self
+            .nodes
+            .node(ExprKind::Lit(integer(digits, false)?), digits.span)?;
+        Ok(Some(Operand::member(expr, digits.span)))
+    }
+
+    // An integer with the minus that stood here.
+    fn negative(&mut self, digits: Token<'_>, start: usize) -> Step
+        ensures parses { (ts rest : List Lexeme)
+            → IsParsedBehindMinus ts self.old (lexeme_of digits.entry ∷ rest)
+            → digits.entry.kind ≡ kinds.Digits
+            → IfOk result (λ h. IsParsed ts self.new h rest) }
+        ensures opened { MatchResult result
+            (IsUpTo (max (open_start self.old) start) self.new)
+            (IsAbout digits.entry.span) }
+    {
+        let span = Span {
+            start,
+            stop: digits.span.stop,
         };
-        let literal = integer(digits, sign.is_some())?;
-        let mut span = digits.span;
-        span.start = sign.unwrap_or(span.start);
-        let expr = self.nodes.node(ExprKind::Lit(literal), span)?;
-        Ok(Some(Operand::member(expr, span)))
+        let expr = self
+            .nodes
+            .node(ExprKind::Lit(integer(digits, true)?), span)?;
+        let precedence = Precedence::Unary;
+        Ok(Some(Operand {
+            expr,
+            precedence,
+            span,
+        }))
     }
 
     // Takes the last operation, if it is a minus, and says where that stands.
     #[tactic(auto, using(crate::proofs::Greatest::greatest_push))]
     fn pop_minus(&mut self) -> Option<usize>
+        ensures pops { MatchOption result
+            ((self.new ≡ self.old) × HasNoMinus self.old)
+            (λ _. IsMinusPopped self.old self.new) }
         ensures opened { open_start self.new ≤ open_start self.old }
         ensures start { IfSome result (λ start. start ≤ open_start self.old) }
     {
         match self.operations.last() {
-            Some(Operation::Prefix(UnaryOp::Neg, start, _)) => {
-                let start = *start;
-                drop(self.operations.pop());
-                Some(start)
-            }
-            _ => None,
+            Some(operation) => match operation.minus() {
+                Some(start) => {
+                    drop(self.operations.pop());
+                    Some(start)
+                }
+                None => None,
+            },
+            None => None,
         }
     }
 
     // An entity, the call of a function, or a variable.
     fn name(&mut self, first: Token<'_>, tokens: &mut TokenStream<'_>) -> Step
         requires { IsFirst (open_start self.old) first tokens.old }
+        ensures parses { ParsesOn
+            (λ ts. (first.entry.kind ≡ kinds.Word)
+            × IsParsed ts self.old None (from first.entry tokens.old))
+            tokens.old result self.new tokens.new }
         ensures left { tokens_left tokens.new ≤ tokens_left tokens.old }
         ensures goes_on { IsStep tokens.old tokens.new self.new result }
     {
@@ -201,7 +316,11 @@ impl Parser<'_> {
     // A sign before its operand. The grammar has four at most in a row, and all of them alike.
     #[tactic(auto, using(crate::proofs::Greatest::greatest_push))]
     fn prefix(&mut self, op: UnaryOp, token: Token<'_>) -> Step
-        ensures { MatchResult result
+        ensures parses { (ts rest : List Lexeme)
+            → IsParsed ts self.old None (lexeme_of token.entry ∷ rest)
+            → IsSign op token.entry.kind
+            → IfOk result (λ h. IsParsed ts self.new h rest) }
+        ensures opened { MatchResult result
             (IsUpTo (max (open_start self.old) token.entry.span.start) self.new)
             (IsAbout token.entry.span) }
     {
@@ -216,34 +335,49 @@ impl Parser<'_> {
 
     // How many of this sign stand right before the operand, where no other sign does.
     fn signs(&self, op: UnaryOp, span: Span) -> Result<u8, ParseFailure>
-        ensures { IfErr result (IsAbout span) }
+        ensures counts { IfOk result (λ n. n < 4 →
+            StandsOn (last_of None (waits self.now)) (sign op n)) }
+        ensures refused { IfErr result (IsAbout span) }
     {
         match self.operations.last() {
-            Some(Operation::Prefix(other, _, before)) if *other == op => {
-                Ok(before.saturating_add(1))
-            }
-            Some(Operation::Prefix(_, _, _)) => {
-                Err(ParseFailure::Syntax(span, "a sign behind another sign needs brackets"))
-            }
-            _ => Ok(0),
+            Some(operation) => operation.signs_before(op, span),
+            None => Ok(0),
         }
     }
 
     // `if`, which is no operand of an operator.
     fn conditional(&mut self, token: Token<'_>) -> Step
-        ensures { MatchResult result
+        ensures parses { (ts rest : List Lexeme)
+            → IsParsed ts self.old None (lexeme_of token.entry ∷ rest)
+            → token.entry.kind ≡ kinds.If
+            → IfOk result (λ h. IsParsed ts self.new h rest) }
+        ensures opened { MatchResult result
             (IsUpTo (max (open_start self.old) token.entry.span.start) self.new)
             (IsAbout token.entry.span) }
     {
+        if self.takes_conditional() {
+            self.open(GroupKind::If, token.span.start)
+        } else {
+            Err(ParseFailure::Syntax(token.span, "an `if` behind an operator needs brackets"))
+        }
+    }
+
+    // Whether a conditional may stand here.
+    fn takes_conditional(&self) -> bool
+        ensures { IsTrue result → least_operand (last_of None (waits self.now)) ≤ 0 }
+    {
         match self.operations.last() {
-            None | Some(Operation::Else(_, _, _)) => self.open(GroupKind::If, token.span.start),
-            _ => Err(ParseFailure::Syntax(token.span, "an `if` behind an operator needs brackets")),
+            Some(operation) => operation.takes_conditional(),
+            None => true,
         }
     }
 
     // A token behind an operand.
     fn follow(&mut self, operand: Operand, token: Token<'_>, tokens: &mut TokenStream<'_>) -> Step
         requires { IsFirst (max (open_start self.old) operand.span.start) token tokens.old }
+        ensures parses { ParsesOn
+            (λ ts. IsParsed ts self.old (Some operand) (from token.entry tokens.old))
+            tokens.old result self.new tokens.new }
         ensures left { tokens_left tokens.new ≤ tokens_left tokens.old }
         ensures goes_on { IsStep tokens.old tokens.new self.new result }
     {
@@ -261,6 +395,10 @@ impl Parser<'_> {
     // `has`, `like` or `is` behind an operand.
     fn test(&mut self, operand: Operand, token: Token<'_>, tokens: &mut TokenStream<'_>) -> Step
         requires { IsFirst (max (open_start self.old) operand.span.start) token tokens.old }
+        ensures parses { ParsesOn
+            (λ ts. IsTestKind token.entry.kind
+            × IsParsed ts self.old (Some operand) (from token.entry tokens.old))
+            tokens.old result self.new tokens.new }
         ensures left { tokens_left tokens.new ≤ tokens_left tokens.old }
         ensures goes_on { IsStep tokens.old tokens.new self.new result }
     {
@@ -275,7 +413,11 @@ impl Parser<'_> {
     // An operator behind an operand.
     #[tactic(auto, using(crate::proofs::Greatest::greatest_push))]
     fn infix(&mut self, infix: Infix, operand: Operand, token: Token<'_>) -> Step
-        ensures { MatchResult result
+        ensures parses { (ts rest : List Lexeme)
+            → IsParsed ts self.old (Some operand) (lexeme_of token.entry ∷ rest)
+            → operator_of token.entry.kind ≡ Some (operator «infix»)
+            → IfOk result (λ h. IsParsed ts self.new h rest) }
+        ensures opened { MatchResult result
             (IsUpTo (max (open_start self.old) operand.span.start) self.new)
             (IsAbout token.entry.span) }
     {
@@ -294,7 +436,11 @@ impl Parser<'_> {
         least: Precedence,
         token: Token<'_>,
     ) -> Result<Operand, ParseFailure>
-        ensures { MatchResult result
+        ensures parses { (ts rest : List Lexeme) → IsParsed ts self.old (Some operand) rest
+            → IfOk result (λ h. IsParsed ts self.new (Some h) rest) }
+        ensures below { IfOk result (λ h. WaitsBelow own self.new
+            × (precedence_number least ≤ precedence_number h.precedence)) }
+        ensures opened { MatchResult result
             (λ h. IsUpTo (max (open_start self.old) operand.span.start) self.new (Some h))
             (IsAbout token.entry.span) }
     {
@@ -307,7 +453,10 @@ impl Parser<'_> {
 
     // Applies the operations that bind at least this tightly.
     fn apply_down_to(&mut self, least: Precedence, last: Operand) -> Result<Operand, ParseFailure>
-        ensures { MatchResult result
+        ensures parses { (ts rest : List Lexeme) → IsParsed ts self.old (Some last) rest
+            → IfOk result (λ h. IsParsed ts self.new (Some h) rest) }
+        ensures below { IfOk result (λ _. WaitsBelow least self.new) }
+        ensures opened { MatchResult result
             (λ h. IsUpTo (max (open_start self.old) last.span.start) self.new (Some h))
             (λ e. e ≡ Memory) }
     {
@@ -321,6 +470,9 @@ impl Parser<'_> {
     // Takes the last operation, if it binds at least this tightly.
     #[tactic(auto, using(crate::proofs::Greatest::greatest_push))]
     fn pop_operation(&mut self, least: Precedence) -> Option<Operation>
+        ensures pops { MatchOption result
+            ((self.new ≡ self.old) × WaitsBelow least self.old)
+            (λ o. IsPopped self.old o self.new) }
         ensures fewer { IfSome result (λ _.
             length self.new.operations.items < length self.old.operations.items) }
         ensures opened { open_start self.new ≤ open_start self.old }
@@ -336,6 +488,9 @@ impl Parser<'_> {
     // A token that goes on with no operand: it goes on with the group around it, or ends that.
     fn close(&mut self, last: Operand, token: Token<'_>, tokens: &mut TokenStream<'_>) -> Step
         requires { IsFirst (max (open_start self.old) last.span.start) token tokens.old }
+        ensures parses { ParsesOn
+            (λ ts. IsParsed ts self.old (Some last) (from token.entry tokens.old))
+            tokens.old result self.new tokens.new }
         ensures left { tokens_left tokens.new ≤ tokens_left tokens.old }
         ensures goes_on { IsStep tokens.old tokens.new self.new result }
     {
@@ -348,7 +503,9 @@ impl Parser<'_> {
 
     // The end of the text.
     fn end(&mut self, operand: Option<Operand>, end: Token<'_>) -> Result<Expr, ParseFailure>
-        ensures { IfErr result (IsAbout end.entry.span) }
+        ensures parses { IfOk result (λ e. (ts : List Lexeme) →
+            IsParsed ts self.old operand [] → Stands ts (bare_expr e)) }
+        ensures refused { IfErr result (IsAbout end.entry.span) }
     {
         let Some(last) = operand else {
             return Err(ParseFailure::Syntax(end.span, "an expression is wanted here"));
@@ -363,7 +520,9 @@ impl Parser<'_> {
     /// Opens a group with an operand. Within it none of the operations waits that are there.
     #[tactic(auto, using(crate::proofs::Greatest::greatest_push))]
     pub(crate) fn open(&mut self, kind: GroupKind, start: usize) -> Step
-        ensures { MatchResult result
+        ensures parses { (ts rest : List Lexeme) → IsOpenParsed ts self.old kind rest
+            → IfOk result (λ h. IsParsed ts self.new h rest) }
+        ensures opened { MatchResult result
             (IsUpTo (max (open_start self.old) start) self.new)
             (λ e. e ≡ Memory) }
     {
@@ -379,7 +538,8 @@ impl Parser<'_> {
 
 // What `.` or `[` stands behind.
 fn member(operand: Operand, token: Token<'_>) -> Result<Operand, ParseFailure>
-    ensures { MatchResult result (λ h. h.span ≡ operand.span) (IsAbout token.entry.span) }
+    ensures same { IfOk result (λ h. (h ≡ operand) × (operand.precedence ≡ precedences.Member)) }
+    ensures span { MatchResult result (λ h. h.span ≡ operand.span) (IsAbout token.entry.span) }
 {
     match operand.precedence {
         Precedence::Member => Ok(operand),

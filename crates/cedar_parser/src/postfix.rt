@@ -1,5 +1,10 @@
 //! What follows an operand: attributes, methods, `has`, `like` and `is`.
-ghost use Rattle.std.specs.Prelude.{◌≤◌, max};
+ghost use Rattle.std.specs.Prelude.{◌≡◌, ◌≤◌, ◌∷◌, List, MatchResult, Some, max, ℕ};
+ghost use Rattle.cedar_terms.specs.Precedences.{precedence_number};
+ghost use Rattle.cedar_terms.specs.declared.precedence.Precedence.TheVariants as precedences;
+ghost use Rattle.cedar_lexer.specs.declared.token.TokenKind.TheVariants as kinds;
+ghost use Rattle.semantics_grammar.specs.Lexemes.{lexeme};
+ghost use Rattle.cedar_parser.specs.Meant.{IsParsed, ParsesOn, WaitsBelow, here};
 ghost use Rattle.cedar_lexer.specs.TokenStreams.{tokens_left};
 ghost use Rattle.cedar_parser.specs.Refused.{IsBefore, IsStep, open_start};
 
@@ -16,6 +21,10 @@ impl Parser<'_> {
     /// An attribute behind a dot, or a method.
     pub(crate) fn dot(&mut self, operand: Operand, tokens: &mut TokenStream<'_>) -> Step
         requires { IsBefore (max (open_start self.old) operand.span.start) tokens.old }
+        ensures parses { ParsesOn
+            (λ ts. (operand.precedence ≡ precedences.Member) × ((w : List ℕ)
+            × IsParsed ts self.old (Some operand) (lexeme kinds.Dot w ∷ here tokens.old)))
+            tokens.old result self.new tokens.new }
         ensures left { tokens_left tokens.new ≤ tokens_left tokens.old }
         ensures goes_on { IsStep tokens.old tokens.new self.new result }
     {
@@ -33,6 +42,10 @@ impl Parser<'_> {
     /// An attribute in square brackets.
     pub(crate) fn bracket(&mut self, operand: Operand, tokens: &mut TokenStream<'_>) -> Step
         requires { IsBefore (max (open_start self.old) operand.span.start) tokens.old }
+        ensures parses { ParsesOn
+            (λ ts. (operand.precedence ≡ precedences.Member) × ((w : List ℕ)
+            × IsParsed ts self.old (Some operand) (lexeme kinds.OpenSquare w ∷ here tokens.old)))
+            tokens.old result self.new tokens.new }
         ensures left { tokens_left tokens.new ≤ tokens_left tokens.old }
         ensures goes_on { IsStep tokens.old tokens.new self.new result }
     {
@@ -45,6 +58,11 @@ impl Parser<'_> {
     /// The attributes behind `has`, with dots between.
     pub(crate) fn has(&mut self, left: Operand, tokens: &mut TokenStream<'_>) -> Step
         requires { IsBefore (max (open_start self.old) left.span.start) tokens.old }
+        ensures parses { ParsesOn
+            (λ ts. WaitsBelow precedences.Relation self.old
+            × (4 ≤ precedence_number left.precedence) × ((w : List ℕ)
+            × IsParsed ts self.old (Some left) (lexeme kinds.Has w ∷ here tokens.old)))
+            tokens.old result self.new tokens.new }
         ensures left { tokens_left tokens.new ≤ tokens_left tokens.old }
         ensures goes_on { IsStep tokens.old tokens.new self.new result }
     {
@@ -62,6 +80,11 @@ impl Parser<'_> {
     /// The pattern behind `like`.
     pub(crate) fn like(&mut self, left: Operand, tokens: &mut TokenStream<'_>) -> Step
         requires { IsBefore (max (open_start self.old) left.span.start) tokens.old }
+        ensures parses { ParsesOn
+            (λ ts. WaitsBelow precedences.Relation self.old
+            × (4 ≤ precedence_number left.precedence) × ((w : List ℕ)
+            × IsParsed ts self.old (Some left) (lexeme kinds.Like w ∷ here tokens.old)))
+            tokens.old result self.new tokens.new }
         ensures left { tokens_left tokens.new ≤ tokens_left tokens.old }
         ensures goes_on { IsStep tokens.old tokens.new self.new result }
     {
@@ -78,6 +101,11 @@ impl Parser<'_> {
     /// The type behind `is`, and maybe `in`.
     pub(crate) fn is(&mut self, left: Operand, tokens: &mut TokenStream<'_>) -> Step
         requires { IsBefore (max (open_start self.old) left.span.start) tokens.old }
+        ensures parses { ParsesOn
+            (λ ts. WaitsBelow precedences.Relation self.old
+            × (4 ≤ precedence_number left.precedence) × ((w : List ℕ)
+            × IsParsed ts self.old (Some left) (lexeme kinds.Is w ∷ here tokens.old)))
+            tokens.old result self.new tokens.new }
         ensures left { tokens_left tokens.new ≤ tokens_left tokens.old }
         ensures goes_on { IsStep tokens.old tokens.new self.new result }
     {
@@ -89,8 +117,8 @@ impl Parser<'_> {
             return Ok(Some(self.nodes.is(left, ty, path.span.stop)?));
         }
         let again = left.expr.clone(alloc)?;
-        let is = self.nodes.is(left, ty, path.span.stop)?;
-        self.operations.push(Operation::IsIn(is, again))?;
+        let test = self.nodes.is(left, ty, path.span.stop)?;
+        self.operations.push(Operation::IsIn(test, again))?;
         Ok(None)
     }
 }

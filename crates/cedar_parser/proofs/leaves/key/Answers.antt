@@ -1,5 +1,6 @@
 use Rattle.cedar_parser.specs.Refused.{next_start}
 use Rattle.cedar_parser.proofs.InOrder.{here, skipped, then_left, untouched}
+use Rattle.cedar_parser.proofs.Paths.{quoted_key, word_key}
 use Rattle.cedar_parser.proofs.leaves.key.Goals as goal
 
 pub returns-in_ok-text_of-in-Some-clause-goes_on : goal.returns-in_ok-text_of-in-Some-clause-goes_on
@@ -15,3 +16,13 @@ returns-in_ok-from_str-in-None-clause-goes_on c =
     let u = untouched at old mid (here 0 old c.requires) c.in-None.ensures.gives in
     then_left at at old mid c.expect.new.self u
     (skipped at mid c.expect.new.self c.in_ok-token-in-None.token u.before c.in_ok-token-in-None.ensures.gives.1)
+
+pub returns-in_ok-text_of-in-Some-clause-parses : goal.returns-in_ok-text_of-in-Some-clause-parses
+returns-in_ok-text_of-in-Some-clause-parses c lex =
+    quoted_key c.args.tokens.now c.take_if.new.self c.in-Some.token c.in_ok-text_of-in-Some.field-0 lex c.in-Some.ensures.gives.0
+    c.in-Some.ensures.gives.1 c.in_ok-text_of-in-Some.ensures.text
+
+pub returns-in_ok-from_str-in-None-clause-parses : goal.returns-in_ok-from_str-in-None-clause-parses
+returns-in_ok-from_str-in-None-clause-parses c lex =
+    word_key c.args.tokens.now c.take_if.new.self c.expect.new.self c.in_ok-token-in-None.token c.in_ok-from_str-in-None.field-0 lex
+    c.in-None.ensures.gives c.in_ok-token-in-None.ensures.gives.0 c.in_ok-token-in-None.ensures.gives.1 c.in_ok-from_str-in-None.ensures.ok

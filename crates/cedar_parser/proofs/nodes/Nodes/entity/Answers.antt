@@ -1,3 +1,14 @@
+use Rattle.std.proofs.Common.{◌≡◌, ◌∙◌, ap, rules, string_bytes, subst, sym}
+use Rattle.cedar_names.specs.Names.{IsNameOf}
+use Rattle.cedar_names.specs.PlainNames.{bare_name}
+use Rattle.cedar_terms.specs.Entities.{bare_entity_type, bare_entity_uid, entity_type_of}
+use Rattle.cedar_builders.specs.BareExpr.{Lit}
+use Rattle.cedar_exprs.specs.BareExpr.{bare_expr}
+use Rattle.cedar_lexer.specs.declared.token.TokenKind.TheVariants as kinds
+use Rattle.semantics_grammar.specs.Written.{IsTextOf}
+use Rattle.cedar_parser.specs.Meant.{AreLexemes, here}
+use Rattle.cedar_parser.proofs.Paths.{entity_path}
+use Rattle.cedar_parser.proofs.TakenSteps.{taken_is}
 use Rattle.cedar_parser.proofs.InOrder.{skipped}
 use Rattle.cedar_parser.proofs.nodes.Nodes.entity.Goals as goal
 
@@ -6,3 +17,21 @@ returns-clause-goes_on c = (
   c.up_to-span.ensures.start,
   skipped c.args.path.span.stop c.args.tokens.now c.expect.new.self c.in_ok-id.id c.requires.before c.in_ok-id.ensures.gives.1,
 )
+
+pub returns-clause-parses : goal.returns-clause-parses
+returns-clause-parses c ts w colons ids lex =
+    let old = c.args.tokens.now in
+    let new = c.expect.new.self in
+    let id = c.in_ok-id.id in
+    let uid = c.new-uid.result in
+    let path = string_bytes c.args.path.text in
+    let same = taken_is old new id kinds.Quoted c.in_ok-id.ensures.gives.0 c.in_ok-id.ensures.gives.1 in
+    let l = subst AreLexemes same lex in
+    let named : bare_name c.in_ok-name.field-0 ≡ bare_entity_type c.from-ty.result = search rules in
+    let name = subst (IsNameOf path) (named ∙ ap bare_entity_type (sym c.new-uid.ensures.ty)) c.in_ok-name.ensures.name in
+    let text = subst (IsTextOf id.text.now) (sym c.new-uid.ensures.eid) (c.in_ok-text_of.ensures.text l.0) in (
+      entity_path w colons ts (here old) (here new) path id.text.now (bare_entity_type (entity_type_of uid)) (bare_entity_uid uid).eid
+          (bare_expr c.in_ok-node.field-0) ids same name text (c.in_ok-node.ensures ∙ ap Lit c.in_ok-literal.ensures.bare),
+      l.1,
+      c.in_ok-id.ensures.gives.1.1,
+    )

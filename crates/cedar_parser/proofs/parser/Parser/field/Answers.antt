@@ -1,13 +1,20 @@
+use Rattle.cedar_builders.specs.Keys.{meant_pairs}
+use Rattle.cedar_exprs.specs.BareExpr.{bare_expr}
+use Rattle.cedar_parser.proofs.TakenSteps.{end_kept, field_ends, field_key, if_both}
 use Rattle.std.proofs.Common.{max, arith}
 use Rattle.cedar_parser.specs.Refused.{next_start, open_start}
-use Rattle.cedar_parser.proofs.InOrder.{left_from, maybe_taken, skipped, step_ended, step_opened, then_left}
+use Rattle.cedar_parser.proofs.InOrder.{left_from, maybe_taken, skipped, step_about, step_opened, taken, then_left}
 use Rattle.cedar_parser.proofs.parser.Parser.field.Goals as goal
 
 pub returns-in-Some-clause-goes_on : goal.returns-in-Some-clause-goes_on
 returns-in-Some-clause-goes_on c =
     let at = max (open_start c.args.self.now) c.args.start in
-    step_ended at c.args.start c.args.tokens.now c.take_if.new.self c.in-Some.field-0 c.record.new.self c.record.result
-    c.requires c.in-Some.ensures.gives.1 (omega arith) c.record.ensures
+    let old = c.args.tokens.now in
+    let new = c.take_if.new.self in
+    let t = c.in-Some.field-0 in
+    let k = taken at old new t c.requires c.in-Some.ensures.gives.1 in
+    step_about at (record { start = c.args.start; stop = t.span.stop }) old new c.record.new.self c.record.result c.record.ensures.opened
+    (skipped at old new t c.requires c.in-Some.ensures.gives.1) (omega (arith, k.0.first, k.0.piece)) (omega (arith, k.0.fits, k.1))
 
 pub returns-clause-goes_on : goal.returns-clause-goes_on
 returns-clause-goes_on c =
@@ -19,5 +26,19 @@ returns-clause-goes_on c =
     let l = maybe_taken at old first c.take_if.result _ c.requires c.take_if.ensures.gives in
     let m = left_from (next_start first) at first second l.before.next c.in_ok-key.ensures.goes_on in
     let n = skipped at second new c.in_ok-_colon._colon m.before c.in_ok-_colon.ensures.gives.1 in
-    step_opened at old new c.open.new.self c.open.result c.open.ensures
+    step_opened at old new c.open.new.self c.open.result c.open.ensures.opened
     (then_left at at old first new l (then_left at at first second new m n))
+
+pub returns-in-Some-clause-parses : goal.returns-in-Some-clause-parses
+returns-in-Some-clause-parses c ts end h =
+    field_ends ts c.args.self.now c.record.new.self (meant_pairs bare_expr c.args.pairs.items) c.in-Some.field-0 c.args.tokens.now
+    c.take_if.new.self c.record.result end h.no_values h.lexemes h.so_far c.in-Some.ensures.gives.0
+    c.in-Some.ensures.gives.1 c.record.ensures.same c.record.ensures.tree
+
+pub returns-clause-parses : goal.returns-clause-parses
+returns-clause-parses c ts end h =
+    let k = field_key ts c.args.self.now (meant_pairs bare_expr c.args.pairs.items) c.in_ok-key.key c.in_ok-_colon._colon c.args.tokens.now
+    c.take_if.new.self c.key.new.tokens c.expect.new.self h.lexemes h.so_far c.in_default.ensures.gives c.in_ok-key.ensures.parses
+    c.in_ok-_colon.ensures.gives.0 c.in_ok-_colon.ensures.gives.1 in
+    if_both _ _ c.open.result (c.open.ensures.parses ts _ (record { no_values = h.no_values; lexemes = k.1; so_far = k.0 }))
+    (end_kept c.args.tokens.now c.expect.new.self k.2 end)

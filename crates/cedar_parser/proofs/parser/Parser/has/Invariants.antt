@@ -1,13 +1,16 @@
-use Rattle.std.proofs.Common.{◌≤◌}
+use Rattle.std.proofs.Common.{◌≤◌, map}
+use Rattle.std.specs.Rc.{rc_str_bytes}
 use Rattle.cedar_lexer.specs.TokenStreams.{tokens_left}
+use Rattle.cedar_parser.specs.Meant.{AreKeysTaken, AreLexemes, here}
 use Rattle.cedar_parser.specs.Refused.{IsLeft, next_start}
 use Rattle.cedar_parser.proofs.parser.Parser.has.Given as goal
 
--- what is left stands behind what was left
+-- what is left stands behind what was left, and behind the keys so far
 abbrev pub invariant-attributes : goal.invariant-attributes
 invariant-attributes l = record {
   fewer : tokens_left l.tokens ≤ tokens_left l.initial.tokens;
   left : IsLeft (next_start l.initial.tokens) l.initial.tokens l.tokens;
+  parses : AreLexemes (here l.initial.tokens) → AreKeysTaken l.initial.tokens (map rc_str_bytes l.tail.items) l.tokens;
 }
 
 abbrev pub decreases-attributes : goal.decreases-attributes

@@ -1,10 +1,32 @@
+use Rattle.std.proofs.Common.{map, sym, subst}
+use Rattle.cedar_exprs.specs.BareExpr.{bare_expr}
+use Rattle.cedar_parser.specs.Meant.{IsOpenParsed, row_of}
+use Rattle.cedar_parser.specs.declared.groups.GroupKind.TheVariants as groups
+use Rattle.cedar_parser.proofs.TakenSteps.{end_kept, if_both, item_ends, untouched_here}
 use Rattle.std.proofs.Common.{max, arith}
 use Rattle.cedar_parser.specs.Refused.{open_start}
-use Rattle.cedar_parser.proofs.InOrder.{step_ended}
+use Rattle.cedar_parser.proofs.InOrder.{skipped, step_about, taken}
 use Rattle.cedar_parser.proofs.parser.Parser.item.Goals as goal
 
 pub returns-in-Some-clause-goes_on : goal.returns-in-Some-clause-goes_on
 returns-in-Some-clause-goes_on c =
     let at = max (open_start c.args.self.now) c.args.start in
-    step_ended at c.args.start c.args.tokens.now c.take_if.new.self c.in-Some.field-0 c.row.new.self c.row.result
-    c.requires c.in-Some.ensures.gives.1 (omega arith) c.row.ensures
+    let old = c.args.tokens.now in
+    let new = c.take_if.new.self in
+    let t = c.in-Some.field-0 in
+    let k = taken at old new t c.requires c.in-Some.ensures.gives.1 in
+    step_about at (record { start = c.args.start; stop = t.span.stop }) old new c.row.new.self c.row.result c.row.ensures.opened
+    (skipped at old new t c.requires c.in-Some.ensures.gives.1) (omega (arith, k.0.first, k.0.piece)) (omega (arith, k.0.fits, k.1))
+
+pub returns-in-Some-clause-parses : goal.returns-in-Some-clause-parses
+returns-in-Some-clause-parses c ts end h =
+    item_ends ts c.args.self.now c.row.new.self (row_of c.args.kind) (map bare_expr c.args.items.items) c.in-Some.field-0 c.args.tokens.now
+    c.take_if.new.self c.closing.result c.row.result end h.no_values h.lexemes h.so_far c.closing.ensures c.in-Some.ensures.gives.0
+    c.in-Some.ensures.gives.1 c.row.ensures.same c.row.ensures.tree
+
+pub returns-in-None-clause-parses : goal.returns-in-None-clause-parses
+returns-in-None-clause-parses c ts end h =
+    if_both _ _ c.open.result
+    (c.open.ensures.parses ts _ (subst (IsOpenParsed ts c.args.self.now (groups.Row c.args.kind c.args.items))
+    (untouched_here c.args.tokens.now c.take_if.new.self c.in-None.ensures.gives) h))
+    (end_kept c.args.tokens.now c.take_if.new.self c.in-None.ensures.gives.1 end)

@@ -1,0 +1,28 @@
+use Rattle.cedar_parser.proofs.parser.Parser.close.Goals as goal
+use Rattle.std.proofs.Common.{max, ap, arith, refl}
+use Rattle.cedar_parser.specs.Meant.{from}
+use Rattle.cedar_parser.specs.Refused.{greatest, group_start, open_start}
+use Rattle.cedar_parser.proofs.Greatest.{greatest_push}
+use Rattle.cedar_parser.proofs.GroupSteps.{closing_parsed}
+use Rattle.cedar_parser.proofs.InOrder.{first_from}
+
+pub resume_group-requires-clause-opened : goal.resume_group-requires-clause-opened
+resume_group-requires-clause-opened c =
+    let q = ap (greatest group_start) c.in-Some.ensures.items in
+    let p = greatest_push group_start c.pop.new.self.items c.in-Some.group in
+    let u = c.in_ok-operand.ensures.opened.opened in
+    omega (arith, q, p, u, c.requires.first)
+
+pub resume_group-requires-clause-first : goal.resume_group-requires-clause-first
+resume_group-requires-clause-first c =
+    let q = ap (greatest group_start) c.in-Some.ensures.items in
+    let p = greatest_push group_start c.pop.new.self.items c.in-Some.group in
+    let u = c.in_ok-operand.ensures.opened.opened in
+    first_from (max (open_start c.args.self.now) c.args.last.span.start) (group_start c.in-Some.group) c.args.token c.args.tokens.now
+    (omega (arith, q, p, u)) c.requires
+
+pub returns-in-Some-clause-parses : goal.returns-in-Some-clause-parses
+returns-in-Some-clause-parses c ts end h =
+    c.resume_group.ensures.parses ts end
+    (closing_parsed ts (from c.args.token c.args.tokens.now) c.apply_down_to.new.self _ c.in-Some.group c.in_ok-operand.operand
+    (c.in_ok-operand.ensures.parses ts (from c.args.token c.args.tokens.now) h) c.in_ok-operand.ensures.below c.in-Some.ensures.items refl)

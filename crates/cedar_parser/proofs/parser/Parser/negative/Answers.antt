@@ -1,0 +1,11 @@
+use Rattle.cedar_parser.proofs.parser.Parser.negative.Goals as goal
+use Rattle.std.proofs.Common.{refl, subst}
+use Rattle.cedar_lexer.specs.Grammar.{IsTokenText}
+use Rattle.cedar_terms.specs.Literals.{bare_literal}
+use Rattle.cedar_parser.proofs.GroupSteps.{negative_step}
+
+pub returns-clause-parses : goal.returns-clause-parses
+returns-clause-parses c ts rest h k =
+    negative_step ts rest c.args.self.now _ c.args.digits (bare_literal c.in_ok-integer.field-0) h k
+    (c.in_ok-integer.ensures.negative (subst (IsTokenText c.args.digits.text.now) k h.lexemes.0) refl) refl
+    c.in_ok-expr.ensures

@@ -1,0 +1,67 @@
+use Rattle.cedar_parser.proofs.parser.Parser.resume_group.Goals as goal
+use Rattle.std.proofs.Common.{IsTrue, ap, rules, refl, subst}
+use Rattle.cedar_parser.specs.Meant.{Takes, grouped, here, row_of}
+use Rattle.cedar_parser.specs.Waiting.{closing_of}
+use Rattle.cedar_lexer.specs.declared.token.TokenKind.TheVariants as kinds
+use Rattle.cedar_parser.proofs.GroupSteps.{branch_closed, field_closed, is_comma, item_closed, last_field_closed, last_item_closed, no_comma, round_closed, test_closed}
+use Rattle.cedar_parser.proofs.TakenSteps.{if_both}
+
+pub returns-in-Round-clause-parses : goal.returns-in-Round-clause-parses
+returns-in-Round-clause-parses c ts end h =
+    let takes : IsTrue c.takes.result = search rules in
+    let k = subst (λ x. Takes (grouped x) c.args.token.kind) c.in-Round.is (c.takes.ensures takes) in (
+      round_closed ts (here c.args.tokens.now) c.args.self.now c.args.group c.args.expr c.args.token c.member.result h c.in-Round.is k
+          c.member.ensures.precedence c.member.ensures.expr,
+      end,
+    )
+
+pub returns-in-If-clause-parses : goal.returns-in-If-clause-parses
+returns-in-If-clause-parses c ts end h =
+    let takes : IsTrue c.takes.result = search rules in
+    let k = subst (λ x. Takes (grouped x) c.args.token.kind) c.in-If.is (c.takes.ensures takes) in
+    if_both _ _ c.open.result
+    (c.open.ensures.parses ts (here c.args.tokens.now)
+    (test_closed ts (here c.args.tokens.now) c.args.self.now c.args.group c.args.expr c.args.token h c.in-If.is k)) end
+
+pub returns-in-Then-clause-parses : goal.returns-in-Then-clause-parses
+returns-in-Then-clause-parses c ts end h =
+    let takes : IsTrue c.takes.result = search rules in
+    let k = subst (λ x. Takes (grouped x) c.args.token.kind) c.in-Then.is (c.takes.ensures takes) in
+    branch_closed ts c.args.self.now c.otherwise.new.self c.args.group c.in-Then.test c.args.expr c.args.token c.args.group.start c.args.tokens.now
+    c.otherwise.result end h c.in-Then.is k c.otherwise.ensures.pushed
+
+pub returns-then-goes_on-clause-parses : goal.returns-then-goes_on-clause-parses
+returns-then-goes_on-clause-parses c ts end h =
+    c.item.ensures.parses ts end (record {
+      no_values = h.no_values;
+      lexemes = h.lexemes.1;
+      so_far = item_closed ts (here c.args.tokens.now) c.args.self.now c.args.group c.args.expr c.args.token (row_of c.in-Row.kind) c.in-Row.items.items
+          c.in_ok-items-in-Row.items.items h (ap grouped c.in-Row.is) (is_comma c.args.token.kind c.if-goes_on.ensures) c.in_ok-items-in-Row.ensures.items;
+    })
+
+pub returns-else-goes_on-clause-parses : goal.returns-else-goes_on-clause-parses
+returns-else-goes_on-clause-parses c ts end h =
+    let takes : IsTrue c.takes.result = search rules in
+    let k = subst (λ x. Takes (grouped x) c.args.token.kind) c.in-Row.is (c.takes.ensures takes) in
+    last_item_closed ts c.args.self.now c.row.new.self c.args.group c.args.expr c.args.token (row_of c.in-Row.kind) c.in-Row.items.items
+    c.in_ok-items-in-Row.items.items c.args.tokens.now c.row.result end h (ap grouped c.in-Row.is)
+    (no_comma c.args.token.kind (closing_of (row_of c.in-Row.kind)) c.if-goes_on.ensures k) c.in_ok-items-in-Row.ensures.items c.row.ensures.same
+    c.row.ensures.tree
+
+pub returns-then-goes_on-2-clause-parses : goal.returns-then-goes_on-2-clause-parses
+returns-then-goes_on-2-clause-parses c ts end h =
+    c.field.ensures.parses ts end (record {
+      no_values = h.no_values;
+      lexemes = h.lexemes.1;
+      so_far = field_closed ts (here c.args.tokens.now) c.args.self.now c.args.group c.args.expr c.args.token c.in-Record.key c.in-Record.pairs.items
+          c.in_ok-pairs-in-Record.pairs.items h (ap grouped c.in-Record.is) (is_comma c.args.token.kind c.if-goes_on-2.ensures) c.in_ok-pairs-in-Record.ensures.items;
+    })
+
+pub returns-else-goes_on-2-clause-parses : goal.returns-else-goes_on-2-clause-parses
+returns-else-goes_on-2-clause-parses c ts end h =
+    let takes : IsTrue c.takes.result = search rules in
+    let k = subst (λ x. Takes (grouped x) c.args.token.kind) c.in-Record.is (c.takes.ensures takes) in
+    last_field_closed ts c.args.self.now c.«record».new.self c.args.group c.args.expr c.args.token c.in-Record.key c.in-Record.pairs.items
+    c.in_ok-pairs-in-Record.pairs.items c.args.tokens.now c.«record».result end h (ap grouped c.in-Record.is)
+    (no_comma c.args.token.kind kinds.CloseCurly c.if-goes_on-2.ensures k) c.in_ok-pairs-in-Record.ensures.items c.«record».ensures.same
+    c.«record».ensures.tree

@@ -1,0 +1,9 @@
+use Rattle.cedar_parser.proofs.parser.Parser.takes_conditional.Goals as goal
+use Rattle.std.proofs.Common.{◌≤◌, IsTrue, subst, sym}
+use Rattle.cedar_parser.specs.Waiting.{least_operand}
+use Rattle.cedar_parser.proofs.Machine.{parser_last}
+
+pub returns-in-Some : goal.returns-in-Some
+returns-in-Some c =
+    let e = parser_last c.args.self.now c.deref.result.now c.in-Some.operation.now c.deref.ensures.value c.in-Some.ensures.value in
+    subst (λ b. IsTrue c.takes_conditional.result → least_operand b ≤ 0) (sym e) c.takes_conditional.ensures
