@@ -2,3 +2,4 @@ pub mod Kinds
 pub mod Outcomes
 pub mod Texts
 pub mod Laws
+pub mod Compact

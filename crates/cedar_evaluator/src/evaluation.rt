@@ -1,26 +1,30 @@
 //! The outcome of an expression.
-ghost use Rattle.std.specs.Prelude.{◌≢◌, Err, IfOk, IsTrue};
+ghost use Rattle.std.specs.Prelude.{◌≢◌, Err, IfOk, IsTrue, Result};
+ghost use Rattle.cedar_names.specs.Names.{BareName};
 ghost use Rattle.cedar_names.specs.PlainNames.{bare_name};
 ghost use Rattle.cedar_builders.specs.Answers.{Gives};
 ghost use Rattle.cedar_builders.specs.Environment.{fold};
 ghost use Rattle.cedar_exprs.specs.BareExpr.{bare_expr};
-ghost use Rattle.cedar_values.specs.Holders.{plain_env};
+ghost use Rattle.cedar_values.specs.Holders.{NoExtension, plain_env};
 ghost use Rattle.cedar_values.specs.WellFormedValues.{well_formed_env};
 ghost use Rattle.semantics_eval.specs.Evaluator.{evaluator_ops};
 ghost use Rattle.semantics_eval.specs.Laws.{is_closed};
+ghost use Rattle.semantics_eval.specs.Outcomes as meant;
 ghost use Rattle.semantics_eval.specs.Outcomes.{Open};
+ghost use Rattle.cedar_evaluator.specs.Compact.{compact_meaning};
 ghost use Rattle.cedar_evaluator.specs.Outcomes.{meaning_of};
 
-use crate::evaluator::Evaluator;
+use crate::compact::CompactOutcome;
+use crate::compact_evaluator::CompactEvaluator;
 use crate::fault::CallRefused;
 use crate::outcome::Outcome;
-use crate::shared_value::SharedValue;
+use crate::shared_value::{CompactSharedValue, CompactValue};
 use cedar_builders::BuildFault;
 use cedar_exprs::Expr;
 use cedar_values::laws::{
     maps_bind_plain_values, no_extension_values, well_formed_maps_bind_plain_values,
 };
-use cedar_values::{NoExtension, Value, WellFormedValue, try_into_expr_with_values};
+use cedar_values::{NoExtension, Value, WellFormedValue};
 use semantics_eval::laws::never_open;
 use std::alloc::Global;
 use std::collections::HashMap;
@@ -28,8 +32,8 @@ use std::rc::RcStr;
 
 /// The outcome of an expression, where the unknowns that `values` binds are these values.
 ///
-/// Each value is written out as an expression and evaluated at each unknown that it is bound to:
-/// take `evaluate_shared` where values are not small.
+/// A value that is no literal is written out as an expression and evaluated at each unknown that it
+/// is bound to: take `evaluate_shared` where values are not small.
 ///
 /// The error is the first call of an extension function, children before parents and each in field
 /// order, or memory ran out.
@@ -48,7 +52,7 @@ pub fn evaluate(
     maps_bind_plain_values::<NoExtension>();
     never_open::<NoExtension>();
     no_extension_values();
-    try_into_expr_with_values::<Evaluator, NoExtension>(alloc, expr, values)
+    of_compact(expr.try_into_expr_by::<CompactEvaluator, Value, CompactValue>(alloc, values))
 }
 
 /// The same, where each value is shared: an unknown costs the same whatever the size of its value.
@@ -72,5 +76,21 @@ pub fn evaluate_shared(
 {
     well_formed_maps_bind_plain_values();
     never_open::<NoExtension>();
-    expr.try_into_expr_by::<Evaluator, WellFormedValue, SharedValue>(alloc, values)
+    of_compact(expr.try_into_expr_by::<CompactEvaluator, WellFormedValue, CompactSharedValue>(
+        alloc, values,
+    ))
+}
+
+// The outcome that was handed on in little room.
+fn of_compact(
+    made: Result<CompactOutcome, BuildFault<CallRefused>>,
+) -> Result<Outcome, BuildFault<CallRefused>>
+    ensures { (wanted : Result (meant.Outcome NoExtension) BareName) →
+        Gives compact_meaning (λ (refused : CallRefused). bare_name refused.name) wanted made
+        → Gives meaning_of (λ (refused : CallRefused). bare_name refused.name) wanted result }
+{
+    match made {
+        Ok(compact) => Ok(compact.into_outcome()),
+        Err(fault) => Err(fault),
+    }
 }

@@ -2,6 +2,8 @@
 #![tactic(auto)]
 
 mod attributes;
+mod compact;
+mod compact_evaluator;
 mod evaluation;
 mod evaluator;
 mod fault;

@@ -4,6 +4,7 @@ ghost use Rattle.std.specs.Result.{ForOk};
 ghost use Rattle.cedar_values.specs.WellFormed.{well_formed};
 
 use crate::attributes::{attribute, has_path};
+use crate::compact::CompactOutcome;
 use crate::fault::{EvalFault, EvaluationFault};
 use crate::kinds::{as_bool, literal_value};
 use crate::operators::{apply_one, apply_two, is_like, is_of_type, test};
@@ -41,6 +42,7 @@ impl Outcome {
     ghost use Rattle.semantics_eval.specs.Attributes.{get_in, has_path as path_in, is_in, like_in};
     ghost use Rattle.semantics_eval.specs.Operators.{apply_one as one, apply_two as two};
     ghost use Rattle.semantics_eval.specs.Outcomes.{Fault, as_truth, strict, strict_two};
+    ghost use Rattle.cedar_evaluator.specs.Compact.{compact_meaning};
     ghost use Rattle.cedar_evaluator.specs.Outcomes.{
       bare_fault,
       fault_in,
@@ -215,6 +217,28 @@ impl Outcome {
                 Err(fault) => Ok(Outcome::fail(fault, source_loc)),
             },
             Err(_) => Ok(self),
+        }
+    }
+
+    // The value of an attribute, in little room.
+    pub(crate) fn get_compact(
+        self,
+        alloc: Global,
+        key: &RcStr,
+        source_loc: Option<Loc>,
+    ) -> Result<CompactOutcome, AllocError>
+        ensures { IfOk result (λ c.
+            compact_meaning c ≡ strict (get_in (rc_str_bytes key.now)) (meaning_of self)) }
+    {
+        match &self.result {
+            Ok(value) => match attribute(value, key) {
+                Ok(Some(found)) => CompactOutcome::copy_of(alloc, found),
+                Ok(None) => {
+                    CompactOutcome::whole(alloc, Outcome::fail(EvalFault::Missing, source_loc))
+                }
+                Err(fault) => CompactOutcome::whole(alloc, Outcome::fail(fault, source_loc)),
+            },
+            Err(_) => CompactOutcome::whole(alloc, self),
         }
     }
 

@@ -4,13 +4,15 @@ ghost use Rattle.cedar_values.specs.BareValues.{bare_value};
 ghost use Rattle.cedar_values.specs.WellFormedValues.{value_of};
 ghost use Rattle.cedar_evaluator.specs.Outcomes.{bare_fault, fault_in, meaning_of};
 
+use crate::compact::CompactOutcome;
+use crate::compact_evaluator::CompactEvaluator;
 use crate::evaluator::Evaluator;
 use crate::fault::{CallRefused, EvaluationFault};
 use crate::outcome::Outcome;
 use cedar_builders::BuildFault;
-use cedar_exprs::ValueBuilder;
+use cedar_exprs::{ThroughExpr, ValueBuilder};
 use cedar_values::laws::{no_extension_values, well_formed_parts};
-use cedar_values::{NoExtension, WellFormedValue};
+use cedar_values::{NoExtension, Value, WellFormedValue};
 use semantics_eval::laws::value_kept;
 use std::alloc::{AllocError, Global};
 
@@ -27,6 +29,40 @@ impl ValueBuilder<Evaluator, WellFormedValue> for SharedValue {
         no_extension_values();
         well_formed_parts::<NoExtension>();
         Ok(Outcome::share(alloc, value)?)
+    }
+}
+
+// The same, in little room.
+pub(crate) struct CompactSharedValue;
+
+impl ValueBuilder<CompactEvaluator, WellFormedValue> for CompactSharedValue {
+    fn build_value(
+        alloc: Global,
+        value: &WellFormedValue,
+    ) -> Result<CompactOutcome, BuildFault<CallRefused>> {
+        value_kept::<NoExtension>();
+        no_extension_values();
+        well_formed_parts::<NoExtension>();
+        Ok(CompactOutcome::copy_of(alloc, value.as_value())?)
+    }
+}
+
+// A literal is taken as it is, and any other value is built from its expression.
+pub(crate) struct CompactValue;
+
+impl ValueBuilder<CompactEvaluator, Value<NoExtension>> for CompactValue {
+    fn build_value(
+        alloc: Global,
+        value: &Value<NoExtension>,
+    ) -> Result<CompactOutcome, BuildFault<CallRefused>> {
+        match value.try_as_lit() {
+            Some(literal) => Ok(CompactOutcome::lit(alloc, literal.clone(alloc)?)?),
+            None => {
+                <ThroughExpr as ValueBuilder<CompactEvaluator, Value<NoExtension>>>::build_value(
+                    alloc, value,
+                )
+            }
+        }
     }
 }
 
