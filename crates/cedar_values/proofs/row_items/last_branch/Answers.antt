@@ -8,9 +8,9 @@ pub returns-in-Some-into_branch : goal.returns-in-Some-into_branch
 returns-in-Some-into_branch g c =
     let less = one_off value_nodes _ _ _ c.in-Some.ensures.items in
     record {
-      gives = sym c.leaves.invariant.1 ∙ branch_off branch_of _ _ _ _ c.in-Some.ensures.items (sym c.into_branch.ensures.branch ∙ c.in-Some-into_branch.is)
-      ; taken = omega (arith, less, c.in-Some-into_branch.ensures.nodes, c.leaves.invariant.0)
-      ; fewer = omega (arith, less, c.leaves.invariant.0)
+      gives = sym c.leaves.invariant.1 ∙ branch_off branch_of _ _ _ _ c.in-Some.ensures.items (sym c.into_branch.ensures.branch ∙ c.in-Some-into_branch.is);
+      taken = omega (arith, less, c.in-Some-into_branch.ensures.nodes, c.leaves.invariant.0);
+      fewer = omega (arith, less, c.leaves.invariant.0);
     }
 
 pub leaves-preserved : goal.leaves-preserved
