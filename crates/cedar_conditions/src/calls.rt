@@ -1,4 +1,5 @@
 //! The functions and methods that Cedar has.
+use crate::layout::from_on;
 use crate::nearest::nearest;
 use crate::problem::{Problem, Words};
 use cedar_exprs::{Expr, ExprKind};
@@ -205,13 +206,5 @@ fn name_piece<'a>(text: &'a str, place: &Loc, name: &str, args: &[Expr]) -> Exce
             start: place.start,
             stop: place.stop,
         },
-    }
-}
-
-// The text from a place on.
-fn from_on(text: &str, at: usize) -> &str {
-    match text.split_at_checked(at) {
-        Some((_, after)) => after,
-        None => "",
     }
 }

@@ -204,7 +204,7 @@ fn up_to(text: &str, at: usize) -> &str {
 }
 
 // The text from a place on.
-fn from_on(text: &str, at: usize) -> &str {
+pub(crate) fn from_on(text: &str, at: usize) -> &str {
     match text.split_at_checked(at) {
         Some((_, after)) => after,
         None => "",

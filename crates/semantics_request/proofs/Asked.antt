@@ -25,7 +25,7 @@ use Rattle.semantics_request.proofs.Answered.{Answers, ops_by}
 use Rattle.semantics_request.proofs.Outcomes.{AskLaws, IsAnswer}
 use Rattle.semantics_request.proofs.Means.{Means}
 use Rattle.semantics_request.proofs.Sound.{simplifier_by, Agree, sound}
-use Rattle.semantics_request.proofs.Sure.{Sure, sure_one, sure_then, sure_two, sure_three, sure_both}
+use Rattle.semantics_simplify.specs.Sure.{Sure, sure_one, sure_then, sure_two, sure_three, sure_both}
 use Rattle.semantics_request.proofs.Truths.{AreTruths}
 use Rattle.semantics_request.proofs.Values.{EvaluatorLaws}
 

@@ -5,11 +5,8 @@ pub mod Below
 pub mod Outcomes
 pub mod Decided
 pub mod Closed
-pub mod Substituted
 pub mod PutFirst
 pub mod StoreParts
-pub mod Sure
-pub mod Plain
 pub mod Values
 pub mod Truths
 pub mod Means

@@ -19,7 +19,7 @@ use Rattle.semantics_simplify.specs.Simplifier.{branch_or, and_or, or_or}
 use Rattle.semantics_request.specs.Evaluator.{then_two, path_by}
 use Rattle.semantics_request.proofs.Answered.{Answers, ops_by}
 use Rattle.semantics_request.proofs.Outcomes.{IsAnswer, answered}
-use Rattle.semantics_request.proofs.Plain.{IsPlain, literal, IfPlain, plain_set, plain_record}
+use Rattle.semantics_simplify.specs.Plain.{IsPlain, literal, IfPlain, plain_set, plain_record}
 use Rattle.semantics_request.proofs.Truths.{IfTruth, AreTruths, boolean}
 use Rattle.semantics_request.proofs.Values.{values_ok, pairs_ok, EvaluatorLaws, evaluates}
 

@@ -22,7 +22,7 @@ use Rattle.semantics_request.proofs.Asked.{Passing, passed}
 use Rattle.semantics_request.proofs.Means.{Means}
 use Rattle.semantics_request.proofs.Outcomes.{AskLaws, IsPlainTree, asks_nothing}
 use Rattle.semantics_request.proofs.Residuals.{itself, before, after, known_agrees, meaning, answers, ops, unknown_left, bindings, left_means, store_truths}
-use Rattle.semantics_request.proofs.Sure.{Sure, sure_is, sure_other}
+use Rattle.semantics_simplify.specs.Sure.{Sure, sure_is, sure_other}
 use Rattle.semantics_request.proofs.Values.{EvaluatorLaws}
 
 -- no table is needed

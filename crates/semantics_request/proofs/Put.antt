@@ -15,8 +15,8 @@ use Rattle.semantics_request.specs.Evaluator.{known_or_open, request_ops, reques
 use Rattle.semantics_request.specs.Put.{IsPlainRequest, value_or, put_ops, put}
 use Rattle.semantics_request.specs.Laws.{RequestPutFirst}
 use Rattle.semantics_request.proofs.Answered.{by_request}
-use Rattle.semantics_request.proofs.Substituted.{and_built, or_built}
-use Rattle.semantics_request.proofs.Sure.{Sure, sure_is, sure_one, sure_then, sure_two, sure_three}
+use Rattle.semantics_simplify.specs.Substituted.{and_built, or_built}
+use Rattle.semantics_simplify.specs.Sure.{Sure, sure_is, sure_one, sure_then, sure_two, sure_three}
 use Rattle.semantics_request.proofs.Values.{EvaluatorLaws, evaluates}
 
 nothing_known : {X : Type 0} (v : Variable) → value_of (no_request {X = X}) v ≡ None

@@ -4,7 +4,7 @@ use Rattle.std.specs.declared.cmp.Ordering.{Ordering}
 use Rattle.cedar_builders.specs.Laws.{SubstitutedByFold}
 use Rattle.semantics_request.specs.Evaluator.{request_ops, request_lawful}
 use Rattle.semantics_request.specs.Laws.{PutFirst}
-use Rattle.semantics_request.proofs.Substituted.{built_after}
+use Rattle.semantics_simplify.specs.Substituted.{built_after}
 
 pub put_first : {X : Type 0} (R : X → X → Ordering) (E : X → X → Bool) → SubstitutedByFold
     → PutFirst R E

@@ -34,12 +34,12 @@ use Rattle.semantics_request.proofs.Below as closed_below
 use Rattle.semantics_request.proofs.Decided.{is_open}
 use Rattle.semantics_request.proofs.Decided as known_below
 use Rattle.semantics_request.proofs.Outcomes.{AskLaws, IsAnswer, IsPlainTree}
-use Rattle.semantics_request.proofs.Plain.{IsPlain, literal, IfPlain, of_settled}
-use Rattle.semantics_request.proofs.Plain as plain
+use Rattle.semantics_simplify.specs.Plain.{IsPlain, literal, IfPlain, of_settled}
+use Rattle.semantics_simplify.specs.Plain as plain
 use Rattle.semantics_request.proofs.Means.{Means, no_value}
 use Rattle.semantics_request.proofs.Means as kind
 use Rattle.semantics_request.proofs.Sound.{simplifier_by, simplifier_is, Agree, sound}
-use Rattle.semantics_request.proofs.Sure.{Sure, sure_is}
+use Rattle.semantics_simplify.specs.Sure.{Sure, sure_is}
 use Rattle.semantics_request.proofs.Truths.{IsTruth, AreTruths, of_has, of_path, of_has_attribute, of_two}
 use Rattle.semantics_request.proofs.Values.{EvaluatorLaws, bound_value}
 

@@ -19,9 +19,9 @@ use Rattle.semantics_simplify.specs.Simplifier.{simplifier_ops}
 use Rattle.semantics_request.specs.Evaluator.{then_two, path_by}
 use Rattle.semantics_request.proofs.Answered.{Answers, ops_by, closed, path_is}
 use Rattle.semantics_request.proofs.Outcomes.{IsAnswer}
-use Rattle.semantics_request.proofs.Plain.{IsPlain, literal, IfPlain, of_settled}
-use Rattle.semantics_request.proofs.Plain as plain
-use Rattle.semantics_request.proofs.Sure.{Sure, sure_one, sure_then, sure_two, sure_three}
+use Rattle.semantics_simplify.specs.Plain.{IsPlain, literal, IfPlain, of_settled}
+use Rattle.semantics_simplify.specs.Plain as plain
+use Rattle.semantics_simplify.specs.Sure.{Sure, sure_one, sure_then, sure_two, sure_three}
 use Rattle.semantics_request.proofs.Truths.{AreTruths}
 use Rattle.semantics_request.proofs.Values.{EvaluatorLaws}
 use Rattle.semantics_request.proofs.Means.{then_is, path_is_strict, Means, AllMean, PairsMean, no_parts, further, no_pair, further_pair, Stays, TwoStay}

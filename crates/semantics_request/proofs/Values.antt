@@ -14,7 +14,7 @@ use Rattle.semantics_eval.specs.Rows.{all_values, all_pairs, set_value, set_outc
 use Rattle.semantics_eval.specs.Laws.{ValueKept, IsAscendingList}
 use Rattle.semantics_request.proofs.Answered.{Answers, ops_by, closed, closed_is}
 use Rattle.semantics_request.proofs.Outcomes.{IsPlainTree}
-use Rattle.semantics_request.proofs.Plain.{IsPlain}
+use Rattle.semantics_simplify.specs.Plain.{IsPlain}
 
 pub values_ok : {X : Type 0} (ts : List (BareValue X)) → all_values (map (λ t. Ok t) ts) ≡ Ok ts
 values_ok [] = refl

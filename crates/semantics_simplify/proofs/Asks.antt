@@ -23,7 +23,7 @@ use Rattle.semantics_simplify.specs.Simplifier.{branch_or, and_or, or_or, simpli
 use Rattle.semantics_simplify.proofs.Values.{EvaluatorLaws}
 use Rattle.semantics_simplify.proofs.Calls.{rows, calls_values, AllPass, together, behind, only, value_passes, IsAnswer}
 use Rattle.semantics_simplify.proofs.Means.{Means}
-use Rattle.semantics_simplify.proofs.Sure.{Sure, sure_one, sure_then, sure_two, sure_three, sure_both}
+use Rattle.semantics_simplify.specs.Sure.{Sure, sure_one, sure_then, sure_two, sure_three, sure_both}
 use Rattle.semantics_simplify.proofs.Sound.{sound}
 
 -- a residual asks only for what passes

@@ -27,7 +27,7 @@ use Rattle.semantics_simplify.proofs.Values.{EvaluatorLaws}
 use Rattle.semantics_simplify.proofs.Calls.{rows, calls_values, AllPass, behind, only, weaker, IsAnswer}
 use Rattle.semantics_simplify.proofs.Means.{no_value, IsStrict, strict_is, path_is, two_given, one_given, both_given, first_chosen, second_chosen, and_true, and_false, or_true, or_false, Means, test_is, boolean_answer, none_refused}
 use Rattle.semantics_simplify.proofs.Asks.{Passing, passed}
-use Rattle.semantics_simplify.proofs.Sure.{Sure, sure_one, sure_two, sure_three, sure_both, sure_weaker}
+use Rattle.semantics_simplify.specs.Sure.{Sure, sure_one, sure_two, sure_three, sure_both, sure_weaker}
 use Rattle.semantics_simplify.proofs.Sound.{sound}
 
 -- whether a node is no variable, slot or call, and no unknown that is not bound

@@ -21,12 +21,12 @@ use Rattle.semantics_simplify.specs.Asks.{Ask, OfUnknown, passes, asks_only, is_
 use Rattle.semantics_simplify.specs.Simplified.{Simplified, Known, tree_of, outcome_of}
 use Rattle.semantics_simplify.specs.Simplifier.{simplifier_ops, simplified_in}
 use Rattle.semantics_simplify.specs.Laws.{ClosedIsKnown, AsksNoMore, ValueKnown}
-use Rattle.semantics_simplify.proofs.Plain.{IsPlain}
+use Rattle.semantics_simplify.specs.Plain.{IsPlain}
 use Rattle.semantics_simplify.proofs.Values.{IsPlainTree, EvaluatorLaws, bound_value, evaluates}
 use Rattle.semantics_simplify.proofs.Calls.{value_passes, IsAnswer}
 use Rattle.semantics_simplify.proofs.Means.{Means, residual, known}
 use Rattle.semantics_simplify.proofs.Asks.{Passing, tree_passes, passed}
-use Rattle.semantics_simplify.proofs.Sure.{Sure, sure_is, sure_answer}
+use Rattle.semantics_simplify.specs.Sure.{Sure, sure_is, sure_answer}
 use Rattle.semantics_simplify.proofs.Sound.{sound, bound_answers}
 use Rattle.semantics_simplify.proofs.Decides.{is_settled_node, both_pass, Decides, decides_value, decided}
 

@@ -1,9 +1,6 @@
-pub mod Substituted
-pub mod Plain
 pub mod Values
 pub mod Calls
 pub mod Truths
-pub mod Sure
 pub mod Means
 pub mod Sound
 pub mod Asks

@@ -17,7 +17,7 @@ use Rattle.semantics_eval.specs.Rows.{all_values, all_pairs, set_value, set_outc
 use Rattle.semantics_eval.specs.Evaluator.{evaluator_ops}
 use Rattle.semantics_simplify.specs.Simplified.{Simplified, Known, Residual, tree_of, child_trees, child_fields, outcome_of, pair_outcomes, known_or, known_truth, calls_nothing, is_boolean}
 use Rattle.semantics_simplify.specs.Simplifier.{branch_or, and_or, or_or}
-use Rattle.semantics_simplify.proofs.Plain.{IsPlain, literal, IfPlain, of_settled, plain_set, plain_record}
+use Rattle.semantics_simplify.specs.Plain.{IsPlain, literal, IfPlain, of_settled, plain_set, plain_record}
 use Rattle.semantics_simplify.proofs.Values.{values_ok, pairs_ok, EvaluatorLaws, evaluates}
 use Rattle.semantics_simplify.proofs.Calls.{IsAnswer, answered}
 use Rattle.semantics_simplify.proofs.Truths.{IfTruth, boolean}

@@ -20,11 +20,11 @@ use Rattle.semantics_eval.specs.Evaluator.{evaluator_ops, evaluator_lawful}
 use Rattle.semantics_simplify.specs.Simplified.{Simplified, Residual, child_trees, outcome_of}
 use Rattle.semantics_simplify.specs.Simplifier.{simplifier_ops, simplified, simplifier_lawful}
 use Rattle.semantics_simplify.specs.Laws.{MeansTheSame, PartialIsSound, IsOnePass, KnownStays}
-use Rattle.semantics_simplify.proofs.Plain.{IsPlain, literal, IfPlain, of_settled, of_path}
-use Rattle.semantics_simplify.proofs.Plain as plain
+use Rattle.semantics_simplify.specs.Plain.{IsPlain, literal, IfPlain, of_settled, of_path}
+use Rattle.semantics_simplify.specs.Plain as plain
 use Rattle.semantics_simplify.proofs.Values.{IsPlainTree, EvaluatorLaws, bound_value}
-use Rattle.semantics_simplify.proofs.Substituted.{bound_or_unknown, built_with, built_after}
-use Rattle.semantics_simplify.proofs.Sure.{Sure, sure_is, sure_one, sure_then, sure_two, sure_three}
+use Rattle.semantics_simplify.specs.Substituted.{bound_or_unknown, built_with, built_after}
+use Rattle.semantics_simplify.specs.Sure.{Sure, sure_is, sure_one, sure_then, sure_two, sure_three}
 use Rattle.semantics_simplify.proofs.Calls.{IsAnswer}
 use Rattle.semantics_simplify.proofs.Means.{strict_is, path_is, Means, AllMean, PairsMean, no_children, further, no_pair, further_pair}
 use Rattle.semantics_simplify.proofs.Means as kind

@@ -25,12 +25,12 @@ use Rattle.semantics_simplify.specs.Asks.{passes, is_bound_or, is_no_call}
 use Rattle.semantics_simplify.specs.Simplified.{Simplified, Known, Residual, tree_of, child_trees, child_fields, outcome_of, pair_outcomes, known_or, known_truth, calls_nothing, is_boolean}
 use Rattle.semantics_simplify.specs.Simplifier.{branch_or, and_or, or_or, simplifier_ops}
 use Rattle.semantics_simplify.specs.Laws.{StagesAreOne, SimplifiedTwice}
-use Rattle.semantics_simplify.proofs.Plain.{IsPlain}
+use Rattle.semantics_simplify.specs.Plain.{IsPlain}
 use Rattle.semantics_simplify.proofs.Values.{IsPlainTree, EvaluatorLaws}
 use Rattle.semantics_simplify.proofs.Calls.{weaker}
 use Rattle.semantics_simplify.proofs.Means.{no_value, IsStrict, strict_is, path_is, two_given, one_given, both_given, known_test, Means}
 use Rattle.semantics_simplify.proofs.Asks.{Passing}
-use Rattle.semantics_simplify.proofs.Sure.{Sure, sure_other, sure_is, sure_one, sure_then, sure_two, sure_three, sure_both, sure_weaker}
+use Rattle.semantics_simplify.specs.Sure.{Sure, sure_other, sure_is, sure_one, sure_then, sure_two, sure_three, sure_both, sure_weaker}
 use Rattle.semantics_simplify.proofs.Known.{or_with_true, bound_known, f_in, value_made, sound_in, passed_in}
 use Rattle.semantics_simplify.proofs.BooleanKinds.{IfBoolean, boolean_made}
 

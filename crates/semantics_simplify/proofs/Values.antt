@@ -13,7 +13,7 @@ use Rattle.semantics_eval.specs.Outcomes.{Outcome}
 use Rattle.semantics_eval.specs.Rows.{all_values, all_pairs, set_value, set_outcome, record_outcome}
 use Rattle.semantics_eval.specs.Evaluator.{evaluator_ops}
 use Rattle.semantics_eval.specs.Laws.{ValueKept, IsAscendingList}
-use Rattle.semantics_simplify.proofs.Plain.{IsPlain}
+use Rattle.semantics_simplify.specs.Plain.{IsPlain}
 
 pub values_ok : {X : Type 0} (ts : List (BareValue X)) → all_values (map (λ t. Ok t) ts) ≡ Ok ts
 values_ok [] = refl

@@ -4,3 +4,6 @@ pub mod Simplified
 pub mod Simplifier
 pub mod Laws
 pub mod Worked
+pub mod Plain
+pub mod Sure
+pub mod Substituted
