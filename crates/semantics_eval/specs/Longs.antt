@@ -1,8 +1,8 @@
 -- Integers of 64 bits, as values.
 use Rattle.std.specs.Prelude.{ℤ, pos, neg_ℤ, ◌^◌, Bool, ◌&&◌, int_le, int_lt, Result, Ok, Err, if◌then◌else◌}
 use Rattle.cedar_terms.specs.Literals.{LongLit}
-use Rattle.semantics_values.specs.BareValue.{BareValue, LitValue}
-use Rattle.semantics_eval.specs.Outcomes.{Mistake, WrongType, Overflow}
+use Rattle.semantics_values.specs.BareValue.{BareValue, LitValue, ExtensionValue}
+use Rattle.semantics_eval.specs.Outcomes.{Mistake, WrongType, Overflow, Store, truth}
 
 -- whether 64 bits hold an integer
 abbrev pub is_long : ℤ → Bool
@@ -18,3 +18,9 @@ abbrev pub on_longs :
     → Result (BareValue X) Mistake
 on_longs f (LitValue (LongLit m)) (LitValue (LongLit n)) = f m n
 on_longs f t u = Err WrongType
+
+-- a comparison of two integers; that of two extension values is left to who knows their types
+abbrev pub compared :
+    {X : Type 0} → (ℤ → ℤ → Bool) → BareValue X → BareValue X → Result (BareValue X) Mistake
+compared f (ExtensionValue x c) (ExtensionValue y d) = Err Store
+compared f t u = on_longs (λ m n. Ok (truth (f m n))) t u

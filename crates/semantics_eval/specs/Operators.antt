@@ -11,7 +11,7 @@ use Rattle.cedar_terms.specs.declared.ops.BinaryOp.TheVariants as Binary
 use Rattle.semantics_values.specs.BareValue.{BareValue, LitValue, SetValue, BareValues, no_values, value, list_of}
 use Rattle.semantics_values.specs.ValueOrder.{value_cmp, value_eq}
 use Rattle.semantics_eval.specs.Outcomes.{Mistake, WrongType, Store, truth}
-use Rattle.semantics_eval.specs.Longs.{long, on_longs}
+use Rattle.semantics_eval.specs.Longs.{long, on_longs, compared}
 
 -- whether a set has no member
 abbrev pub has_no_member : {X : Type 0} → BareValues X → Bool
@@ -47,8 +47,8 @@ module _ {X : Type 0} (R : X → X → Ordering) (E : X → X → Bool) where
   -- an operator on two values
   abbrev pub apply_two : BinaryOp → BareValue X → BareValue X → Result (BareValue X) Mistake
   apply_two Binary.Eq t u = Ok (truth (value_eq E t u))
-  apply_two Binary.Less t u = on_longs (λ m n. Ok (truth (int_lt m n))) t u
-  apply_two Binary.LessEq t u = on_longs (λ m n. Ok (truth (int_le m n))) t u
+  apply_two Binary.Less t u = compared int_lt t u
+  apply_two Binary.LessEq t u = compared int_le t u
   apply_two Binary.Add t u = on_longs (λ m n. long (m +ℤ n)) t u
   apply_two Binary.Sub t u = on_longs (λ m n. long (m -ℤ n)) t u
   apply_two Binary.Mul t u = on_longs (λ m n. long (m *ℤ n)) t u

@@ -5,7 +5,8 @@ use Rattle.cedar_builders.specs.Fold.{and_then}
 use Rattle.semantics_values.specs.BareValue.{BareValue, LitValue}
 
 -- a fault that no binding takes away: a value of the wrong type, a result outside 64 bits, a key
--- that a record lacks, or a question that the store of entities alone could answer
+-- that a record lacks, or a question that only the store of entities, or who knows the types of
+-- extension values, could answer
 pub data Mistake : Type 0 where
   WrongType Overflow Missing Store : Mistake
 

@@ -16,7 +16,7 @@ use Rattle.semantics_eval.specs.Evaluator.{evaluator_ops}
 use Rattle.semantics_simplify.specs.Asks.{Ask, OfVar, OfSlot, OfCall}
 use Rattle.semantics_request.specs.Entities.{Entities, attribute, has_attribute}
 use Rattle.semantics_request.specs.Requests.{Request, value_of, Functions}
-use Rattle.semantics_request.specs.Evaluator.{known_or_open, then_two, path_by, call_by, apply_over, request_ops}
+use Rattle.semantics_request.specs.Evaluator.{known_or_open, then_two, path_by, call_by, apply_by, request_ops}
 use Rattle.semantics_request.proofs.Steady.{IsSteady, AllRelated, then_keeps, strict_keeps, then_two_keeps, if_keeps, and_keeps, or_keeps, path_keeps, set_keeps, record_keeps}
 use Rattle.semantics_request.proofs.Related.{Refusals, Related, KeepOps}
 
@@ -43,10 +43,10 @@ module _ {X : Type 0} (R : X → X → Ordering) (E : X → X → Bool) where
   abbrev pub by_request : Functions X → Request X → Entities X → Answers X
   by_request T q s = record {
     variable = λ v. known_or_open (value_of q v);
-    two = apply_over R E s;
+    two = apply_by R E T s;
     get = attribute s;
     has = has_attribute s;
-    call = λ n. call_by n (T n);
+    call = λ n. call_by n (T.call n);
   }
 
   pub request_is : (T : Functions X) (q : Request X) (s : Entities X)

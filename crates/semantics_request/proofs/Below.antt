@@ -1,7 +1,8 @@
 -- Outcomes that are undecided, or the same: what is decided stays.
-use Rattle.std.proofs.Common.{◌≡◌, ◌≢◌, refl, sym, ap, subst, ◌∙◌, Bool, true, false, List, [], ◌∷◌, Option, Some, None, Result, Ok, Err}
+use Rattle.std.proofs.Common.{◌≡◌, ◌≢◌, refl, sym, ap, subst, ◌∙◌, Bool, true, false, List, [], ◌∷◌, Option, Some, None, Result, Ok, Err, ℤ, int_lt, int_le}
 use Rattle.std.proofs.lemmas.Bool.{false≢true}
 use Rattle.std.specs.List.{list_all}
+use Rattle.std.specs.Ordering.{is_lt, is_le}
 use Rattle.std.specs.declared.cmp.Ordering.{Ordering}
 use Rattle.cedar_names.specs.Names.{BareName}
 use Rattle.cedar_terms.specs.Literals.{EntityLit}
@@ -13,16 +14,17 @@ use Rattle.cedar_builders.specs.Environment.{Env, own, bound, fold}
 use Rattle.cedar_builders.specs.Fold.{and_then}
 use Rattle.cedar_builders.specs.Ops.{Ops}
 use Rattle.cedar_builders.specs.Walks.{preorder}
-use Rattle.semantics_values.specs.BareValue.{BareValue, LitValue}
+use Rattle.semantics_values.specs.BareValue.{BareValue, LitValue, ExtensionValue}
 use Rattle.semantics_eval.specs.Outcomes.{Mistake, WrongType, Overflow, Missing, Store, Fault, Open, By, Outcome, settled}
 use Rattle.semantics_eval.specs.Attributes.{get_in, has_in}
+use Rattle.semantics_eval.specs.Longs.{compared}
 use Rattle.semantics_eval.specs.Operators.{apply_two}
 use Rattle.semantics_eval.specs.Evaluator.{evaluator_ops}
 use Rattle.semantics_simplify.specs.Asks.{passes, asks_only}
 use Rattle.semantics_simplify.specs.Laws.{AsksByChildren}
 use Rattle.semantics_request.specs.Entities.{Entities, attribute, has_attribute}
 use Rattle.semantics_request.specs.Requests.{Request, Functions, Knowledge}
-use Rattle.semantics_request.specs.Evaluator.{apply_over, evaluated}
+use Rattle.semantics_request.specs.Evaluator.{compared_or, apply_by, evaluated}
 use Rattle.semantics_request.specs.Laws.{ClosedStays}
 use Rattle.semantics_request.proofs.Steady.{IsSteady}
 use Rattle.semantics_request.proofs.Related.{Anyhow, Related, both_ok, refused, KeepOps, related}
@@ -76,11 +78,20 @@ may_go f = false
 module _ (by_children : AsksByChildren) {X : Type 0} (R : X → X → Ordering) (E : X → X → Bool)
     (T : Functions X) where
   module _ (q : Request X) (s : Entities X) where
+    at_compared : (f : ℤ → ℤ → Bool) (g : Ordering → Bool) (t u : BareValue X)
+        → Below may_go (BareValue X) (settled (compared f t u))
+        (compared_or T.compare g t u (settled (compared f t u)))
+    at_compared f g (ExtensionValue x c) (ExtensionValue y d) = undecided refl
+    at_compared f g (ExtensionValue x c) u = same
+    at_compared f g t u = same
+
     pub at_two : (o : BinaryOp) (t u : BareValue X)
-        → Below may_go (BareValue X) (settled (apply_two R E o t u)) (apply_over R E s o t u)
+        → Below may_go (BareValue X) (settled (apply_two R E o t u)) (apply_by R E T s o t u)
     at_two Binary.In t u = undecided refl
     at_two Binary.GetTag t u = undecided refl
     at_two Binary.HasTag t u = undecided refl
+    at_two Binary.Less t u = at_compared int_lt is_lt t u
+    at_two Binary.LessEq t u = at_compared int_le is_le t u
     at_two o t u = same
 
     pub at_get : (j : Text) (t : BareValue X)

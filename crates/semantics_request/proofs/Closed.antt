@@ -3,6 +3,7 @@ use Rattle.std.proofs.Common.{◌≡◌, ◌≢◌, refl, subst, Bool, true, fal
 use Rattle.std.proofs.lemmas.Bool.{false≢true}
 use Rattle.std.specs.Option.{is_some}
 use Rattle.std.specs.Prelude.{ok_or}
+use Rattle.std.specs.Ordering.{is_lt, is_le}
 use Rattle.std.specs.declared.cmp.Ordering.{Ordering}
 use Rattle.cedar_names.specs.Names.{BareName}
 use Rattle.cedar_names.specs.declared.slot.SlotId.{SlotId}
@@ -16,7 +17,7 @@ use Rattle.cedar_builders.specs.BareExpr.{Text, BareExpr}
 use Rattle.cedar_builders.specs.Environment.{own, bound, fold}
 use Rattle.cedar_builders.specs.Fold.{and_then}
 use Rattle.cedar_builders.specs.Ops.{Ops}
-use Rattle.semantics_values.specs.BareValue.{BareCall, BareValue, LitValue, BarePairs}
+use Rattle.semantics_values.specs.BareValue.{BareCall, BareValue, LitValue, ExtensionValue, BarePairs}
 use Rattle.semantics_values.specs.Laws.{BindsPlainValues}
 use Rattle.semantics_eval.specs.Outcomes.{Mistake, Missing, Fault, Open, By, Outcome, settled}
 use Rattle.semantics_eval.specs.Attributes.{value_at, get_in, has_in}
@@ -25,7 +26,7 @@ use Rattle.semantics_eval.specs.Rows.{all_values}
 use Rattle.semantics_simplify.specs.Asks.{Ask, OfVar, OfSlot, asks_only}
 use Rattle.semantics_request.specs.Entities.{Entity, Dereference, NotKnown, NoSuchEntity, Data, Entities, found_at, is_found_at, is_under_listed, entities_in, under, attribute, has_attribute, tag, has_tag}
 use Rattle.semantics_request.specs.Requests.{value_of, Functions, Knowledge}
-use Rattle.semantics_request.specs.Evaluator.{known_or_open, call_by, apply_over, request_ops}
+use Rattle.semantics_request.specs.Evaluator.{known_or_open, call_by, compared_or, is_ordered, apply_by, request_ops}
 use Rattle.semantics_request.specs.Laws.{is_known, NeverOpen}
 use Rattle.semantics_request.proofs.Steady.{IsSteady, AllRelated, values_keep, settled_keeps}
 use Rattle.semantics_request.proofs.Related.{Alike, Related, both_ok, refused, KeepOps, related}
@@ -102,10 +103,22 @@ module _ {X : Type 0} (R : X → X → Ordering) (E : X → X → Bool) (laws : 
       is_found_settled (λ d. d.tags) j (s u) (there u)
   at_has_tag t w = tt
 
-  at_two : (o : BinaryOp) (t w : BareValue X) → IsSettled (apply_over R E s o t w)
+  at_ordered : (g : Ordering → Bool) (o : Option Ordering) → IsSettled (is_ordered {X = X} g o)
+  at_ordered g None = tt
+  at_ordered g (Some o) = tt
+
+  at_compared : (g : Ordering → Bool) (t w : BareValue X) (m : Outcome X) → IsSettled m
+      → IsSettled (compared_or T.compare g t w m)
+  at_compared g (ExtensionValue x c) (ExtensionValue y d) m h = at_ordered g (T.compare x y)
+  at_compared g (ExtensionValue x c) w m h = h
+  at_compared g t w m h = h
+
+  at_two : (o : BinaryOp) (t w : BareValue X) → IsSettled (apply_by R E T s o t w)
   at_two Binary.In t w = at_under t w
   at_two Binary.GetTag t w = at_tag t w
   at_two Binary.HasTag t w = at_has_tag t w
+  at_two Binary.Less t w = at_compared is_lt t w _ (is_settled (apply_two R E Binary.Less t w))
+  at_two Binary.LessEq t w = at_compared is_le t w _ (is_settled (apply_two R E Binary.LessEq t w))
   at_two o t w = is_settled (apply_two R E o t w)
 
   at_get : (j : Text) (t : BareValue X) → IsSettled (attribute s j t)
@@ -140,7 +153,7 @@ module _ {X : Type 0} (R : X → X → Ordering) (E : X → X → Bool) (laws : 
       keep_ops R E Settled settled_steady Alike P (by_request R E T k.request k.entities)
       (by_request R E T k.request k.entities)
       (λ v h. variable_settled (value_of k.request v) (of_var v h)) (λ l h. of_slot l h) at_two
-      at_get at_has (λ n h. at_call n (T n))
+      at_get at_has (λ n h. at_call n (T.call n))
 
   bindings : (x : Option (BareType × BareExpr))
       → ((r : BareType × BareExpr) → x ≡ Some r → IsPlainTree C r.1)

@@ -18,7 +18,7 @@ use Rattle.semantics_eval.specs.Outcomes.{Mistake, Fault, Open, By, Outcome, set
 use Rattle.semantics_eval.specs.Rows.{all_values}
 use Rattle.semantics_request.specs.Entities.{Dereference, NotKnown, NoSuchEntity, Data, found_at, is_found_at, is_under_listed, entities_in, under, attribute, has_attribute, tag, has_tag}
 use Rattle.semantics_request.specs.Requests.{value_of, Functions, Knowledge}
-use Rattle.semantics_request.specs.Evaluator.{known_or_open, call_by, apply_over, request_ops}
+use Rattle.semantics_request.specs.Evaluator.{known_or_open, call_by, apply_over, compared_or, apply_by, request_ops}
 use Rattle.semantics_request.specs.Laws.{IsFuller, DecidedStays}
 use Rattle.semantics_request.proofs.Steady.{AllRelated, values_keep}
 use Rattle.semantics_request.proofs.Related.{Alike, Related, both_ok, refused, KeepOps, related}
@@ -86,6 +86,16 @@ module _ {X : Type 0} (R : X → X → Ordering) (E : X → X → Bool) (laws : 
   at_two Binary.HasTag t w = at_has_tag t w
   at_two o t w = same
 
+  -- where the table compares extension values, both compare alike
+  at_both : (o : BinaryOp) (t w : BareValue X)
+      → Under (apply_by R E T k.entities o t w) (apply_by R E T l.entities o t w)
+  at_both Binary.Less t w = same
+  at_both Binary.LessEq t w = same
+  at_both Binary.In t w = at_under t w
+  at_both Binary.GetTag t w = at_tag t w
+  at_both Binary.HasTag t w = at_has_tag t w
+  at_both o t w = same
+
   pub at_get : (j : Text) (t : BareValue X) → Under (attribute k.entities j t) (attribute l.entities j t)
   at_get j (LitValue (EntityLit u)) =
       entity_below (found_at (λ d. d.attributes) j) refl (k.entities u) (l.entities u)
@@ -123,7 +133,7 @@ module _ {X : Type 0} (R : X → X → Ordering) (E : X → X → Bool) (laws : 
       keep_ops R E (Below is_open) (below_steady is_open) Alike (λ a. true)
       (by_request R E T k.request k.entities) (by_request R E T l.request l.entities)
       (λ v h. variable_below (value_of k.request v) (value_of l.request v) (full.request v))
-      (λ s h. same) at_two at_get at_has (λ n h. at_call n (T n))
+      (λ s h. same) at_both at_get at_has (λ n h. at_call n (T.call n))
 
   -- a bound tree, of which no unknown is bound
   of_bound : (e : BareExpr) → AreBelow (fold_with old (own old) e) (fold_with new (own new) e)

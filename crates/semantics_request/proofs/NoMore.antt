@@ -27,7 +27,7 @@ use Rattle.semantics_request.proofs.Values.{EvaluatorLaws}
 
 -- no table is needed
 abbrev no_functions : {X : Type 0} → Functions X
-no_functions n = None
+no_functions = record { call = λ n. None; compare = λ x y. None }
 
 abbrev Passes : {X : Type 0} → (Ask → Bool) → Simplified X → Result (Outcome X) BareName → Type 0
 Passes Q p r = Passing Q p

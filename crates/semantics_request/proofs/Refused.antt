@@ -37,6 +37,6 @@ pub never_refused : {X : Type 0} (R : X → X → Ordering) (E : X → X → Boo
 never_refused R E laws C T k plain e called =
     let ops = request_ops R E T k.request k.entities in
     no_refusal (evaluated R E T k e)
-    (answered_where laws.by_children (is_callable T) ops (λ n. call_answered n (T n))
+    (answered_where laws.by_children (is_callable T) ops (λ n. call_answered n (T.call n))
     (λ n t. bound ops (k.bindings n) n t)
     (λ n t. bound_answered laws C ops (k.bindings n) (plain n) n t) e called)

@@ -1,30 +1,33 @@
 -- Residuals have the outcomes of the conditions that they were made of.
-use Rattle.std.proofs.Common.{◌≡◌, refl, sym, ◌∙◌, ap, subst, Bool, true, false, not, ◌&&◌, List, Option, Some, None, Result, Ok, Err}
+use Rattle.std.proofs.Common.{◌≡◌, refl, sym, ◌∙◌, ap, subst, Bool, true, false, not, ◌&&◌, List, ℤ, int_lt, int_le, Option, Some, None, Result, Ok, Err}
 use Rattle.std.proofs.lemmas.Bool.{and_parts}
 use Rattle.std.specs.Prelude.{if◌then◌else◌}
+use Rattle.std.specs.Ordering.{is_lt, is_le}
 use Rattle.std.specs.declared.cmp.Ordering.{Ordering}
 use Rattle.cedar_names.specs.Names.{BareName}
 use Rattle.cedar_terms.specs.Literals.{BoolLit}
 use Rattle.cedar_terms.specs.Types.{BareType}
 use Rattle.cedar_terms.specs.declared.ops.BinaryOp.{BinaryOp}
+use Rattle.cedar_terms.specs.declared.ops.BinaryOp.TheVariants as Binary
 use Rattle.cedar_builders.specs.BareExpr.{Text, BareExpr, Unknown}
 use Rattle.cedar_builders.specs.Environment.{empty, own, bound, fold}
 use Rattle.cedar_builders.specs.Fold.{fold_with}
 use Rattle.cedar_builders.specs.Ops.{Ops}
 use Rattle.cedar_builders.specs.Trees.{sure}
-use Rattle.semantics_values.specs.BareValue.{BareCall, BareValue, LitValue}
+use Rattle.semantics_values.specs.BareValue.{BareCall, BareValue, LitValue, ExtensionValue}
 use Rattle.semantics_values.specs.Laws.{BindsPlainValues}
 use Rattle.semantics_values.specs.ValueExpr.{has_extension}
 use Rattle.semantics_values.specs.WellFormed.{is_well_formed}
-use Rattle.semantics_eval.specs.Outcomes.{WrongType, Fault, Open, By, Outcome}
+use Rattle.semantics_eval.specs.Outcomes.{WrongType, Store, Fault, Open, By, Outcome, settled}
 use Rattle.semantics_eval.specs.Attributes.{get_in}
+use Rattle.semantics_eval.specs.Longs.{compared}
 use Rattle.semantics_eval.specs.Operators.{apply_two}
 use Rattle.semantics_simplify.specs.Laws.{AsksByChildren}
 use Rattle.semantics_simplify.specs.Simplified.{Simplified, tree_of, outcome_of}
 use Rattle.semantics_simplify.specs.Simplifier.{simplified}
 use Rattle.semantics_request.specs.Entities.{Entities, attribute, has_attribute}
 use Rattle.semantics_request.specs.Requests.{Request, value_of, Functions, Knowledge}
-use Rattle.semantics_request.specs.Evaluator.{known_or_open, path_by, apply_over, evaluated}
+use Rattle.semantics_request.specs.Evaluator.{known_or_open, path_by, apply_over, compared_or, apply_by, evaluated}
 use Rattle.semantics_request.specs.Residuals.{plain_or_open, known_variable, known_two, known_attribute, residual}
 use Rattle.semantics_request.specs.Laws.{IsFuller, SimplifiedFirst, ResidualFirst}
 use Rattle.semantics_request.proofs.Steady.{path_keeps}
@@ -40,7 +43,7 @@ use Rattle.semantics_request.proofs.Means.{Means, no_value}
 use Rattle.semantics_request.proofs.Means as kind
 use Rattle.semantics_request.proofs.Sound.{simplifier_by, simplifier_is, Agree, sound}
 use Rattle.semantics_simplify.specs.Sure.{Sure, sure_is}
-use Rattle.semantics_request.proofs.Truths.{IsTruth, AreTruths, of_has, of_path, of_has_attribute, of_two}
+use Rattle.semantics_request.proofs.Truths.{IsTruth, AreTruths, of_has, of_path, of_has_attribute, of_both}
 use Rattle.semantics_request.proofs.Values.{EvaluatorLaws, bound_value}
 
 module _ {X : Type 0} (R : X → X → Ordering) (E : X → X → Bool) where
@@ -57,7 +60,7 @@ module _ {X : Type 0} (R : X → X → Ordering) (E : X → X → Bool) where
 
   pub store_truths : (T : Functions X) (q : Request X) (s : Entities X)
       → AreTruths (by_request R E T q s)
-  store_truths T q s = record { two = of_two s R E; has = of_has_attribute s }
+  store_truths T q s = record { two = of_both s R E T; has = of_has_attribute s }
 
   -- what is below a value is that value
   kept : {P : Fault → Bool} {m n : Outcome X} {t : BareValue X} → Below P (BareValue X) m n
@@ -140,6 +143,15 @@ itself = record {
   bindings = λ n r h. h;
 }
 
+-- a comparison that gives a value without a table of functions gives it with one
+compared_kept : {X : Type 0} (T : Functions X) (f : ℤ → ℤ → Bool) (g : Ordering → Bool)
+    (t u w : BareValue X) → settled (compared f t u) ≡ Ok w
+    → compared_or T.compare g t u (settled (compared f t u)) ≡ Ok w
+compared_kept T f g (ExtensionValue x c) (ExtensionValue y d) w is =
+    absurd (no_value (By Store) w is)
+compared_kept T f g (ExtensionValue x c) u w is = is
+compared_kept T f g t u w is = is
+
 -- what is known before, is so later
 module _ {X : Type 0} {R : X → X → Ordering} {E : X → X → Bool} (laws : EvaluatorLaws R E)
     (asks : AskLaws X) (C : X → BareCall) (T : Functions X) (k l : Knowledge X) (full : IsFuller k l)
@@ -160,6 +172,13 @@ module _ {X : Type 0} {R : X → X → Ordering} {E : X → X → Bool} (laws : 
       → Below is_open (BareValue X) (apply_over R E k.entities o t u) (apply_over R E l.entities o t u)
   two_below = known_below.at_two R E asks C T k l full plain_bindings
 
+  -- what a store answers, a table of functions does not change
+  by_table : (o : BinaryOp) (t u w : BareValue X) → apply_over R E l.entities o t u ≡ Ok w
+      → apply_by R E T l.entities o t u ≡ Ok w
+  by_table Binary.Less t u w is = compared_kept T int_lt is_lt t u w is
+  by_table Binary.LessEq t u w is = compared_kept T int_le is_le t u w is
+  by_table o t u w is = is
+
   get_below : (j : Text) (t : BareValue X)
       → Below is_open (BareValue X) (attribute k.entities j t) (attribute l.entities j t)
   get_below = known_below.at_get R E asks C T k l full plain_bindings
@@ -176,7 +195,7 @@ module _ {X : Type 0} {R : X → X → Ordering} {E : X → X → Bool} (laws : 
         (p.0, ap known_or_open (full.request v t g));
     two = λ o t u w h i is.
         let p = was_plain R (apply_over R E k.entities o t u) w is in
-        (p.0, kept R E (two_below o t u) p.1);
+        (p.0, by_table o t u w (kept R E (two_below o t u) p.1));
     get = λ j t u h is.
         let p = was_plain R (attribute k.entities j t) u is in
         (p.0, kept R E (get_below j t) p.1);

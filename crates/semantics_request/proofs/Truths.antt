@@ -2,6 +2,7 @@
 use Rattle.std.proofs.Common.{◌≡◌, refl, Bool, true, false, List, [], ◌∷◌, ℤ, int_lt, int_le, Option, Some, None, Result, Ok, Err}
 use Rattle.std.proofs.lemmas.Bool.{false≢true}
 use Rattle.std.specs.List.{list_all, list_any}
+use Rattle.std.specs.Ordering.{is_lt, is_le}
 use Rattle.std.specs.declared.cmp.Ordering.{Ordering}
 use Rattle.cedar_names.specs.Names.{BareName}
 use Rattle.cedar_terms.specs.Entities.{BareEntityUID}
@@ -14,14 +15,15 @@ use Rattle.cedar_terms.specs.declared.ops.BinaryOp.TheVariants as Binary
 use Rattle.cedar_terms.specs.declared.pattern.PatternElem.{PatternElem}
 use Rattle.cedar_builders.specs.BareExpr.{Text, BareExpr, Lit, And, Or, UnaryApp, BinaryApp, HasAttr, Like, Is}
 use Rattle.cedar_builders.specs.Fold.{on_one, on_two, and_then, fold_with}
-use Rattle.semantics_values.specs.BareValue.{BareValue, LitValue, SetValue, RecordValue, BarePairs, list_of}
+use Rattle.semantics_values.specs.BareValue.{BareValue, LitValue, SetValue, RecordValue, BarePairs, list_of, ExtensionValue}
 use Rattle.semantics_eval.specs.Outcomes.{Outcome, settled, truth, truth_of, strict, chosen, if_outcome, as_truth, and_outcome, or_outcome}
-use Rattle.semantics_eval.specs.Longs.{on_longs}
+use Rattle.semantics_eval.specs.Longs.{compared}
 use Rattle.semantics_eval.specs.Operators.{apply_one, on_set, on_sets, has_member}
 use Rattle.semantics_eval.specs.Attributes.{has_in, like_in, is_in}
 use Rattle.semantics_simplify.specs.Kinds.{is_unary_test, is_binary_test, is_boolean_kind}
 use Rattle.semantics_request.specs.Entities.{Entity, Dereference, NotKnown, NoSuchEntity, Data, Entities, is_found_at, is_under_listed, entities_in, under, has_attribute, has_tag}
-use Rattle.semantics_request.specs.Evaluator.{then_two, path_by, apply_over}
+use Rattle.semantics_request.specs.Requests.{Functions}
+use Rattle.semantics_request.specs.Evaluator.{then_two, path_by, apply_over, compared_or, is_ordered, apply_by}
 use Rattle.semantics_request.proofs.Answered.{Answers, ops_by}
 
 module _ {X : Type 0} where
@@ -92,10 +94,10 @@ module _ {X : Type 0} where
   of_sets f (SetValue ts) u = of_set (f (list_of ts)) u
   of_sets f t u = refl
 
-  of_longs : (f : ℤ → ℤ → Bool) (t u : BareValue X)
-      → IsTruth (settled (on_longs (λ m n. Ok (truth (f m n))) t u))
-  of_longs f (LitValue (LongLit m)) (LitValue (LongLit n)) = refl
-  of_longs f t u = refl
+  of_compared : (f : ℤ → ℤ → Bool) (t u : BareValue X) → IsTruth (settled (compared f t u))
+  of_compared f (LitValue (LongLit m)) (LitValue (LongLit n)) = refl
+  of_compared f (ExtensionValue x c) (ExtensionValue y d) = refl
+  of_compared f t u = refl
 
   pub of_has : (k : Text) (t : BareValue X) → IsTruth (settled (has_in k t))
   of_has k (RecordValue ps) = refl
@@ -154,14 +156,33 @@ module _ {X : Type 0} where
     pub of_two : (R : X → X → Ordering) (E : X → X → Bool) (o : BinaryOp)
         → is_binary_test o ≡ true → (t u : BareValue X) → IsTruth (apply_over R E s o t u)
     of_two R E Binary.Eq h t u = refl
-    of_two R E Binary.Less h t u = of_longs int_lt t u
-    of_two R E Binary.LessEq h t u = of_longs int_le t u
+    of_two R E Binary.Less h t u = of_compared int_lt t u
+    of_two R E Binary.LessEq h t u = of_compared int_le t u
     of_two R E Binary.In h t u = of_under t u
     of_two R E Binary.Contains h t u = of_set (λ ts. has_member R E ts u) t
     of_two R E Binary.ContainsAll h t u = of_sets (λ ts us. list_all (has_member R E ts) us) t u
     of_two R E Binary.ContainsAny h t u = of_sets (λ ts us. list_any (has_member R E ts) us) t u
     of_two R E Binary.HasTag h t u = of_has_tag t u
     of_two R E o h t u = absurd (false≢true h)
+
+    of_ordered : (g : Ordering → Bool) (o : Option Ordering) → IsTruth (is_ordered g o)
+    of_ordered g None = refl
+    of_ordered g (Some o) = refl
+
+    of_compared_or : (O : X → X → Option Ordering) (g : Ordering → Bool) (t u : BareValue X)
+        (m : Outcome X) → IsTruth m → IsTruth (compared_or O g t u m)
+    of_compared_or O g (ExtensionValue x c) (ExtensionValue y d) m h = of_ordered g (O x y)
+    of_compared_or O g (ExtensionValue x c) u m h = h
+    of_compared_or O g t u m h = h
+
+    -- and where a table compares extension values
+    pub of_both : (R : X → X → Ordering) (E : X → X → Bool) (T : Functions X) (o : BinaryOp)
+        → is_binary_test o ≡ true → (t u : BareValue X) → IsTruth (apply_by R E T s o t u)
+    of_both R E T Binary.Less h t u =
+        of_compared_or T.compare is_lt t u _ (of_two R E Binary.Less h t u)
+    of_both R E T Binary.LessEq h t u =
+        of_compared_or T.compare is_le t u _ (of_two R E Binary.LessEq h t u)
+    of_both R E T o h t u = of_two R E o h t u
 
   module _ (R : X → X → Ordering) (E : X → X → Bool) (a : Answers X) (truths : AreTruths a)
       (f : Text → Option BareType → Result (Outcome X) BareName) where

@@ -40,7 +40,7 @@ is_known k (OfCall n) = true
 
 -- whether each function that is called is in the table
 abbrev pub is_callable : {X : Type 0} → Functions X → Ask → Bool
-is_callable T (OfCall n) = is_some (T n)
+is_callable T (OfCall n) = is_some (T.call n)
 is_callable T a = true
 
 -- R and E are the order and the equality of extension values

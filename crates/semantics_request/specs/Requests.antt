@@ -1,6 +1,7 @@
 -- Requests (Cedar's `Request`), the functions that conditions may call, and what is known when a
 -- condition is evaluated.
 use Rattle.std.specs.Prelude.{List, Option, None, Result, option_map}
+use Rattle.std.specs.declared.cmp.Ordering.{Ordering}
 use Rattle.cedar_names.specs.Names.{BareName}
 use Rattle.cedar_terms.specs.Entities.{BareEntityUID}
 use Rattle.cedar_terms.specs.Literals.{EntityLit}
@@ -33,9 +34,11 @@ value_of q Variable.Context = option_map RecordValue q.context
 abbrev pub no_request : {X : Type 0} → Request X
 no_request = record { principal = None; action = None; resource = None; context = None }
 
--- a table of extension functions: what each makes of its arguments, or which mistake it answers
-abbrev pub Functions : Type 0 → Type 0
-Functions X = BareName → Option (List (BareValue X) → Result (BareValue X) Mistake)
+-- a table of extension functions: what each makes of its arguments, or which mistake it answers;
+-- and how `<` and `<=` compare two extension values, if they may
+pub record Functions (X : Type 0) : Type 0 where
+  pub call : BareName → Option (List (BareValue X) → Result (BareValue X) Mistake)
+  pub compare : X → X → Option Ordering
 
 -- what is known: of the request, of the entities, and of the unknowns
 pub record Knowledge (X : Type 0) : Type 0 where

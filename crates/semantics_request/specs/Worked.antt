@@ -95,7 +95,10 @@ module _ {X : Type 0} where
 
   -- `f` makes its one argument
   abbrev pub table : Functions X
-  table n = if name_eq n (unqualified (codes "f")) then Some given else None
+  table = record {
+    call = λ n. if name_eq n (unqualified (codes "f")) then Some given else None;
+    compare = λ x y. None;
+  }
     where
       given : List (BareValue X) → Result (BareValue X) Mistake
       given (t ∷ []) = Ok t

@@ -13,9 +13,9 @@ use Rattle.cedar_terms.specs.declared.ops.BinaryOp.TheVariants as Binary
 use Rattle.cedar_terms.specs.declared.pattern.PatternElem.{PatternElem}
 use Rattle.cedar_builders.specs.BareExpr.{Text, BareExpr, Lit, And, Or, UnaryApp, BinaryApp, HasAttr, Like, Is}
 use Rattle.cedar_builders.specs.Fold.{on_one, on_two, fold_with}
-use Rattle.semantics_values.specs.BareValue.{BareValue, LitValue, SetValue, RecordValue, list_of}
+use Rattle.semantics_values.specs.BareValue.{BareValue, LitValue, SetValue, RecordValue, list_of, ExtensionValue}
 use Rattle.semantics_eval.specs.Outcomes.{Mistake, Outcome, settled, truth, truth_of, strict, strict_two, chosen, if_outcome, as_truth, and_outcome, or_outcome}
-use Rattle.semantics_eval.specs.Longs.{on_longs}
+use Rattle.semantics_eval.specs.Longs.{compared}
 use Rattle.semantics_eval.specs.Operators.{apply_one, on_set, on_sets, has_member, apply_two}
 use Rattle.semantics_eval.specs.Attributes.{has_in, get_in, has_path, like_in, is_in}
 use Rattle.semantics_eval.specs.Evaluator.{evaluator_ops}
@@ -87,10 +87,10 @@ module _ {X : Type 0} where
   of_sets f (SetValue ts) u = of_set (f (list_of ts)) u
   of_sets f t u = refl
 
-  of_longs : (f : ℤ → ℤ → Bool) (t u : BareValue X)
-      → IsTruth (settled (on_longs (λ m n. Ok (truth (f m n))) t u))
-  of_longs f (LitValue (LongLit m)) (LitValue (LongLit n)) = refl
-  of_longs f t u = refl
+  of_compared : (f : ℤ → ℤ → Bool) (t u : BareValue X) → IsTruth (settled (compared f t u))
+  of_compared f (LitValue (LongLit m)) (LitValue (LongLit n)) = refl
+  of_compared f (ExtensionValue x c) (ExtensionValue y d) = refl
+  of_compared f t u = refl
 
   of_has : (k : Text) (t : BareValue X) → IsTruth (settled (has_in k t))
   of_has k (RecordValue ps) = refl
@@ -115,8 +115,8 @@ module _ {X : Type 0} where
     pub of_two : (o : BinaryOp) → is_binary_test o ≡ true → (t u : BareValue X)
         → IsTruth (settled (apply_two R E o t u))
     of_two Binary.Eq h t u = refl
-    of_two Binary.Less h t u = of_longs int_lt t u
-    of_two Binary.LessEq h t u = of_longs int_le t u
+    of_two Binary.Less h t u = of_compared int_lt t u
+    of_two Binary.LessEq h t u = of_compared int_le t u
     of_two Binary.In h t u = refl
     of_two Binary.Contains h t u = of_set (λ ts. has_member R E ts u) t
     of_two Binary.ContainsAll h t u = of_sets (λ ts us. list_all (has_member R E ts) us) t u

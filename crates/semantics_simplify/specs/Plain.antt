@@ -19,12 +19,12 @@ use Rattle.cedar_terms.specs.declared.ops.BinaryOp.{BinaryOp}
 use Rattle.cedar_terms.specs.declared.ops.BinaryOp.TheVariants as Binary
 use Rattle.cedar_terms.specs.declared.pattern.PatternElem.{PatternElem}
 use Rattle.cedar_builders.specs.BareExpr.{Text}
-use Rattle.semantics_values.specs.BareValue.{BareValue, LitValue, SetValue, RecordValue, values_of, list_of, list_of_values, BarePairs, no_pairs, pair, pairs_of}
+use Rattle.semantics_values.specs.BareValue.{BareValue, LitValue, SetValue, RecordValue, ExtensionValue, values_of, list_of, list_of_values, BarePairs, no_pairs, pair, pairs_of}
 use Rattle.semantics_values.specs.ValueOrder.{value_cmp}
 use Rattle.semantics_values.specs.WellFormed.{is_well_formed, are_well_formed, pairs_are_well_formed}
 use Rattle.semantics_values.specs.ValueExpr.{has_extension, any_has_extension, any_pair_has_extension}
 use Rattle.semantics_eval.specs.Outcomes.{Mistake, Overflow, Missing, Outcome, settled, truth, truth_of, strict, chosen, if_outcome}
-use Rattle.semantics_eval.specs.Longs.{is_long, long, on_longs}
+use Rattle.semantics_eval.specs.Longs.{is_long, long, on_longs, compared}
 use Rattle.semantics_eval.specs.Operators.{apply_one, on_set, on_sets, has_member, apply_two}
 use Rattle.semantics_eval.specs.Attributes.{value_at, get_in, has_in, has_path, like_in, is_in}
 use Rattle.semantics_eval.specs.Rows.{ascending_list, set_value}
@@ -77,6 +77,10 @@ module _ {X : Type 0} (R : X → X → Ordering) where
   of_longs f h (LitValue (LongLit m)) (LitValue (LongLit n)) = h m n
   of_longs f h t u = tt
 
+  of_compared : (f : ℤ → ℤ → Bool) (t u : BareValue X) → IfPlain (compared f t u)
+  of_compared f (ExtensionValue x c) (ExtensionValue y d) = tt
+  of_compared f t u = of_longs (λ m n. Ok (truth (f m n))) (λ m n. literal _) t u
+
   of_set : (f : List (BareValue X) → Bool) (t : BareValue X) → IfPlain (on_set f t)
   of_set f (SetValue ts) = literal (BoolLit (f (list_of ts)))
   of_set f t = tt
@@ -94,8 +98,8 @@ module _ {X : Type 0} (R : X → X → Ordering) where
 
   pub of_two : (E : X → X → Bool) (o : BinaryOp) (t u : BareValue X) → IfPlain (apply_two R E o t u)
   of_two E Binary.Eq t u = literal _
-  of_two E Binary.Less t u = of_longs (λ m n. Ok (truth (int_lt m n))) (λ m n. literal _) t u
-  of_two E Binary.LessEq t u = of_longs (λ m n. Ok (truth (int_le m n))) (λ m n. literal _) t u
+  of_two E Binary.Less t u = of_compared int_lt t u
+  of_two E Binary.LessEq t u = of_compared int_le t u
   of_two E Binary.Add t u = of_longs (λ m n. long (m +ℤ n)) (λ m n. of_long (m +ℤ n)) t u
   of_two E Binary.Sub t u = of_longs (λ m n. long (m -ℤ n)) (λ m n. of_long (m -ℤ n)) t u
   of_two E Binary.Mul t u = of_longs (λ m n. long (m *ℤ n)) (λ m n. of_long (m *ℤ n)) t u
