@@ -1,5 +1,7 @@
+pub mod Comparisons
 pub mod MemberTests
 pub mod Paths
+pub mod Lists
 pub mod SetsMade
 pub mod Inserted
 pub mod Pairs

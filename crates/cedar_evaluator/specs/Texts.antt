@@ -13,8 +13,12 @@ fault_text (By Overflow) = codes "fault: overflow"
 fault_text (By Missing) = codes "fault: missing"
 fault_text (By Store) = codes "fault: store"
 
--- the text of an outcome: the whole text of its value, in which there is no extension value, or the
--- fault
+-- the text of an outcome: the whole text of its value, where W says that of an extension value, or
+-- the fault
+abbrev pub outcome_text_by : {X : Type 0} → (X → Text) → Outcome X → Text
+outcome_text_by W (Ok t) = bounded_text W None t
+outcome_text_by W (Err e) = fault_text e
+
+-- the same, where there are no extension values
 abbrev pub outcome_text : Outcome NoExtension → Text
-outcome_text (Ok t) = bounded_text (λ x. []) None t
-outcome_text (Err e) = fault_text e
+outcome_text m = outcome_text_by (λ x. []) m

@@ -18,6 +18,7 @@ use crate::compact::{CompactOutcome, apply_in_place};
 use crate::evaluator::Evaluator;
 use crate::fault::CallRefused;
 use crate::outcome::Outcome;
+use crate::sets::plain_set;
 use cedar_builders::{BuildFault, ExprBuilder, ExpressionConstructionError};
 use cedar_names::{Loc, Name, NonEmpty, SlotId};
 use cedar_terms::{BinaryOp, EntityType, Literal, Pattern, UnaryOp, Unknown, Var};
@@ -246,7 +247,7 @@ impl ExprBuilder for CompactEvaluator {
             (set_outcome ⟦<NoExtension as Ord>⟧.cmp (map compact_meaning members.items)) result }
     {
         let members = outcomes_of(alloc, members)?;
-        CompactOutcome::whole(alloc, self.whole().set(alloc, members)?)
+        CompactOutcome::whole(alloc, plain_set(alloc, members)?)
     }
 
     fn record(

@@ -14,7 +14,8 @@ ghost use Rattle.cedar_evaluator.specs.Outcomes.{meaning_of};
 
 use crate::fault::{CallRefused, EvalFault};
 use crate::outcome::Outcome;
-use crate::rows::{record_of, set_of, split_pairs, split_row};
+use crate::rows::{record_of, split_pairs, split_row};
+use crate::sets::plain_set_of;
 use cedar_builders::{BuildFault, ExprBuilder, ExpressionConstructionError, LawfulExprBuilder};
 use cedar_names::{Loc, Name, NonEmpty, SlotId};
 use cedar_terms::{BinaryOp, EntityType, Literal, Pattern, UnaryOp, Unknown, Var};
@@ -186,7 +187,7 @@ impl ExprBuilder for Evaluator {
             (set_outcome ⟦<NoExtension as Ord>⟧.cmp (map meaning_of members.items)) result }
     {
         match split_row(alloc, members)? {
-            Ok(values) => Ok(Outcome::of_value(set_of(alloc, values)?)),
+            Ok(values) => Ok(Outcome::of_value(plain_set_of(alloc, values)?)),
             Err(fault) => Ok(Outcome::of_fault(fault)),
         }
     }

@@ -20,7 +20,8 @@ pub enum EvalFault {
     Overflow,
     /// A record lacks the attribute.
     Missing,
-    /// The store of entities alone could answer: `in`, tags, attributes of entities.
+    /// The store of entities alone could answer: `in`, tags, attributes of entities; or a table of
+    /// functions: the order of two extension values.
     Store,
 }
 
@@ -55,8 +56,8 @@ pub struct EvaluationFault {
 }
 
 impl EvaluationFault {
-    // A fault that comes up at this place.
-    pub(crate) fn new(fault: EvalFault, source_loc: Option<Loc>) -> EvaluationFault
+    /// A fault that comes up at this place.
+    pub fn new(fault: EvalFault, source_loc: Option<Loc>) -> EvaluationFault
         ensures fault { fault_in result ≡ fault }
         ensures place { place_in result ≡ source_loc }
     {

@@ -13,6 +13,7 @@ pub mod operations;
 mod operators;
 mod outcome;
 mod rows;
+mod sets;
 mod shared_value;
 
 pub use evaluation::{evaluate, evaluate_shared};

@@ -10,11 +10,11 @@ ghost use Rattle.semantics_eval.specs.Attributes.{is_in, like_in};
 ghost use Rattle.semantics_eval.specs.Longs.{long};
 ghost use Rattle.semantics_eval.specs.Operators.{apply_one, apply_two};
 ghost use Rattle.semantics_eval.specs.Outcomes.{settled};
-ghost use Rattle.cedar_evaluator.specs.Kinds.{longs_of, tested};
-ghost use Rattle.cedar_evaluator.specs.Outcomes.{faulted, literal_outcome};
+ghost use Rattle.cedar_evaluator.specs.Kinds.{incomparable, longs_of, tested};
+ghost use Rattle.cedar_evaluator.specs.Outcomes.{bare_fault, faulted, literal_outcome};
 
 use crate::fault::EvalFault;
-use crate::kinds::{as_bool, as_entity, as_long, as_set, as_text};
+use crate::kinds::{as_bool, as_entity, as_extension, as_long, as_set, as_text};
 use cedar_sorted_slices::laws::{none_is_any, part_is_all};
 use cedar_terms::{BinaryOp, EntityType, Integer, Literal, Pattern, UnaryOp};
 use cedar_values::Value;
@@ -96,24 +96,38 @@ fn both_longs<X>(left: &Value<X>, right: &Value<X>) -> Option<(Integer, Integer)
 }
 
 // Whether the first integer is below the second.
-fn is_less<X: Ord + Drop>(left: &Value<X>, right: &Value<X>) -> Option<bool>
-    ensures { tested result
-        ≡ apply_two X.cmp X.eq binary.Less (bare_value left.now) (bare_value right.now) }
+#[tactic(auto, using(crate::proofs::Comparisons::comparison_laws))]
+fn is_less<X: Ord + Drop>(left: &Value<X>, right: &Value<X>) -> Result<Literal, EvalFault>
+    ensures { literal_outcome (faulted result)
+        ≡ settled (apply_two X.cmp X.eq binary.Less (bare_value left.now) (bare_value right.now)) }
 {
     match both_longs(left, right) {
-        Some((m, n)) => Some(m < n),
-        None => None,
+        Some((m, n)) => Ok(Literal::Bool(m < n)),
+        None => Err(incomparable(left, right)),
     }
 }
 
 // Whether the first integer is not above the second.
-fn is_less_or_equal<X: Ord + Drop>(left: &Value<X>, right: &Value<X>) -> Option<bool>
-    ensures { tested result
-        ≡ apply_two X.cmp X.eq binary.LessEq (bare_value left.now) (bare_value right.now) }
+#[tactic(auto, using(crate::proofs::Comparisons::comparison_laws))]
+fn is_less_or_equal<X: Ord + Drop>(left: &Value<X>, right: &Value<X>) -> Result<Literal, EvalFault>
+    ensures { literal_outcome (faulted result)
+        ≡ settled (apply_two X.cmp X.eq binary.LessEq (bare_value left.now) (bare_value right.now)) }
 {
     match both_longs(left, right) {
-        Some((m, n)) => Some(m <= n),
-        None => None,
+        Some((m, n)) => Ok(Literal::Bool(m <= n)),
+        None => Err(incomparable(left, right)),
+    }
+}
+
+// Why two values that are no two integers do not compare.
+#[tactic(auto, using(crate::proofs::Comparisons::incomparable_laws))]
+fn incomparable<X: Ord>(left: &Value<X>, right: &Value<X>) -> EvalFault
+    ensures { bare_fault result ≡ incomparable (bare_value left.now) (bare_value right.now) }
+{
+    match (as_extension(left), as_extension(right)) {
+        (Some(_), Some(_)) => EvalFault::Store,
+        (Some(_), None) => EvalFault::WrongType,
+        (None, _) => EvalFault::WrongType,
     }
 }
 
@@ -198,7 +212,8 @@ fn contains_any<X: Ord + Drop>(left: &Value<X>, right: &Value<X>) -> Option<bool
     }
 }
 
-/// An operator on two well formed values: `WrongType`, `Overflow`, or `Store` for `in` and tags.
+/// An operator on two well formed values: `WrongType`, `Overflow`, or `Store` for `in`, tags and
+/// the comparison of two extension values.
 pub fn apply_two<X: Ord + Drop>(
     op: BinaryOp,
     left: &Value<X>,
@@ -210,8 +225,8 @@ pub fn apply_two<X: Ord + Drop>(
 {
     match op {
         BinaryOp::Eq => test::<X>(Some(is_same(left, right))),
-        BinaryOp::Less => test::<X>(is_less(left, right)),
-        BinaryOp::LessEq => test::<X>(is_less_or_equal(left, right)),
+        BinaryOp::Less => is_less(left, right),
+        BinaryOp::LessEq => is_less_or_equal(left, right),
         BinaryOp::Add => sum(left, right),
         BinaryOp::Sub => difference(left, right),
         BinaryOp::Mul => product(left, right),

@@ -10,7 +10,7 @@ use crate::kinds::{as_bool, literal_value};
 use crate::operators::{apply_one, apply_two, is_like, is_of_type, test};
 use cedar_names::Loc;
 use cedar_terms::{BinaryOp, EntityType, Literal, Pattern, UnaryOp};
-use cedar_values::{NoExtension, Value};
+use cedar_values::{ExtensionValue, NoExtension, Value};
 use std::alloc::{AllocError, Global};
 use std::fmt;
 use std::rc::RcStr;
@@ -27,12 +27,12 @@ use std::rc::RcStr;
 /// }
 /// ```
 #[derive(Debug, Drop)]
-pub struct Outcome {
-    result: Result<Value<NoExtension>, EvaluationFault>,
-    ghost kept: { ForOk result (λ v. IsTrue (well_formed ⟦<NoExtension as Ord>⟧.cmp v)) },
+pub struct Outcome<X: Ord = NoExtension> {
+    result: Result<Value<X>, EvaluationFault>,
+    ghost kept: { ForOk result (λ v. IsTrue (well_formed X.cmp v)) },
 }
 
-impl Outcome {
+impl<X: Ord + Drop> Outcome<X> {
     ghost use Rattle.std.specs.Prelude.{Ok, Err, map};
     ghost use Rattle.std.specs.Rc.{rc_str_bytes};
     ghost use Rattle.cedar_values.specs.BareValues.{bare_value};
@@ -42,7 +42,6 @@ impl Outcome {
     ghost use Rattle.semantics_eval.specs.Attributes.{get_in, has_path as path_in, is_in, like_in};
     ghost use Rattle.semantics_eval.specs.Operators.{apply_one as one, apply_two as two};
     ghost use Rattle.semantics_eval.specs.Outcomes.{Fault, as_truth, strict, strict_two};
-    ghost use Rattle.cedar_evaluator.specs.Compact.{compact_meaning};
     ghost use Rattle.cedar_evaluator.specs.Outcomes.{
       bare_fault,
       fault_in,
@@ -56,26 +55,25 @@ impl Outcome {
     };
 
     /// The value, or why and where there is none.
-    pub fn as_result(&self) -> &Result<Value<NoExtension>, EvaluationFault>
+    pub fn as_result(&self) -> &Result<Value<X>, EvaluationFault>
         ensures placed { result.now ≡ placed_result_of self.now }
         ensures same { unplaced result.now ≡ result_of self.now }
-        ensures well_formed { IfOk result.now
-            (λ v. IsTrue (well_formed ⟦<NoExtension as Ord>⟧.cmp v)) }
+        ensures well_formed { IfOk result.now (λ v. IsTrue (well_formed X.cmp v)) }
     {
         &self.result
     }
 
     /// The value, or why and where there is none, of a consumed outcome.
-    pub fn into_result(self) -> Result<Value<NoExtension>, EvaluationFault>
+    pub fn into_result(self) -> Result<Value<X>, EvaluationFault>
         ensures placed { result ≡ placed_result_of self }
         ensures same { unplaced result ≡ result_of self }
-        ensures well_formed { IfOk result (λ v. IsTrue (well_formed ⟦<NoExtension as Ord>⟧.cmp v)) }
+        ensures well_formed { IfOk result (λ v. IsTrue (well_formed X.cmp v)) }
     {
         self.result
     }
 
-    // A literal, or a fault that comes up at this place.
-    pub(crate) fn settle(settled: Result<Literal, EvalFault>, source_loc: Option<Loc>) -> Outcome
+    /// A literal, or a fault that comes up at this place.
+    pub fn settle(settled: Result<Literal, EvalFault>, source_loc: Option<Loc>) -> Outcome<X>
         ensures { meaning_of result ≡ literal_outcome (faulted settled) }
     {
         match settled {
@@ -85,7 +83,7 @@ impl Outcome {
     }
 
     // A literal.
-    pub(crate) fn lit(literal: Literal) -> Outcome
+    pub(crate) fn lit(literal: Literal) -> Outcome<X>
         ensures { meaning_of result ≡ Ok (LitValue (bare_literal literal)) }
     {
         Outcome {
@@ -93,15 +91,15 @@ impl Outcome {
         }
     }
 
-    // A fault that comes up at this place.
-    pub(crate) fn fail(fault: EvalFault, source_loc: Option<Loc>) -> Outcome
+    /// A fault that comes up at this place.
+    pub fn fail(fault: EvalFault, source_loc: Option<Loc>) -> Outcome<X>
         ensures { meaning_of result ≡ Err (bare_fault fault) }
     {
         Outcome::of_fault(EvaluationFault::new(fault, source_loc))
     }
 
-    // A fault.
-    pub(crate) fn of_fault(fault: EvaluationFault) -> Outcome
+    /// A fault, with its place.
+    pub fn of_fault(fault: EvaluationFault) -> Outcome<X>
         ensures { meaning_of result ≡ Err (bare_fault (fault_in fault)) }
     {
         Outcome { result: Err(fault) }
@@ -122,7 +120,7 @@ impl Outcome {
 
     // The fault of what is no Boolean: its own, or a wrong type at this place.
     #[tactic(auto, using(crate::proofs::Truths::no_truth))]
-    pub(crate) fn no_truth(self, source_loc: Option<Loc>) -> Outcome
+    pub(crate) fn no_truth(self, source_loc: Option<Loc>) -> Outcome<X>
         ensures { (f : Fault) → truth_in (meaning_of self) ≡ Err f → meaning_of result ≡ Err f }
     {
         match &self.result {
@@ -132,7 +130,7 @@ impl Outcome {
     }
 
     // The outcome, if it is a Boolean or a fault.
-    pub(crate) fn into_truth(self, source_loc: Option<Loc>) -> Outcome
+    pub(crate) fn into_truth(self, source_loc: Option<Loc>) -> Outcome<X>
         ensures { meaning_of result ≡ strict as_truth (meaning_of self) }
     {
         match self.truth() {
@@ -142,7 +140,7 @@ impl Outcome {
     }
 
     // An operator on the value.
-    pub(crate) fn apply_one(self, op: UnaryOp, source_loc: Option<Loc>) -> Outcome
+    pub(crate) fn apply_one(self, op: UnaryOp, source_loc: Option<Loc>) -> Outcome<X>
         ensures { meaning_of result ≡ strict (one op) (meaning_of self) }
     {
         match &self.result {
@@ -154,13 +152,12 @@ impl Outcome {
     // An operator on two values: the first fault in their place answers.
     pub(crate) fn apply_two(
         op: BinaryOp,
-        left: Outcome,
-        right: Outcome,
+        left: Outcome<X>,
+        right: Outcome<X>,
         source_loc: Option<Loc>,
-    ) -> Outcome
+    ) -> Outcome<X>
         ensures { meaning_of result
-            ≡ strict_two (two ⟦<NoExtension as Ord>⟧.cmp ⟦<NoExtension as PartialEq>⟧.eq op)
-            (meaning_of left) (meaning_of right) }
+            ≡ strict_two (two X.cmp X.eq op) (meaning_of left) (meaning_of right) }
     {
         match (&left.result, &right.result) {
             (Ok(first), Ok(second)) => Outcome::settle(apply_two(op, first, second), source_loc),
@@ -170,43 +167,42 @@ impl Outcome {
     }
 
     // Whether a pattern matches the text.
-    pub(crate) fn like(self, pattern: &Pattern, source_loc: Option<Loc>) -> Outcome
+    pub(crate) fn like(self, pattern: &Pattern, source_loc: Option<Loc>) -> Outcome<X>
         ensures { meaning_of result ≡ strict (like_in pattern.now) (meaning_of self) }
     {
         match &self.result {
-            Ok(value) => {
-                Outcome::settle(test::<NoExtension>(is_like(value, pattern)), source_loc)
-            }
+            Ok(value) => Outcome::settle(test::<X>(is_like(value, pattern)), source_loc),
             Err(_) => self,
         }
     }
 
     // Whether the entity is of a type.
-    pub(crate) fn is_of_type(self, ty: &EntityType, source_loc: Option<Loc>) -> Outcome
+    pub(crate) fn is_of_type(self, ty: &EntityType, source_loc: Option<Loc>) -> Outcome<X>
         ensures { meaning_of result
             ≡ strict (is_in (bare_entity_type ty.now)) (meaning_of self) }
     {
         match &self.result {
-            Ok(value) => Outcome::settle(test::<NoExtension>(is_of_type(value, ty)), source_loc),
+            Ok(value) => Outcome::settle(test::<X>(is_of_type(value, ty)), source_loc),
             Err(_) => self,
         }
     }
 
-    // A well formed value.
-    pub(crate) fn of_value(value: Value<NoExtension>) -> Outcome
-        requires { IsTrue (well_formed ⟦<NoExtension as Ord>⟧.cmp value) }
+    /// A well formed value.
+    pub fn of_value(value: Value<X>) -> Outcome<X>
+        requires { IsTrue (well_formed X.cmp value) }
         ensures { meaning_of result ≡ Ok (bare_value value) }
     {
         Outcome { result: Ok(value) }
     }
 
-    // The value of an attribute.
-    pub(crate) fn get(
+    /// The value of an attribute: `Missing` where the record lacks it, `Store` of an entity, and
+    /// `WrongType` of any other value that is no record.
+    pub fn get(
         self,
         alloc: Global,
         key: &RcStr,
         source_loc: Option<Loc>,
-    ) -> Result<Outcome, AllocError>
+    ) -> Result<Outcome<X>, AllocError>
         ensures { IfOk result (λ m.
             meaning_of m ≡ strict (get_in (rc_str_bytes key.now)) (meaning_of self)) }
     {
@@ -219,6 +215,29 @@ impl Outcome {
             Err(_) => Ok(self),
         }
     }
+
+    // Whether a path of attributes is there.
+    #[tactic(auto, using(crate::proofs::Paths::fault_path))]
+    pub(crate) fn has(self, first: &RcStr, rest: &[RcStr], source_loc: Option<Loc>) -> Outcome<X>
+        ensures { meaning_of result
+            ≡ path_in (meaning_of self) (rc_str_bytes first.now) (map rc_str_bytes rest.now) }
+    {
+        match &self.result {
+            Ok(value) => match has_path(value, first, rest) {
+                Ok(truth) => Outcome::lit(Literal::Bool(truth)),
+                Err(fault) => Outcome::fail(fault, source_loc),
+            },
+            Err(_) => self,
+        }
+    }
+}
+
+impl Outcome {
+    ghost use Rattle.std.specs.Rc.{rc_str_bytes};
+    ghost use Rattle.semantics_eval.specs.Attributes.{get_in};
+    ghost use Rattle.semantics_eval.specs.Outcomes.{strict};
+    ghost use Rattle.cedar_evaluator.specs.Compact.{compact_meaning};
+    ghost use Rattle.cedar_evaluator.specs.Outcomes.{meaning_of};
 
     // The value of an attribute, in little room.
     pub(crate) fn get_compact(
@@ -241,30 +260,15 @@ impl Outcome {
             Err(_) => CompactOutcome::whole(alloc, self),
         }
     }
-
-    // Whether a path of attributes is there.
-    #[tactic(auto, using(crate::proofs::Paths::fault_path))]
-    pub(crate) fn has(self, first: &RcStr, rest: &[RcStr], source_loc: Option<Loc>) -> Outcome
-        ensures { meaning_of result
-            ≡ path_in (meaning_of self) (rc_str_bytes first.now) (map rc_str_bytes rest.now) }
-    {
-        match &self.result {
-            Ok(value) => match has_path(value, first, rest) {
-                Ok(truth) => Outcome::lit(Literal::Bool(truth)),
-                Err(fault) => Outcome::fail(fault, source_loc),
-            },
-            Err(_) => self,
-        }
-    }
 }
 
 /// The whole text of the value, or the fault.
-impl fmt::Display for Outcome {
+impl<X: ExtensionValue + Ord> fmt::Display for Outcome<X> {
     ghost use Rattle.std.specs.Prelude.{Some};
     ghost use Rattle.cedar_evaluator.specs.Outcomes.{meaning_of};
-    ghost use Rattle.cedar_evaluator.specs.Texts.{outcome_text};
+    ghost use Rattle.cedar_evaluator.specs.Texts.{outcome_text_by};
 
-    ghost output = { λ m. Some (outcome_text (meaning_of m)) };
+    ghost output = { λ m. Some (outcome_text_by X.text_of (meaning_of m)) };
 
     fn fmt<W: fmt::Write>(&self, f: &mut fmt::Formatter<W>) -> fmt::Result {
         match &self.result {

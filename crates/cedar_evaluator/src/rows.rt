@@ -8,29 +8,27 @@ ghost use Rattle.semantics_values.specs.BareValue.{RecordValue, pairs_of};
 ghost use Rattle.cedar_values.specs.BareValues.{bare_value};
 ghost use Rattle.cedar_values.specs.Records.{key_cmp};
 ghost use Rattle.cedar_values.specs.WellFormed.{well_formed};
-ghost use Rattle.semantics_eval.specs.Rows.{all_pairs, all_values, set_value};
+ghost use Rattle.semantics_eval.specs.Rows.{all_pairs, all_values};
 ghost use Rattle.cedar_evaluator.specs.Outcomes.{faulted, meaning_of, unplaced};
 
 use crate::fault::EvaluationFault;
 use crate::outcome::Outcome;
-use cedar_values::laws::{no_extension_values, values_by_kind};
-use cedar_values::{NoExtension, Set, Value, ValueKind};
-use semantics_eval::laws::one_list;
-use semantics_values::laws::values_are_ordered;
+use cedar_values::Value;
+use cedar_values::laws::values_by_kind;
 use std::alloc::{AllocError, Global};
 use std::collections::BTreeMap;
 use std::rc::{Rc, RcStr};
 
-// The values of a set's members, or the first fault.
-pub(crate) fn split_row(
+/// The values of some outcomes, or the first fault with its place.
+pub fn split_row<X: Ord + Drop>(
     alloc: Global,
-    row: Vec<Outcome>,
-) -> Result<Result<Vec<Value<NoExtension>>, EvaluationFault>, AllocError>
+    row: Vec<Outcome<X>>,
+) -> Result<Result<Vec<Value<X>>, EvaluationFault>, AllocError>
     ensures values { IfOk result (λ split.
         on_one (λ vs. map bare_value vs.items) (faulted (unplaced split))
         ≡ all_values (map meaning_of row.items)) }
     ensures well_formed { IfOk result (λ split. IfOk split (λ vs.
-        IsTrue (list_all (well_formed ⟦<NoExtension as Ord>⟧.cmp) vs.items))) }
+        IsTrue (list_all (well_formed X.cmp) vs.items))) }
 {
     let mut values = Vec::with_capacity(alloc, row.len())?;
     for outcome in row {
@@ -42,36 +40,18 @@ pub(crate) fn split_row(
     Ok(Ok(values))
 }
 
-/// The set of some values.
-pub fn set_of(
-    alloc: Global,
-    values: Vec<Value<NoExtension>>,
-) -> Result<Value<NoExtension>, AllocError>
-    ensures tree { IfOk result (λ v. bare_value v
-        ≡ set_value ⟦<NoExtension as Ord>⟧.cmp (map bare_value values.items)) }
-    ensures well_formed { IsTrue (list_all (well_formed ⟦<NoExtension as Ord>⟧.cmp) values.items)
-        → IfOk result (λ v. IsTrue (well_formed ⟦<NoExtension as Ord>⟧.cmp v)) }
-{
-    values_are_ordered::<NoExtension>();
-    values_by_kind::<NoExtension>();
-    one_list::<NoExtension>();
-    no_extension_values();
-    let set = Set::new(alloc, values)?;
-    Ok(Value::new(ValueKind::Set(set), None))
-}
-
 // The keys and values of a record, or the first fault.
-pub(crate) fn split_pairs(
+pub(crate) fn split_pairs<X: Ord + Drop>(
     alloc: Global,
-    row: Vec<(RcStr, Outcome)>,
-) -> Result<Result<Vec<(RcStr, Value<NoExtension>)>, EvaluationFault>, AllocError>
+    row: Vec<(RcStr, Outcome<X>)>,
+) -> Result<Result<Vec<(RcStr, Value<X>)>, EvaluationFault>, AllocError>
     ensures pairs { IfOk result (λ split.
         on_one (λ ps. meant_pairs bare_value ps.items) (faulted (unplaced split))
         ≡ all_pairs (meant_pairs meaning_of row.items)) }
     ensures keys { IfOk result (λ split. IfOk split (λ ps.
         keys_of ps.items ≡ keys_of row.items)) }
     ensures well_formed { IfOk result (λ split. IfOk split (λ ps.
-        IsTrue (list_all (λ p. well_formed ⟦<NoExtension as Ord>⟧.cmp p.1) ps.items))) }
+        IsTrue (list_all (λ p. well_formed X.cmp p.1) ps.items))) }
 {
     let mut pairs = Vec::with_capacity(alloc, row.len())?;
     for (key, outcome) in row {
@@ -84,31 +64,28 @@ pub(crate) fn split_pairs(
 }
 
 /// The record of some pairs whose keys ascend, by bytes.
-pub fn record_of(
+pub fn record_of<X: Ord + Drop>(
     alloc: Global,
-    pairs: Vec<(RcStr, Value<NoExtension>)>,
-) -> Result<Value<NoExtension>, AllocError>
+    pairs: Vec<(RcStr, Value<X>)>,
+) -> Result<Value<X>, AllocError>
     ensures tree { IsAscending (keys_of pairs.items) → IfOk result (λ v. bare_value v
         ≡ RecordValue (pairs_of (meant_pairs bare_value pairs.items))) }
-    ensures well_formed { IsTrue
-        (list_all (λ p. well_formed ⟦<NoExtension as Ord>⟧.cmp p.1) pairs.items)
-        → IfOk result (λ v. IsTrue (well_formed ⟦<NoExtension as Ord>⟧.cmp v)) }
+    ensures well_formed { IsTrue (list_all (λ p. well_formed X.cmp p.1) pairs.items)
+        → IfOk result (λ v. IsTrue (well_formed X.cmp v)) }
 {
-    values_by_kind::<NoExtension>();
+    values_by_kind::<X>();
     let values = Rc::new(alloc, by_key(alloc, pairs)?)?;
     Ok(Value::record_arc(values, None))
 }
 
 // The values of some pairs by their keys.
-fn by_key(
+fn by_key<X: Ord + Drop>(
     alloc: Global,
-    pairs: Vec<(RcStr, Value<NoExtension>)>,
-) -> Result<BTreeMap<RcStr, Value<NoExtension>>, AllocError>
+    pairs: Vec<(RcStr, Value<X>)>,
+) -> Result<BTreeMap<RcStr, Value<X>>, AllocError>
     ensures same { IsAscending (keys_of pairs.items) → IfOk result (λ m. m.entries ≡ pairs.items) }
-    ensures well_formed { IsTrue
-        (list_all (λ p. well_formed ⟦<NoExtension as Ord>⟧.cmp p.1) pairs.items)
-        → IfOk result (λ m.
-        IsTrue (list_all (λ e. well_formed ⟦<NoExtension as Ord>⟧.cmp e.1) m.entries)) }
+    ensures well_formed { IsTrue (list_all (λ p. well_formed X.cmp p.1) pairs.items)
+        → IfOk result (λ m. IsTrue (list_all (λ e. well_formed X.cmp e.1) m.entries)) }
 {
     let mut values = BTreeMap::new(alloc);
     for (key, value) in pairs {

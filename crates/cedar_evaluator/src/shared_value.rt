@@ -73,7 +73,9 @@ impl Outcome {
     {
         Ok(Outcome::of_value(value.as_value().clone(alloc)?))
     }
+}
 
+impl<X: Ord + Drop> Outcome<X> {
     /// The value as one that an unknown may be bound to, or why and where there is none. It is not
     /// looked at.
     ///
@@ -82,7 +84,7 @@ impl Outcome {
     ///     drop(values.insert(RcStr::from_str(alloc, "limit")?, value)?);
     /// }
     /// ```
-    pub fn into_value(self) -> Result<WellFormedValue, EvaluationFault>
+    pub fn into_value(self) -> Result<WellFormedValue<X>, EvaluationFault>
         ensures value { IfOk result (λ w. meaning_of self ≡ Ok (bare_value (value_of w))) }
         ensures fault { IfErr result (λ e. meaning_of self ≡ Err (bare_fault (fault_in e))) }
     {

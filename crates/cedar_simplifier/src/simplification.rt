@@ -81,10 +81,14 @@ pub fn simplify_shared(
         ≡ simplified_in ⟦<NoExtension as Ord>⟧.cmp ⟦<NoExtension as PartialEq>⟧.eq held_call
         (well_formed_env values.now) (bare_expr expr.now)) }
     ensures means_the_same { IfOk result (λ s.
-        MeansTheSame ⟦<NoExtension as Ord>⟧.cmp ⟦<NoExtension as PartialEq>⟧.eq well_formed_env
+        let R = ⟦<NoExtension as Ord>⟧.cmp in let E = ⟦<NoExtension as PartialEq>⟧.eq in
+        let P = ⟦<NoExtension as PartialOrd>⟧.partial_cmp in
+        MeansTheSame R E (well_formed_env {R = R} {E = E} {P = P})
         (well_formed_env values.now) (bare_expr expr.now) (meaning_of s)) }
     ensures known_stays { IfOk result (λ s.
-        KnownStays ⟦<NoExtension as Ord>⟧.cmp ⟦<NoExtension as PartialEq>⟧.eq well_formed_env
+        let R = ⟦<NoExtension as Ord>⟧.cmp in let E = ⟦<NoExtension as PartialEq>⟧.eq in
+        let P = ⟦<NoExtension as PartialOrd>⟧.partial_cmp in
+        KnownStays R E (well_formed_env {R = R} {E = E} {P = P})
         (well_formed_env values.now) (bare_expr expr.now) (meaning_of s)) }
     ensures asks_no_more { IfOk result (λ s.
         AsksNoMore (well_formed_env values.now) (bare_expr expr.now) (meaning_of s)) }

@@ -18,7 +18,7 @@ use cedar_builders::{
     BuildFault, ExprBuilder, ExprBuilderInfallibleBuild, ExpressionConstructionError,
     LawfulExprBuilder,
 };
-use cedar_evaluator::operations::{record_of, set_of};
+use cedar_evaluator::operations::{plain_set_of, record_of};
 use cedar_names::{Loc, Name, NonEmpty, SlotId};
 use cedar_terms::{BinaryOp, EntityType, Literal, Pattern, UnaryOp, Unknown, Var};
 use cedar_values::NoExtension;
@@ -250,7 +250,7 @@ impl ExprBuilder for Simplifier {
     {
         if are_known(&members) {
             let values = values_of(alloc, members)?;
-            return Ok(Simplified::known(set_of(alloc, values)?));
+            return Ok(Simplified::known(plain_set_of(alloc, values)?));
         }
         let children = children_of(alloc, members)?;
         Ok(self.residual(Tree::set(alloc, children)?))

@@ -141,9 +141,10 @@ pub fn maps_bind_plain_values<X: ExtensionValue>()
         → BindsPlainValues X.canonical (values_env X.type_name X.canonical m) }
 {}
 
-/// A map of well formed values binds values without extension values.
+/// A map of well formed values binds values without extension values, whatever the comparisons by
+/// which they are well formed.
 pub fn well_formed_maps_bind_plain_values()
-    ensures { (m : WellFormedMap) →
+    ensures { (R : _) (E : _) (P : _) (m : WellFormedMap held.NoExtension R E P) →
         BindsPlainValues {X = held.NoExtension} held.held_call (well_formed_env m) }
 {
     no_extension_values();

@@ -2,7 +2,7 @@
 ghost use Rattle.std.specs.Prelude.{IsTrue};
 ghost use Rattle.cedar_values.specs.WellFormed.{well_formed};
 
-use crate::extension_value::NoExtension;
+use crate::extension_value::{ExtensionValue, NoExtension};
 use crate::value::Value;
 use cedar_exprs::{RestrictedExpr, SubstituteValue};
 use cedar_terms::{StaticallyTyped, Type};
@@ -16,13 +16,13 @@ use std::alloc::{AllocError, Global};
 /// ```rust
 /// let value = WellFormedValue::new(Value::from(Literal::Long(3)));
 /// ```
-#[derive(Debug, Drop)]
-pub struct WellFormedValue {
-    value: Value<NoExtension>,
-    ghost kept: { IsTrue (well_formed ⟦<NoExtension as Ord>⟧.cmp value) },
+#[derive(PartialEq, Eq, Debug, Drop)]
+pub struct WellFormedValue<X: Ord = NoExtension> {
+    value: Value<X>,
+    ghost kept: { IsTrue (well_formed X.cmp value) },
 }
 
-impl WellFormedValue {
+impl<X: Ord + Drop> WellFormedValue<X> {
     ghost use Rattle.std.specs.Prelude.{◌≡◌, false, IfOk, MatchResult};
     ghost use Rattle.cedar_values.specs.BareValues.{bare_value};
     ghost use Rattle.cedar_values.specs.WellFormedValues.{value_of};
@@ -31,10 +31,10 @@ impl WellFormedValue {
     /// it where a name is bound.
     ///
     /// The calls of this crate make well formed values alone; `new_unchecked` takes one of theirs.
-    pub fn new(value: Value<NoExtension>) -> Result<WellFormedValue, Value<NoExtension>>
+    pub fn new(value: Value<X>) -> Result<WellFormedValue<X>, Value<X>>
         ensures { MatchResult result
             (λ w. value_of w ≡ value)
-            (λ v. (v ≡ value) × (well_formed ⟦<NoExtension as Ord>⟧.cmp value ≡ false)) }
+            (λ v. (v ≡ value) × (well_formed X.cmp value ≡ false)) }
     {
         if value.is_well_formed() {
             Ok(WellFormedValue { value })
@@ -44,55 +44,55 @@ impl WellFormedValue {
     }
 
     /// The value, where the caller knows that it is well formed: it is not looked at.
-    pub fn new_unchecked(value: Value<NoExtension>) -> WellFormedValue
-        requires { IsTrue (well_formed ⟦<NoExtension as Ord>⟧.cmp value) }
+    pub fn new_unchecked(value: Value<X>) -> WellFormedValue<X>
+        requires { IsTrue (well_formed X.cmp value) }
         ensures { value_of result ≡ value }
     {
         WellFormedValue { value }
     }
 
     /// The value.
-    pub fn as_value(&self) -> &Value<NoExtension>
+    pub fn as_value(&self) -> &Value<X>
         ensures same { result.now ≡ value_of self.now }
-        ensures well_formed { IsTrue (well_formed ⟦<NoExtension as Ord>⟧.cmp result.now) }
+        ensures well_formed { IsTrue (well_formed X.cmp result.now) }
     {
         &self.value
     }
 
     /// The value of one that is consumed.
-    pub fn into_value(self) -> Value<NoExtension>
+    pub fn into_value(self) -> Value<X>
         ensures same { result ≡ value_of self }
-        ensures well_formed { IsTrue (well_formed ⟦<NoExtension as Ord>⟧.cmp result) }
+        ensures well_formed { IsTrue (well_formed X.cmp result) }
     {
         self.value
     }
 
     /// A copy, which shares what is inside and takes no memory.
-    pub fn clone(&self, _alloc: Global) -> Result<WellFormedValue, AllocError>
+    pub fn clone(&self, _alloc: Global) -> Result<WellFormedValue<X>, AllocError>
         ensures { IfOk result (λ w. bare_value (value_of w) ≡ bare_value (value_of self.now)) }
     {
         Clone::clone(self)
     }
 }
 
-impl Clone for WellFormedValue {
+impl<X: Ord + Drop> Clone for WellFormedValue<X> {
     ghost use Rattle.std.specs.Prelude.{◌≡◌};
     ghost use Rattle.cedar_values.specs.BareValues.{bare_value};
     ghost use Rattle.cedar_values.specs.WellFormedValues.{value_of};
 
     ghost is_clone = { λ w copy. bare_value (value_of copy) ≡ bare_value (value_of w) };
 
-    fn clone(&self) -> Result<WellFormedValue, AllocError> {
+    fn clone(&self) -> Result<WellFormedValue<X>, AllocError> {
         Ok(WellFormedValue::new_unchecked(Clone::clone(&self.value)?))
     }
 }
 
-impl SubstituteValue for WellFormedValue {
+impl<X: ExtensionValue + Ord> SubstituteValue for WellFormedValue<X> {
     ghost use Rattle.cedar_values.specs.WellFormedValues.{tree_of, type_of};
 
-    ghost bare_type_of = { type_of };
+    ghost bare_type_of = { type_of X.type_name };
 
-    ghost bare_expr_of = { tree_of };
+    ghost bare_expr_of = { tree_of X.canonical };
 
     fn value_type(&self, alloc: Global) -> Result<Type, AllocError> {
         self.value.type_of(alloc)

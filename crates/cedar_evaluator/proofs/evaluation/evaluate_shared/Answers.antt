@@ -10,7 +10,7 @@ returns-clause-decided c closed =
     let m = c.args.values.now in
     decided made.result _ (made.ensures _ c.try_into_expr_by.ensures)
     (c.never_open.ensures held_call (well_formed_env m)
-    (c.well_formed_maps_bind_plain_values.ensures m)
+    (c.well_formed_maps_bind_plain_values.ensures _ _ _ m)
     (bare_expr c.args.expr.now) closed)
 
 pub returns-clause-outcome : goal.returns-clause-outcome

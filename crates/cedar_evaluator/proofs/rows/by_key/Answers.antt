@@ -8,7 +8,8 @@ use Rattle.cedar_evaluator.proofs.Pairs.{put_next}
 use Rattle.cedar_evaluator.proofs.rows.by_key.Goals as goal
 
 pub loop-key-preserved : goal.loop-key-preserved
-loop-key-preserved c =
+loop-key-preserved g c =
+    let R = g.X.Ord.cmp in
     let es = c.loop-key.values.entries in
     let old = into_iter_items c.loop-key.key-iterator in
     let left = into_iter_items c.next.new.self in
@@ -18,8 +19,8 @@ loop-key-preserved c =
     let put = c.in_ok-insert_value.ensures in (
       λ ascending. put_next c.args.pairs.items es c.insert_value.new.map.entries old left k v ascending
           (c.loop-key.invariant.0 ascending) steps put,
-      λ R all.
-          let kept = c.loop-key.invariant.1 R all in
+      λ all.
+          let kept = c.loop-key.invariant.1 all in
           let rest = ap (list_all (λ p. well_formed R p.1)) (sym steps) ∙ kept.1 in (
             ap (list_all (λ e. well_formed R e.1)) put
                 ∙ kept_inserted (well_formed R) es k v kept.0 (and_parts (well_formed R v) _ rest).0,
@@ -28,4 +29,4 @@ loop-key-preserved c =
     )
 
 pub returns-clause-well_formed : goal.returns-clause-well_formed
-returns-clause-well_formed c all = (c.loop-key.invariant.1 _ all).0
+returns-clause-well_formed g c all = (c.loop-key.invariant.1 all).0

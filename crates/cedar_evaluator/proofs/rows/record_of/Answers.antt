@@ -11,7 +11,7 @@ use Rattle.cedar_values.specs.declared.value.Value.{Value}
 use Rattle.cedar_evaluator.proofs.rows.record_of.Goals as goal
 
 pub returns-clause-tree : goal.returns-clause-tree
-returns-clause-tree c ascending =
+returns-clause-tree g c ascending =
     let by_kind = c.values_by_kind.ensures in
     by_kind.kind c.record_arc.result ∙ ap bare_value_kind c.record_arc.ensures.kind
     ∙ by_kind.record c.in_ok-values.values
@@ -26,7 +26,7 @@ moved : {X : Type 0} (R : X → X → Ordering) (m n : BTreeMap (RcStr Global) (
 moved R m n is all = ap (λ l. list_all (λ e. well_formed R e.1) l.entries) is ∙ all
 
 pub returns-clause-well_formed : goal.returns-clause-well_formed
-returns-clause-well_formed c all =
+returns-clause-well_formed g c all =
     let by_kind = c.values_by_kind.ensures in
     let m = c.in_ok-values.values in
     by_kind.kept c.record_arc.result ∙ ap (kind_well_formed _) c.record_arc.ensures.kind

@@ -2,4 +2,4 @@ use Rattle.cedar_values.proofs.WellFormedMaps.{binds_plain}
 use Rattle.cedar_values.proofs.laws.well_formed_maps_bind_plain_values.Goals as goal
 
 pub returns : goal.returns
-returns c = binds_plain c.no_extension_values.ensures.plain
+returns c R E P = binds_plain c.no_extension_values.ensures.plain

@@ -8,7 +8,7 @@ use Rattle.cedar_simplifier.proofs.simplifier.SimplifierExprBuilder.set.Goals as
 
 pub known-requires : goal.known-requires
 known-requires c =
-    c.in_ok-set_of.ensures.well_formed
+    c.in_ok-plain_set_of.ensures.well_formed
     (ap (list_all (well_formed _)) c.in_ok-values.ensures
     ∙ values_kept _ (λ p. p.kept) c.args.members.items)
 
@@ -17,7 +17,7 @@ returns-then-are_known c =
     c.known.ensures
     ∙ known_set _ _ c.args.members.items _ _
     (ap are_known (sym c.deref.ensures.value) ∙ sym c.are_known.ensures ∙ c.if-are_known.true)
-    c.in_ok-set_of.ensures.tree c.in_ok-values.ensures
+    c.in_ok-plain_set_of.ensures.tree c.in_ok-values.ensures
 
 pub returns : goal.returns
 returns c =
