@@ -42,7 +42,9 @@ signs =
     (codes "[", kinds.OpenSquare) ∷
     (codes "]", kinds.CloseSquare) ∷
     (codes "{", kinds.OpenCurly) ∷
-    (codes "}", kinds.CloseCurly) ∷ []
+    (codes "}", kinds.CloseCurly) ∷
+    (codes "@", kinds.At) ∷
+    (codes ";", kinds.Semicolon) ∷ []
 
 -- what a text is in a table
 abbrev pub looked_up : List ℕ → List (List ℕ × TokenKind) → Option TokenKind

@@ -78,6 +78,10 @@ pub enum TokenKind {
     OpenCurly,
     /// `}`.
     CloseCurly,
+    /// `@`, which policies alone have.
+    At,
+    /// `;`, which policies alone have.
+    Semicolon,
     /// The end of the text, which is no token of it.
     End,
 }
@@ -181,6 +185,8 @@ fn sign_kind(sign: &str) -> Option<TokenKind>
         "]" => Some(TokenKind::CloseSquare),
         "{" => Some(TokenKind::OpenCurly),
         "}" => Some(TokenKind::CloseCurly),
+        "@" => Some(TokenKind::At),
+        ";" => Some(TokenKind::Semicolon),
         _ => None,
     }
 }

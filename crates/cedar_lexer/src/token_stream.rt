@@ -1,6 +1,7 @@
 //! The tokens of a text, as they are taken one by one.
 ghost use Rattle.std.specs.Prelude.{
   ◌≡◌,
+  ◌++◌,
   ◌↔◌,
   ◌<◌,
   ◌≤◌,
@@ -8,11 +9,15 @@ ghost use Rattle.std.specs.Prelude.{
   IfSome,
   IsOk,
   IsSome,
+  IsTrue,
   MatchOption,
   MatchResult,
+  drop,
   length,
+  take,
 };
 ghost use Rattle.cedar_lexer.specs.Told.{IsProblem};
+ghost use Rattle.cedar_lexer.specs.declared.token.TokenKind.TheVariants as kinds;
 ghost use Rattle.cedar_lexer.specs.TokenStreams.{
   BeginsWith,
   BeginsWithPair,
@@ -56,6 +61,40 @@ impl<'a> TokenStream<'a> {
                 },
             },
         }
+    }
+
+    /// These tokens, which end where `end` is: a failure at their end is told of that piece.
+    pub fn before(tokens: &'a [Token<'a>], end: Span) -> TokenStream<'a>
+        ensures left { tokens_left result ≡ length tokens.now }
+        ensures all { rest_of result ≡ tokens.now }
+        ensures kind { (end_of result).kind ≡ kinds.End }
+        ensures end { (end_of result).span ≡ end }
+    {
+        TokenStream {
+            rest: tokens,
+            end: Token {
+                kind: TokenKind::End,
+                text: "",
+                span: end,
+            },
+        }
+    }
+
+    /// The same tokens once more, to be taken apart from these.
+    pub fn copy(&self) -> TokenStream<'a>
+        ensures { result ≡ self.now }
+    {
+        TokenStream {
+            rest: self.rest,
+            end: self.end,
+        }
+    }
+
+    /// Whether none is left.
+    pub fn is_empty(&self) -> bool
+        ensures { IsTrue result ↔ (tokens_left self.now ≡ 0) }
+    {
+        self.rest.is_empty()
     }
 
     /// The next one, or the end.
@@ -120,6 +159,21 @@ impl<'a> TokenStream<'a> {
         }
     }
 
+    /// Takes the tokens up to the bracket that closes what they stand in, and gives their stream; if
+    /// `ends_at_comma`, up to the first comma outside brackets. The stream ends where the token
+    /// begins that follows.
+    pub fn take_group(&mut self, ends_at_comma: bool) -> TokenStream<'a>
+        ensures all { rest_of self.old ≡ rest_of result ++ rest_of self.new }
+        ensures end { end_of self.new ≡ end_of self.old }
+        ensures kind { (end_of result).kind ≡ kinds.End }
+        ensures place { (end_of result).span ≡ (next_of self.new).span }
+    {
+        let length = group_length(self.rest, ends_at_comma);
+        let group = first_tokens(self.rest, length);
+        self.rest = other_tokens(self.rest, length);
+        TokenStream::before(group, self.first().span)
+    }
+
     /// Takes the next one if it is of this kind; else it takes none, and refuses with `problem` at
     /// that token's span.
     pub fn expect(
@@ -137,5 +191,58 @@ impl<'a> TokenStream<'a> {
             Some(token) => Ok(token),
             None => Err(ParseFailure::Syntax(self.first().span, problem)),
         }
+    }
+}
+
+// The first tokens.
+fn first_tokens<'a>(tokens: &'a [Token<'a>], count: usize) -> &'a [Token<'a>]
+    requires { count ≤ length tokens.now }
+    ensures { result.now ≡ take count tokens.now }
+{
+    tokens.split_at(count).0
+}
+
+// The tokens behind the first ones.
+fn other_tokens<'a>(tokens: &'a [Token<'a>], count: usize) -> &'a [Token<'a>]
+    requires { count ≤ length tokens.now }
+    ensures { result.now ≡ drop count tokens.now }
+{
+    tokens.split_at(count).1
+}
+
+// How many tokens stand before the bracket that closes what they stand in, or before the first
+// comma outside brackets.
+fn group_length(tokens: &[Token<'_>], ends_at_comma: bool) -> usize
+    ensures { result ≤ length tokens.now }
+{
+    let mut depth: usize = 0;
+    for (at, token) in tokens.iter().enumerate() {
+        if depth == 0 && ends_group(token.kind, ends_at_comma) {
+            return at;
+        }
+        depth = depth_behind(token.kind, depth);
+    }
+    tokens.len()
+}
+
+// Whether a token outside brackets ends a group.
+fn ends_group(kind: TokenKind, ends_at_comma: bool) -> bool {
+    match kind {
+        TokenKind::CloseRound | TokenKind::CloseSquare | TokenKind::CloseCurly => true,
+        TokenKind::Comma => ends_at_comma,
+        _ => false,
+    }
+}
+
+// How many brackets are open behind a token.
+fn depth_behind(kind: TokenKind, depth: usize) -> usize {
+    match kind {
+        TokenKind::OpenRound | TokenKind::OpenSquare | TokenKind::OpenCurly => {
+            depth.saturating_add(1)
+        }
+        TokenKind::CloseRound | TokenKind::CloseSquare | TokenKind::CloseCurly => {
+            depth.saturating_sub(1)
+        }
+        _ => depth,
     }
 }
