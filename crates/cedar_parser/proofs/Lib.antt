@@ -14,3 +14,15 @@ pub mod Paths
 pub mod Records
 pub mod Whole
 pub mod NameSteps
+pub mod Rising
+pub mod Onward
+pub mod Resuming
+pub mod Words
+pub mod AheadSteps
+pub mod WordSteps
+pub mod CompleteSteps
+pub mod CompleteRows
+pub mod CompleteTokens
+pub mod CompleteTexts
+pub mod CompleteLeaves
+pub mod CompleteWhole

@@ -1,10 +1,8 @@
 -- The steps of the parser, over its own parts.
-use Rattle.std.proofs.Common.{◌≡◌, ◌≤◌, ◌<◌, ◌+◌, ◌-◌, ℕ, length, length-append, get_or, false, List, [], ◌∷◌, ◌++◌, Option, Some, None, map, refl, sym, ◌∙◌, ap, subst, arith}
+use Rattle.std.proofs.Common.{◌≡◌, ◌≤◌, ◌<◌, ◌+◌, ◌-◌, length, length-append, get_or, false, List, [], ◌∷◌, ◌++◌, Option, Some, None, map, refl, sym, ◌∙◌, ap, subst, arith}
 use Rattle.std.specs.HashMap.{get_by}
 use Rattle.std.specs.Str.{bytes_eq}
 use Rattle.std.specs.Rc.{rc_str_bytes}
-use Rattle.std.specs.Option.{option_map}
-use Rattle.cedar_terms.specs.declared.ops.UnaryOp.TheVariants as Unary
 use Rattle.cedar_builders.specs.BareExpr.{BareExpr}
 use Rattle.cedar_exprs.specs.BareExpr.{bare_expr}
 use Rattle.cedar_terms.specs.Precedences.{precedence_number}

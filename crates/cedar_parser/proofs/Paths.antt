@@ -1,5 +1,5 @@
 -- Paths and keys, with one more part.
-use Rattle.std.proofs.Common.{◌≡◌, ℕ, Bool, true, false, List, [], ◌∷◌, ◌++◌, map, append_assoc, refl, sym, ◌∙◌, ap, subst}
+use Rattle.std.proofs.Common.{◌≡◌, ℕ, Bool, true, false, List, [], ◌∷◌, ◌++◌, append_assoc, refl, sym, ◌∙◌, ap, subst}
 use Rattle.std.specs.Prelude.{◌==◌, ◌||◌, codes, if◌then◌else◌}
 use Rattle.std.specs.Rc.{rc_str_bytes}
 use Rattle.std.specs.Global.{Global}
@@ -12,7 +12,7 @@ use Rattle.cedar_terms.specs.declared.var.Var.{Var as Variable}
 use Rattle.cedar_terms.specs.declared.var.Var.TheVariants as variables
 use Rattle.cedar_builders.specs.BareExpr.{Text, BareExpr, Lit, Var}
 use Rattle.cedar_lexer.specs.Grammar.{IsTokenText}
-use Rattle.cedar_lexer.specs.TokenStreams.{IsPairTaken, IsTaken, IsUntouched, rest_of}
+use Rattle.cedar_lexer.specs.TokenStreams.{IsPairTaken, IsTaken, IsUntouched}
 use Rattle.cedar_lexer.specs.declared.token.Token.{Token}
 use Rattle.cedar_lexer.specs.declared.token.TokenKind.TheVariants as kinds
 use Rattle.cedar_lexer.specs.declared.token_stream.TokenStream.{TokenStream}

@@ -1,35 +1,22 @@
 -- The steps of the parser that take tokens, over its own parts.
-use Rattle.std.proofs.Common.{◌≡◌, ◌≤◌, ◌<◌, ◌+◌, ◌-◌, ℕ, length, length-append, get_or, false, List, [], ◌∷◌, ◌++◌, Option, Some, None, map, refl, sym, ◌∙◌, ap, subst, arith}
+use Rattle.std.proofs.Common.{◌≡◌, ◌≤◌, ℕ, false, List, [], ◌∷◌, ◌++◌, Option, Some, None, map, refl, sym, ◌∙◌, ap, subst}
 use Rattle.std.specs.HashMap.{get_by}
 use Rattle.std.specs.Str.{bytes_eq}
 use Rattle.std.specs.Rc.{rc_str_bytes}
-use Rattle.std.specs.Option.{option_map}
-use Rattle.cedar_terms.specs.declared.ops.UnaryOp.TheVariants as Unary
 use Rattle.cedar_builders.specs.BareExpr.{BareExpr}
 use Rattle.cedar_exprs.specs.BareExpr.{bare_expr}
 use Rattle.cedar_terms.specs.Precedences.{precedence_number}
-use Rattle.cedar_terms.specs.declared.precedence.Precedence.{Precedence}
 use Rattle.cedar_terms.specs.declared.precedence.Precedence.TheVariants as precedences
 use Rattle.cedar_lexer.specs.declared.token.Token.{Token}
 use Rattle.semantics_grammar.specs.Grammar.{Primary, Stands}
 use Rattle.semantics_grammar.specs.Lexemes.{Lexeme, lexeme_of}
 use Rattle.semantics_grammar.specs.Written.{is_number_alone}
-use Rattle.cedar_parser.specs.Waiting.{Waiting, waiting_precedence, waiting_tree, operator_precedences, operator_of, between, last_of, IsBelow, BareOperand, Group as OpenGroup, Grouped}
-use Rattle.cedar_parser.specs.SoFar.{IsParsedUpTo}
-use Rattle.cedar_parser.specs.Meant.{IsParsed, IsOpenParsed, IsPopped, WaitsBelow, grouped, open_group, open_groups, bare_operand, operator, waiting, waits}
-use Rattle.cedar_parser.specs.declared.groups.Group.{Group}
+use Rattle.cedar_parser.specs.Waiting.{last_of}
+use Rattle.cedar_parser.specs.Meant.{IsParsed, IsOpenParsed, WaitsBelow, grouped, open_group, open_groups, bare_operand, waiting, waits}
 use Rattle.cedar_parser.specs.declared.groups.GroupKind.{GroupKind}
 use Rattle.cedar_parser.specs.declared.operand.Operand.{Operand}
-use Rattle.cedar_parser.specs.declared.operand.Operation.{Operation}
 use Rattle.cedar_parser.specs.declared.operand.Operation.TheVariants as operations
-use Rattle.cedar_parser.specs.declared.infix.Infix.{Infix}
 use Rattle.cedar_parser.specs.declared.parser.Parser.{Parser}
-use Rattle.std.specs.List.{slice_get}
-use Rattle.std.proofs.lemmas.Option.{get_or_from_slice_get, slice_get-get_or, slice_get_within}
-use Rattle.std.proofs.Math.Seq.{get_or-append_seam}
-use Rattle.cedar_parser.proofs.Operators.{none_some}
-use Rattle.cedar_parser.proofs.Waits.{last_is}
-use Rattle.cedar_parser.proofs.Steps.{all_parsed, applied, free, group_open, operator_parsed, primary_parsed}
 use Rattle.std.proofs.Common.{IfOk, MatchOption, Result, Ok, Err, true}
 use Rattle.std.specs.Option.{is_none, is_some}
 use Rattle.std.proofs.lemmas.Bool.{false≢true}
@@ -44,7 +31,7 @@ use Rattle.cedar_lexer.specs.declared.token.TokenKind.TheVariants as kinds
 use Rattle.cedar_lexer.specs.declared.token_stream.TokenStream.{TokenStream}
 use Rattle.semantics_grammar.specs.Grammar.{Accesses, no_access, attribute, index}
 use Rattle.semantics_grammar.specs.Lexemes.{lexeme, lexemes_of}
-use Rattle.semantics_grammar.specs.Written.{IsKey, IsTextOf}
+use Rattle.semantics_grammar.specs.Written.{IsTextOf}
 use Rattle.cedar_parser.specs.Meant.{AreLexemes, HasEnd, HasNoValues, IsKeyTaken, IsRecordOperand, IsRowOperand, here}
 use Rattle.cedar_parser.specs.SoFar.{IsOpenUpTo, IsRecordUpTo}
 use Rattle.cedar_parser.specs.Waiting.{Row, in_record, in_row, closing_of, method_arguments}

@@ -1,13 +1,13 @@
 -- What the texts of tokens are: digits, and what stands between quotes.
-use Rattle.std.proofs.Common.{◌≡◌, ◌≢◌, ◌<◌, ◌≤◌, ℕ, Bool, true, false, List, [], ◌∷◌, ◌++◌, Option, Some, None, get_or, refl, sym, ◌∙◌, ap, subst, arith}
+use Rattle.std.proofs.Common.{◌≡◌, ◌≢◌, ◌<◌, ◌≤◌, ℕ, Bool, true, false, List, [], ◌∷◌, ◌++◌, Some, get_or, refl, sym, ◌∙◌, ap, subst, arith}
 use Rattle.std.specs.Prelude.{◌==◌, ◌^◌, ℤ, ⊤, codes, cond, if◌then◌else◌, neg_ℤ, pos, encode_utf8_all, chars}
 use Rattle.std.specs.Char.{is_ascii_digit}
 use Rattle.std.specs.Str.{IsUtf8, bytes_eq}
-use Rattle.std.specs.Str.Parse.{AllDigits, IsNumeral, digits_value, signed_digits_value, starts_with_minus, without_leading_plus}
+use Rattle.std.specs.Str.Parse.{AllDigits, IsNumeral, digits_value, signed_digits_value, without_leading_plus}
 use Rattle.std.proofs.lemmas.Bool.{false≢true, ne_eqb}
 use Rattle.std.proofs.lemmas.Str.{encodes-chars}
 use Rattle.std.proofs.lemmas.Str.Parse.{digit_from_value, without_leading_plus_none}
-use Rattle.cedar_terms.specs.Literals.{BareLiteral, LongLit}
+use Rattle.cedar_terms.specs.Literals.{LongLit}
 use Rattle.cedar_terms.specs.declared.pattern.PatternElem.{PatternElem}
 use Rattle.cedar_lexer.specs.Escapes.{IsInsideOfPattern, IsInsideOfText}
 use Rattle.cedar_lexer.specs.Grammar.{IsTokenText, word, digits, slot, quoted, sign}
@@ -19,12 +19,12 @@ use Rattle.semantics_grammar.specs.Written.{IsPatternOf, IsTextOf}
 use Rattle.cedar_parser.proofs.Operators.{none_some, some_one}
 
 -- digits, or a text between quotes
-abbrev is_value : TokenKind → Bool
+abbrev pub is_value : TokenKind → Bool
 is_value kinds.Digits = true
 is_value kinds.Quoted = true
 is_value k = false
 
-abbrev is_quoted : TokenKind → Bool
+abbrev pub is_quoted : TokenKind → Bool
 is_quoted kinds.Quoted = true
 is_quoted k = false
 
@@ -49,15 +49,15 @@ word_fails p h1 h2 h3 h4 h5 h6 h7 h8 h9 h10 h11 w =
     (chosen p (bytes_eq w (codes "__cedar")) kinds.Reserved kinds.Word h10 h11)))))))))
 
 -- a word is no value
-word_kind : (w : List ℕ) → is_value (word_kind_of w) ≡ false
+pub word_kind : (w : List ℕ) → is_value (word_kind_of w) ≡ false
 word_kind w = word_fails is_value refl refl refl refl refl refl refl refl refl refl refl w
 
 -- no row of a table of signs is a value
-abbrev HasNoValue : List (List ℕ × TokenKind) → Type 0
+abbrev pub HasNoValue : List (List ℕ × TokenKind) → Type 0
 HasNoValue [] = ⊤
 HasNoValue (e ∷ es) = (is_value e.1 ≡ false) × HasNoValue es
 
-sign_kind : (s : List ℕ) (k : TokenKind) (es : List (List ℕ × TokenKind)) → HasNoValue es → looked_up s es ≡ Some k → is_value k ≡ false
+pub sign_kind : (s : List ℕ) (k : TokenKind) (es : List (List ℕ × TokenKind)) → HasNoValue es → looked_up s es ≡ Some k → is_value k ≡ false
 sign_kind s k [] h e = absurd (none_some e)
 sign_kind s k (x ∷ es) h e =
     elim (bytes_eq s x.0) as (λ v. (if v then Some x.1 else looked_up s es) ≡ Some k → is_value k ≡ false) [
@@ -65,9 +65,9 @@ sign_kind s k (x ∷ es) h e =
       | false ↦ λ f. sign_kind s k es h.1 f
     ] e
 
-no_value : HasNoValue signs
+pub no_value : HasNoValue signs
 no_value =
-    (refl, (refl, (refl, (refl, (refl, (refl, (refl, (refl, (refl, (refl, (refl, (refl, (refl, (refl, (refl, (refl, (refl, (refl, (refl, (refl, (refl, (refl, tt))))))))))))))))))))))
+    (refl, (refl, (refl, (refl, (refl, (refl, (refl, (refl, (refl, (refl, (refl, (refl, (refl, (refl, (refl, (refl, (refl, (refl, (refl, (refl, (refl, (refl, (refl, (refl, tt))))))))))))))))))))))))
 
 -- a token in quotes has them
 pub quoted_inside : {w : List ℕ} {k : TokenKind} → IsTokenText w k → k ≡ kinds.Quoted → (i : List ℕ) × (w ≡ 34 ∷ (i ++ (34 ∷ [])))

@@ -76,3 +76,9 @@ stuck_within text (failure.Syntax span problem) h =
     let l = left_fits 0 text h.1 h.0 h.2 in
     (omega (arith, h.5.1.0, h.5.1.1), omega (arith, l, h.5.1.0, h.5.1.2))
 stuck_within text failure.Memory h = h
+
+-- what is refused within the tokens of a text is within the text
+pub stopped_within : (text : List ℕ) (ts : List Token) (tokens : TokenStream) (e : ParseFailure) → AreTokens text ts → IsEndBehind ts (end_of tokens)
+    → IsWithin (stop_of tokens) e → IsWithin (length text) e
+stopped_within text ts tokens (failure.Syntax span problem) h b w = let l = all_fit text ts tokens h b in (w.0, omega (arith, w.1, l))
+stopped_within text ts tokens failure.Memory h b w = w

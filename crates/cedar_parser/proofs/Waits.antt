@@ -1,25 +1,19 @@
 -- What waits, as one more comes or goes, and what it makes of its last operand.
-use Rattle.std.proofs.Common.{◌≡◌, ◌<◌, ◌≤◌, ◌+◌, ℕ, suc, Bool, true, false, List, [], ◌∷◌, ◌++◌, Option, Some, None, refl, sym, ◌∙◌, ap, subst, arith}
-use Rattle.std.specs.Prelude.{⊤, unwrap_or}
-use Rattle.cedar_names.specs.Names.{BareName}
-use Rattle.cedar_terms.specs.Literals.{LongLit}
-use Rattle.cedar_terms.specs.declared.ops.BinaryOp.{BinaryOp}
+use Rattle.std.proofs.Common.{◌≡◌, ◌<◌, ◌≤◌, ◌+◌, ℕ, suc, List, [], ◌∷◌, ◌++◌, Option, Some, None, refl, sym, subst, arith}
 use Rattle.cedar_terms.specs.declared.ops.BinaryOp.TheVariants as Binary
 use Rattle.cedar_terms.specs.declared.ops.UnaryOp.{UnaryOp}
 use Rattle.cedar_terms.specs.declared.ops.UnaryOp.TheVariants as Unary
-use Rattle.cedar_terms.specs.declared.pattern.PatternElem.{PatternElem}
-use Rattle.cedar_builders.specs.BareExpr.{Text, BareExpr, If, And, Or, UnaryApp, BinaryApp, GetAttr, HasAttr, Like, Set, Record, Is, Lit, BareExprs, no_trees, tree, trees_of, fields_of}
-use Rattle.cedar_terms.specs.Precedences.{precedence_number, infix_precedences}
+use Rattle.cedar_builders.specs.BareExpr.{BareExpr, If, And, UnaryApp, BinaryApp, Is}
+use Rattle.cedar_terms.specs.Precedences.{precedence_number}
 use Rattle.cedar_terms.specs.declared.precedence.Precedence.{Precedence}
 use Rattle.cedar_terms.specs.declared.precedence.Precedence.TheVariants as precedences
 use Rattle.cedar_lexer.specs.declared.token.TokenKind.{TokenKind}
 use Rattle.cedar_lexer.specs.declared.token.TokenKind.TheVariants as kinds
 use Rattle.semantics_grammar.specs.Lexemes.{Lexeme, lexeme}
-use Rattle.semantics_grammar.specs.Written.{IsTextOf, IsPatternOf, IsPath, IsKey, AreKeys, method_tree, function_tree, is_number_alone}
 use Rattle.semantics_grammar.specs.Grammar as g
 use Rattle.semantics_grammar.specs.Grammar.{Reads, conditional, no_conditional, disjunction, conjunction, relation, sum, product, no_sign, nots, minuses, member, GoesOn, no_operator, or, and, plus, minus, times, Tests, no_test, equal, not_equal, less, less_equal, greater, greater_equal, is_in, Nots, last_not, more_nots, Minuses, last_minus, negative, more_minuses, Accesses, no_access, attribute, index, method, Primary}
-use Rattle.cedar_parser.specs.Waiting.{Operator, either, both, plain, negated, operator_of, operator_precedences, operator_tree, Waiting, sign, between, is_of_in, otherwise, waiting_tree, waiting_precedence, least_operand, StandsOn, last_of, Row, members, arguments, method_arguments, Grouped, in_brackets, in_test, in_branch, in_row, in_record, Group, BareOperand}
-use Rattle.cedar_parser.specs.SoFar.{AreSigns, IsNotTaken, IsSigned, IsTight, IsOperand, IsSign, IsWaiting, AreWaiting, AreItems, AreFields, AreRowItems, IsOpened, IsGroup, AreGroups, HasOperand, IsParsedUpTo}
+use Rattle.cedar_parser.specs.Waiting.{Operator, operator_precedences, operator_tree, Waiting, sign, between, is_of_in, otherwise, waiting_tree, waiting_precedence, least_operand, StandsOn, last_of, Group}
+use Rattle.cedar_parser.specs.SoFar.{AreSigns, IsSigned, IsOperand, IsSign, IsWaiting, AreWaiting, IsGroup, AreGroups}
 use Rattle.cedar_parser.proofs.Levels.{loosened}
 use Rattle.cedar_parser.proofs.Operators.{applies, operator_small, last_small}
 

@@ -1,5 +1,6 @@
 -- The text as a whole.
-use Rattle.std.proofs.Common.{◌≡◌, ◌≤◌, ℕ, List, [], ◌∷◌, length, Result, Ok, Err, IfOk, None, Option, map, refl, sym, ◌∙◌, ap, subst, arith}
+use Rattle.std.proofs.Common.{◌≡◌, ℕ, List, [], ◌∷◌, length, Result, Ok, Err, IfOk, None, Option, map, refl, sym, ap, subst, arith}
+use Rattle.cedar_builders.specs.BareExpr.{BareExpr}
 use Rattle.cedar_exprs.specs.BareExpr.{bare_expr}
 use Rattle.cedar_exprs.specs.declared.expr.Expr.{Expr}
 use Rattle.cedar_lexer.specs.TokenPlaces.{AreTokens, AreTokensBefore}
@@ -21,28 +22,32 @@ lexemes_are at text [] rest h = tt
 lexemes_are at text (t ∷ ts) rest h = (h.3.4, lexemes_are t.span.stop h.1 ts rest h.4)
 
 -- nothing is parsed yet
-pub begun : (text : List ℕ) (found : List Token) (t : TokenStream) (r : Parser) → AreTokens text found → rest_of t ≡ found
-    → r.operations.items ≡ [] → r.groups.items ≡ [] → HasNoValues r.nodes → IsParsed (here t) r None (here t)
-begun text found t r are same ops groups none = record {
+pub begun : (t : TokenStream) (r : Parser) → AreLexemes (here t) → r.operations.items ≡ [] → r.groups.items ≡ [] → HasNoValues r.nodes
+    → IsParsed (here t) r None (here t)
+begun t r lex ops groups none = record {
   no_values = none;
-  lexemes = subst (λ ts. AreLexemes (lexemes_of ts)) (sym same) (lexemes_are 0 text found [] are);
+  lexemes = lex;
   so_far = moved (here t) (here t) [] (open_groups r) [] (waits r) None None (sym (ap (map open_group) groups)) (sym (ap (map waiting) ops)) refl
       (nothing_parsed (here t));
 }
+
+-- the tokens that a stream begins with are tokens of their kinds
+pub lexemes_of_text : (text : List ℕ) (found : List Token) (t : TokenStream) → AreTokens text found → rest_of t ≡ found → AreLexemes (here t)
+lexemes_of_text text found t are same = subst (λ ts. AreLexemes (lexemes_of ts)) (sym same) (lexemes_are 0 text found [] are)
 
 none_left : (ts : List Token) → length ts ≡ 0 → lexemes_of ts ≡ []
 none_left [] e = refl
 none_left (t ∷ ts) e = absurd (omega (arith, e))
 
--- all is parsed
-pub ended_parse : (text : List ℕ) (found : List Token) (first last : TokenStream) (r : Parser) (h : Option Operand)
-    (res : Result (Expr Unit) ParseFailure) → AreTokens text found → rest_of first ≡ found → tokens_left last ≡ 0
-    → IsParsed (here first) r h (here last)
-    → IfOk res (λ e. (ts : List Lexeme) → IsParsed ts r h [] → Stands ts (bare_expr e)) → IfOk res (λ e. IsParse text (bare_expr e))
-ended_parse text found first last r h (Err e) are same none parsed made = tt
-ended_parse text found first last r h (Ok e) are same none parsed made = (
-  found,
-  are,
-  subst (λ ts. Stands (lexemes_of ts) (bare_expr e)) same
-      (made (here first) (subst (IsParsed (here first) r h) (none_left (rest_of last) none) parsed)),
-)
+-- all tokens are parsed
+pub ended_tokens : (first last : TokenStream) (r : Parser) (h : Option Operand) (res : Result (Expr Unit) ParseFailure) → tokens_left last ≡ 0
+    → IsParsed (here first) r h (here last) → IfOk res (λ e. (ts : List Lexeme) → IsParsed ts r h [] → Stands ts (bare_expr e))
+    → IfOk res (λ e. Stands (here first) (bare_expr e))
+ended_tokens first last r h (Err e) none parsed made = tt
+ended_tokens first last r h (Ok e) none parsed made =
+    made (here first) (subst (IsParsed (here first) r h) (none_left (rest_of last) none) parsed)
+
+-- the tokens are those of the text
+pub text_parsed : (text : List ℕ) (found : List Token) (t : TokenStream) (e : BareExpr) → AreTokens text found → rest_of t ≡ found
+    → Stands (here t) e → IsParse text e
+text_parsed text found t e are same stands = (found, are, subst (λ ts. Stands (lexemes_of ts) e) same stands)

@@ -1,8 +1,6 @@
 -- What is parsed of the tokens so far: what waits, what is open and the operand stand for all tokens up to those that are left.
-use Rattle.std.specs.Prelude.{◌≡◌, ◌+◌, ◌≤◌, ◌<◌, ℕ, suc, false, List, [], ◌∷◌, ◌++◌, Option, Some, None, ⊤}
+use Rattle.std.specs.Prelude.{◌≡◌, ◌+◌, ◌≤◌, ◌<◌, ℕ, false, List, [], ◌∷◌, Option, Some, None, ⊤}
 use Rattle.cedar_names.specs.Names.{BareName}
-use Rattle.cedar_terms.specs.declared.ops.BinaryOp.{BinaryOp}
-use Rattle.cedar_terms.specs.declared.ops.BinaryOp.TheVariants as Binary
 use Rattle.cedar_terms.specs.declared.ops.UnaryOp.{UnaryOp}
 use Rattle.cedar_terms.specs.declared.ops.UnaryOp.TheVariants as Unary
 use Rattle.cedar_builders.specs.BareExpr.{Text, BareExpr, Is}
@@ -14,7 +12,7 @@ use Rattle.cedar_lexer.specs.declared.token.TokenKind.TheVariants as kinds
 use Rattle.semantics_grammar.specs.Lexemes.{Lexeme, lexeme}
 use Rattle.semantics_grammar.specs.Written.{IsPath, IsKey, is_number_alone}
 use Rattle.semantics_grammar.specs.Grammar.{Reads, Nots, Minuses}
-use Rattle.cedar_parser.specs.Waiting.{Operator, operator_of, operator_precedences, Waiting, sign, between, is_of_in, otherwise, least_operand, StandsOn, last_of, Row, members, arguments, method_arguments, Grouped, in_brackets, in_test, in_branch, in_row, in_record, Group, BareOperand}
+use Rattle.cedar_parser.specs.Waiting.{operator_of, operator_precedences, Waiting, sign, between, is_of_in, otherwise, least_operand, StandsOn, last_of, Row, members, arguments, method_arguments, Grouped, in_brackets, in_test, in_branch, in_row, in_record, Group, BareOperand}
 
 -- so many signs before a member
 abbrev pub AreSigns : UnaryOp → ℕ → List Lexeme → BareExpr → List Lexeme → Type 0

@@ -1,5 +1,5 @@
 -- Operations whose last operand is not parsed yet, and groups that are open, by their trees.
-use Rattle.std.specs.Prelude.{◌≡◌, ◌&&◌, Bool, codes, ◌+◌, ◌≤◌, ◌<◌, ℕ, suc, false, List, [], ◌∷◌, ◌++◌, Option, Some, None, ⊤, unwrap_or}
+use Rattle.std.specs.Prelude.{◌≡◌, ◌&&◌, Bool, codes, ◌≤◌, ◌<◌, ℕ, suc, List, [], ◌∷◌, Option, Some, None, ⊤, unwrap_or}
 use Rattle.std.specs.Str.{bytes_eq}
 use Rattle.cedar_names.specs.Names.{BareName, IsNameOf}
 use Rattle.cedar_terms.specs.declared.ops.BinaryOp.{BinaryOp}

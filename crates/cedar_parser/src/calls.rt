@@ -27,6 +27,8 @@ ghost use Rattle.semantics_grammar.specs.Written.{
   string_of,
   unknown_or,
 };
+ghost use Rattle.cedar_lexer.specs.declared.parse_failure.ParseFailure.TheVariants.{Memory};
+ghost use Rattle.cedar_parser.specs.Ahead.{RowTakes};
 ghost use Rattle.cedar_parser.specs.Meant.{HasNoValues};
 ghost use Rattle.cedar_parser.specs.Refused.{IsAbout};
 ghost use Rattle.cedar_parser.specs.Waiting.{
@@ -61,6 +63,7 @@ impl Nodes<'_> {
         ensures tree { HasNoValues self.now → IfOk result (λ e.
             bare_expr e ≡ function_tree (bare_name name) (bare_exprs args.items)) }
         ensures refused { IfErr result (IsAbout span) }
+        ensures complete { IfErr result (λ e. e ≡ Memory) }
     {
         match unknown_name(&name, &args)? {
             Some(text) => Ok(self.unknown(text, span)?),
@@ -98,6 +101,8 @@ impl Nodes<'_> {
         ensures tree { IfOk result (λ e.
             IsRowTree (method_arguments method.now) (map bare_expr args.items) (bare_expr e)) }
         ensures refused { IfErr result (IsAbout span) }
+        ensures complete { IfErr result (λ e.
+            RowTakes (method_arguments method.now) (length args.items) → e ≡ Memory) }
     {
         if is_emptiness(method) {
             return self.is_empty(args, span);
@@ -116,6 +121,7 @@ impl Nodes<'_> {
         ensures tree { IfOk result (λ e.
             IsUnaryOf Unary.IsEmpty (map bare_expr args.items) (bare_expr e)) }
         ensures refused { IfErr result (IsAbout span) }
+        ensures complete { IfErr result (λ e. length args.items ≡ 1 → e ≡ Memory) }
     {
         match only(args) {
             Some(arg) => Ok(self.at(span)?.unary_app(self.alloc, UnaryOp::IsEmpty, arg)?),
@@ -127,6 +133,7 @@ impl Nodes<'_> {
     fn binary_method(&self, op: BinaryOp, args: Vec<Expr>, span: Span) -> Result<Expr, ParseFailure>
         ensures tree { IfOk result (λ e. IsBinaryOf op (map bare_expr args.items) (bare_expr e)) }
         ensures refused { IfErr result (IsAbout span) }
+        ensures complete { IfErr result (λ e. length args.items ≡ 2 → e ≡ Memory) }
     {
         match only_two(args) {
             Some((first, last)) => Ok(self.at(span)?.binary_app(self.alloc, op, first, last)?),
@@ -137,7 +144,7 @@ impl Nodes<'_> {
 
 // The item, if there is one alone.
 fn only<T: Drop>(mut items: Vec<T>) -> Option<T>
-    ensures { IfSome result (λ item. items.items ≡ item ∷ []) }
+    ensures { MatchOption result (length items.items ≢ 1) (λ item. items.items ≡ item ∷ []) }
 {
     let item = items.pop()?;
     if items.is_empty() { Some(item) } else { None }
@@ -145,7 +152,9 @@ fn only<T: Drop>(mut items: Vec<T>) -> Option<T>
 
 // Both items, if there are two alone.
 fn only_two<T: Drop>(mut items: Vec<T>) -> Option<(T, T)>
-    ensures { IfSome result (λ both. items.items ≡ both.0 ∷ both.1 ∷ []) }
+    ensures { MatchOption result
+        (length items.items ≢ 2)
+        (λ both. items.items ≡ both.0 ∷ both.1 ∷ []) }
 {
     let last = items.pop()?;
     let first = only(items)?;

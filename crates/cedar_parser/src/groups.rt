@@ -1,6 +1,7 @@
 //! Brackets, conditionals, sets, records and calls.
 ghost use Rattle.std.specs.Prelude.{
   ◌≡◌,
+  ◌↔◌,
   ◌≤◌,
   ◌++◌,
   [],
@@ -10,11 +11,20 @@ ghost use Rattle.std.specs.Prelude.{
   IsTrue,
   MatchResult,
   None,
+  length,
   map,
   max,
 };
-ghost use Rattle.cedar_builders.specs.Keys.{meant_pairs};
+ghost use Rattle.cedar_builders.specs.Keys.{are_distinct, meant_pairs};
 ghost use Rattle.cedar_exprs.specs.BareExpr.{bare_expr};
+ghost use Rattle.cedar_parser.specs.Ahead.{RowTakes, keys};
+ghost use Rattle.cedar_parser.specs.Complete.{
+  IsMember,
+  IsRecordAhead,
+  IsResumed,
+  IsRowAhead,
+  KeepsOn,
+};
 ghost use Rattle.cedar_parser.specs.Meant.{
   HasNoValues,
   IsClosing,
@@ -105,7 +115,7 @@ impl RowKind {
 impl Group {
     // Whether a token of this kind may follow an operand in it, beside operators.
     fn takes(&self, kind: TokenKind) -> bool
-        ensures { IsTrue result → Takes (grouped self.now.kind) kind }
+        ensures { IsTrue result ↔ Takes (grouped self.now.kind) kind }
     {
         match &self.kind {
             GroupKind::Round => kind == TokenKind::CloseRound,
@@ -142,6 +152,9 @@ impl Parser<'_> {
         requires first { IsFirst (group_start group) token tokens.old }
         ensures parses { ParsesOn
             (λ ts. IsClosing ts self.old group expr (from token.entry tokens.old))
+            tokens.old result self.new tokens.new }
+        ensures complete { KeepsOn
+            (IsResumed self.old group (from token.entry tokens.old))
             tokens.old result self.new tokens.new }
         ensures left { tokens_left tokens.new ≤ tokens_left tokens.old }
         ensures goes_on { IsStep tokens.old tokens.new self.new result }
@@ -208,6 +221,9 @@ impl Parser<'_> {
         ensures parses { ParsesOn
             (λ ts. IsOpenParsed ts self.old (groupkinds.Row kind items) (here tokens.old))
             tokens.old result self.new tokens.new }
+        ensures complete { KeepsOn
+            (IsRowAhead self.old (row_of kind) (length items.items) (here tokens.old))
+            tokens.old result self.new tokens.new }
         ensures left { tokens_left tokens.new ≤ tokens_left tokens.old }
         ensures goes_on { IsStep tokens.old tokens.new self.new result }
     {
@@ -224,6 +240,8 @@ impl Parser<'_> {
     fn row(&mut self, kind: RowKind, items: Vec<Expr>, span: Span) -> Step
         ensures tree { HasNoValues self.old.nodes →
             IfOk result (IsRowOperand (row_of kind) (map bare_expr items.items)) }
+        ensures complete { RowTakes (row_of kind) (length items.items) →
+            MatchResult result IsMember (λ e. e ≡ Memory) }
         ensures same { self.new ≡ self.old }
         ensures opened { MatchResult result
             (IsUpTo (max (open_start self.old) span.start) self.new)
@@ -248,6 +266,9 @@ impl Parser<'_> {
         ensures parses { ParsesOn
             (λ ts. IsRecordParsed ts self.old pairs.items (here tokens.old))
             tokens.old result self.new tokens.new }
+        ensures complete { KeepsOn
+            (IsRecordAhead self.old (keys (meant_pairs bare_expr pairs.items)) (here tokens.old))
+            tokens.old result self.new tokens.new }
         ensures left { tokens_left tokens.new ≤ tokens_left tokens.old }
         ensures goes_on { IsStep tokens.old tokens.new self.new result }
     {
@@ -263,6 +284,8 @@ impl Parser<'_> {
     // A whole record.
     fn record(&mut self, pairs: Vec<(RcStr, Expr)>, span: Span) -> Step
         ensures tree { IfOk result (IsRecordOperand (meant_pairs bare_expr pairs.items)) }
+        ensures complete { IsTrue (are_distinct (keys (meant_pairs bare_expr pairs.items))) →
+            MatchResult result IsMember (λ e. e ≡ Memory) }
         ensures same { self.new ≡ self.old }
         ensures opened { MatchResult result
             (IsUpTo (max (open_start self.old) span.start) self.new)

@@ -9,6 +9,8 @@ mod nodes;
 mod operand;
 mod parser;
 mod postfix;
+mod signs;
 
 pub use cedar_lexer::{Excerpt, ParseError, SyntaxError};
-pub use parser::{parse_expr, parse_with_values};
+pub use leaves::{parse_entity_type, text_of};
+pub use parser::{parse_expr, parse_tokens, parse_with_values};

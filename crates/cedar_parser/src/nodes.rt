@@ -1,5 +1,5 @@
 //! Expressions with their places in a text.
-ghost use Rattle.std.specs.Prelude.{◌≡◌, IfErr, IfOk, None};
+ghost use Rattle.std.specs.Prelude.{◌≡◌, IfErr, IfOk, IsTrue, None};
 ghost use Rattle.std.specs.Rc.{rc_str_bytes};
 ghost use Rattle.cedar_builders.specs.BareExpr.{
   And,
@@ -11,10 +11,13 @@ ghost use Rattle.cedar_builders.specs.BareExpr.{
   Or,
   Set,
 };
+ghost use Rattle.cedar_builders.specs.declared.expression_construction_errors.ExpressionConstructionError.TheVariants as build_errors;
 ghost use Rattle.cedar_exprs.specs.BareExpr.{bare_expr, bare_expr_kind, bare_exprs, further};
-ghost use Rattle.cedar_builders.specs.Keys.{meant_pairs};
+ghost use Rattle.cedar_builders.specs.Keys.{are_distinct, meant_pairs};
+ghost use Rattle.cedar_lexer.specs.declared.parse_failure.ParseFailure.TheVariants.{Memory};
 ghost use Rattle.cedar_terms.specs.Entities.{bare_entity_type};
 ghost use Rattle.cedar_terms.specs.declared.precedence.Precedence.TheVariants as precedences;
+ghost use Rattle.cedar_parser.specs.Ahead.{keys};
 ghost use Rattle.cedar_parser.specs.Meant.{HasNoValues, IsRecordTree, operator, waiting};
 ghost use Rattle.cedar_parser.specs.Refused.{IsAbout, start_of};
 ghost use Rattle.cedar_parser.specs.Waiting.{operator_tree, waiting_precedence, waiting_tree};
@@ -219,6 +222,7 @@ impl Nodes<'_> {
     pub(crate) fn set(&self, members: Vec<Expr>, span: Span) -> Result<Expr, ParseFailure>
         ensures tree { IfOk result (λ e. bare_expr e ≡ Set (bare_exprs members.items)) }
         ensures refused { IfErr result (IsAbout span) }
+        ensures complete { IfErr result (λ e. e ≡ Memory) }
     {
         Ok(self.at(span)?.set(self.alloc, members)?)
     }
@@ -228,11 +232,23 @@ impl Nodes<'_> {
         ensures tree { IfOk result (λ e.
             IsRecordTree (meant_pairs bare_expr pairs.items) (bare_expr e)) }
         ensures refused { IfErr result (IsAbout span) }
+        ensures complete { IfErr result (λ e.
+            IsTrue (are_distinct (keys (meant_pairs bare_expr pairs.items))) → e ≡ Memory) }
     {
         match self.at(span)?.record(self.alloc, pairs) {
             Ok(expr) => Ok(expr),
-            Err(ExpressionConstructionError::Memory) => Err(ParseFailure::Memory),
-            Err(_) => Err(ParseFailure::Syntax(span, "a key stands twice in this record")),
+            Err(error) => Err(refused_record(error, span)),
         }
+    }
+}
+
+// Why a record that stands here is refused.
+fn refused_record(error: ExpressionConstructionError, span: Span) -> ParseFailure
+    ensures about { IsAbout span result }
+    ensures memory { error ≡ build_errors.Memory → result ≡ Memory }
+{
+    match error {
+        ExpressionConstructionError::Memory => ParseFailure::Memory,
+        _ => ParseFailure::Syntax(span, "a key stands twice in this record"),
     }
 }

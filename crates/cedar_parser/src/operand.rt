@@ -1,6 +1,7 @@
 //! Operands, and the operations that wait for one.
-ghost use Rattle.std.specs.Prelude.{◌≡◌, ◌<◌, ◌≤◌, IfErr, IfOk, IfSome, IsTrue, MatchOption, Some};
+ghost use Rattle.std.specs.Prelude.{◌≡◌, ◌<◌, ◌≤◌, IfErr, IfOk, IfSome, IsTrue, MatchOption, MatchResult, Some};
 ghost use Rattle.cedar_terms.specs.declared.precedence.Precedence.TheVariants as precedences;
+ghost use Rattle.cedar_parser.specs.Ahead.{TakesNoSign};
 ghost use Rattle.cedar_parser.specs.Meant.{IsMinus, IsNoMinus, waiting};
 ghost use Rattle.cedar_parser.specs.Refused.{IsAbout, start_of};
 ghost use Rattle.cedar_parser.specs.Waiting.{StandsOn, least_operand, sign, waiting_precedence};
@@ -91,6 +92,9 @@ impl Operation {
     pub(crate) fn signs_before(&self, op: UnaryOp, span: Span) -> Result<u8, ParseFailure>
         ensures counts { IfOk result (λ n. n < 4 → StandsOn (Some (waiting self.now)) (sign op n)) }
         ensures refused { IfErr result (IsAbout span) }
+        ensures complete { MatchResult result
+            (λ n. 4 ≤ n → TakesNoSign op (Some (waiting self.now)))
+            (λ _. TakesNoSign op (Some (waiting self.now))) }
     {
         match self {
             Operation::Prefix(other, _, before) if *other == op => Ok(before.saturating_add(1)),
@@ -105,7 +109,8 @@ impl Operation {
 
     /// Whether a conditional may be its last operand.
     pub(crate) fn takes_conditional(&self) -> bool
-        ensures { IsTrue result → least_operand (Some (waiting self.now)) ≤ 0 }
+        ensures fits { IsTrue result → least_operand (Some (waiting self.now)) ≤ 0 }
+        ensures complete { least_operand (Some (waiting self.now)) ≤ 0 → IsTrue result }
     {
         match self {
             Operation::Prefix(_, _, _) => false,

@@ -3,6 +3,7 @@ ghost use Rattle.std.specs.Prelude.{
   ◌≡◌,
   ◌<◌,
   ◌≤◌,
+  ◌^◌,
   IfErr,
   IfOk,
   IfSome,
@@ -17,9 +18,10 @@ ghost use Rattle.std.specs.Prelude.{
   false,
   length,
   max,
+  ℕ,
 };
 ghost use Rattle.cedar_terms.specs.Literals.{bare_literal};
-ghost use Rattle.cedar_builders.specs.BareExpr.{Lit};
+ghost use Rattle.cedar_builders.specs.BareExpr.{BareExpr, Lit};
 ghost use Rattle.cedar_exprs.specs.BareExpr.{bare_expr};
 ghost use Rattle.cedar_terms.specs.Precedences.{precedence_number};
 ghost use Rattle.cedar_terms.specs.declared.precedence.Precedence.TheVariants as precedences;
@@ -29,6 +31,8 @@ ghost use Rattle.semantics_grammar.specs.Grammar.{Primary, Stands};
 ghost use Rattle.semantics_grammar.specs.Lexemes.{Lexeme, lexeme_of};
 ghost use Rattle.semantics_grammar.specs.Written.{is_number_alone};
 ghost use Rattle.cedar_parser.specs.Meant.{
+  AreLexemes,
+  HasEnd,
   HasNone,
   IsParse,
   HasNoMinus,
@@ -42,14 +46,36 @@ ghost use Rattle.cedar_parser.specs.Meant.{
   WaitsBelow,
   first_kind,
   from,
+  here,
   operator,
   waits,
 };
+ghost use Rattle.std.specs.Str.Parse.{digits_value};
+ghost use Rattle.cedar_lexer.specs.Grammar.{IsTokenText};
+ghost use Rattle.semantics_grammar.specs.Lexemes.{lexeme};
+ghost use Rattle.cedar_parser.specs.Ahead.{IsInfixOf, TakesNoSign, own_at, own_of};
+ghost use Rattle.cedar_parser.specs.Complete.{
+  IsAhead,
+  IsBehind,
+  IsOpening,
+  KeepsOn,
+  StaysAhead,
+};
+ghost use Rattle.cedar_parser.specs.Meant.{waiting};
 ghost use Rattle.cedar_parser.specs.SoFar.{IsFree, IsSign};
-ghost use Rattle.cedar_parser.specs.Waiting.{StandsOn, least_operand, last_of, operator_of, sign};
+ghost use Rattle.cedar_parser.specs.Waiting.{
+  StandsOn,
+  least_operand,
+  last_of,
+  operator_of,
+  sign,
+  waiting_precedence,
+};
+ghost use Rattle.cedar_lexer.specs.declared.error.ParseError.TheVariants.{Memory as NoMemory};
 ghost use Rattle.cedar_lexer.specs.declared.parse_failure.ParseFailure.TheVariants.{Memory};
 ghost use Rattle.cedar_parser.specs.Refused.{
   IsAbout,
+  IsBefore,
   IsFirst,
   IsStep,
   IsToldIn,
@@ -58,6 +84,7 @@ ghost use Rattle.cedar_parser.specs.Refused.{
   operand_start,
   open_start,
   start_of,
+  stop_of,
 };
 
 use crate::groups::{Group, GroupKind, RowKind};
@@ -65,7 +92,9 @@ use crate::infix::Infix;
 use crate::leaves::{Path, integer, text_of};
 use crate::nodes::Nodes;
 use crate::operand::{Operand, Operation, Step};
+use crate::signs::told_of_signs;
 use cedar_exprs::{Expr, ExprKind};
+use cedar_lexer::laws::tokens_are_unique;
 use cedar_lexer::{ParseError, ParseFailure, Span, Token, TokenKind, TokenStream, tokenize};
 use cedar_terms::{Literal, Precedence, UnaryOp};
 use std::alloc::Global;
@@ -84,11 +113,14 @@ use std::rc::RcStr;
 /// It takes any name for that of a function or a method, `unknown("x")` for an unknown, and refuses
 /// only what is no expression: what is outside the grammar, an integer outside 64 bits, a key that
 /// stands twice in a record, and a method of sets or tags with another number of arguments. Beyond
-/// the grammar it takes texts in quotes in a path behind `has`. `true && false` stays as it stands;
+/// the grammar it takes texts in quotes in a path behind `has`. A text that is an expression is
+/// refused only when memory runs out. `true && false` stays as it stands;
 /// `a is T in b` shares `a` between two tests. No depth of the text ends it.
 pub fn parse_expr(alloc: Global, text: &str) -> Result<Expr, ParseError>
     ensures parses { IfOk result (λ e. IsParse text.now (bare_expr e)) }
     ensures told { IfErr result (IsToldIn text.now) }
+    ensures complete { IfErr result (λ e.
+        (tree : BareExpr) → IsParse text.now tree → e ≡ NoMemory) }
 {
     parse_with_values(alloc, text, &HashMap::new(alloc))
 }
@@ -103,6 +135,8 @@ pub fn parse_with_values(
 ) -> Result<Expr, ParseError>
     ensures parses { HasNone values.now → IfOk result (λ e. IsParse text.now (bare_expr e)) }
     ensures told { IfErr result (IsToldIn text.now) }
+    ensures complete { IfErr result (λ e.
+        (tree : BareExpr) → IsParse text.now tree → e ≡ NoMemory) }
 {
     match parse(alloc, text, values) {
         Ok(expr) => Ok(expr),
@@ -113,23 +147,48 @@ pub fn parse_with_values(
 fn parse(alloc: Global, text: &str, values: &HashMap<RcStr, Expr>) -> Result<Expr, ParseFailure>
     ensures parses { HasNone values.now → IfOk result (λ e. IsParse text.now (bare_expr e)) }
     ensures refused { IfErr result (IsWithin (length text.now)) }
+    ensures complete { IfErr result (λ e.
+        (tree : BareExpr) → IsParse text.now tree → e ≡ Memory) }
 {
+    tokens_are_unique();
     let found = tokenize(alloc, text)?;
-    let mut tokens = TokenStream::new(&found);
+    let source = RcStr::from_str(alloc, text)?;
+    match parse_tokens(alloc, source, TokenStream::new(&found), values) {
+        Ok(expr) => Ok(expr),
+        Err(failure) => Err(told_of_signs(TokenStream::new(&found), failure)),
+    }
+}
+
+/// Parses all tokens of a stream as one expression. They stand in the text `source`; `values` are
+/// as in `parse_with_values`. What the tokens lack is told of the place where the stream ends.
+pub fn parse_tokens(
+    alloc: Global,
+    source: RcStr,
+    tokens: TokenStream<'_>,
+    values: &HashMap<RcStr, Expr>,
+) -> Result<Expr, ParseFailure>
+    requires { IsBefore 0 tokens }
+    ensures parses { HasNone values.now → HasEnd tokens.entry → AreLexemes (here tokens.entry) →
+        IfOk result (λ e. Stands (here tokens.entry) (bare_expr e)) }
+    ensures refused { IfErr result (IsWithin (stop_of tokens.entry)) }
+    ensures complete { HasEnd tokens.entry → AreLexemes (here tokens.entry) →
+        IfErr result (λ e. (tree : BareExpr) → Stands (here tokens.entry) tree → e ≡ Memory) }
+{
+    let mut left = tokens;
     let mut parser = Parser {
         nodes: Nodes {
             alloc,
-            source: RcStr::from_str(alloc, text)?,
+            source,
             values,
         },
         operations: Vec::new(alloc),
         groups: Vec::new(alloc),
     };
     let mut operand = None;
-    'tokens: while let Some(token) = tokens.next() {
-        operand = parser.step(operand, token, &mut tokens)?;
+    'tokens: while let Some(token) = left.next() {
+        operand = parser.step(operand, token, &mut left)?;
     }
-    parser.end(operand, tokens.first())
+    parser.end(operand, left.first())
 }
 
 /// What is open so far: the operations that wait for the operand which comes next, and the groups
@@ -154,6 +213,9 @@ impl Parser<'_> {
         ensures parses { ParsesOn
             (λ ts. IsParsed ts self.old operand (from token.entry tokens.old))
             tokens.old result self.new tokens.new }
+        ensures complete { KeepsOn
+            (IsAhead self.old operand (from token.entry tokens.old))
+            tokens.old result self.new tokens.new }
         ensures left { tokens_left tokens.new ≤ tokens_left tokens.old }
         ensures goes_on { IsStep tokens.old tokens.new self.new result }
     {
@@ -168,6 +230,9 @@ impl Parser<'_> {
         requires { IsFirst (open_start self.old) token tokens.old }
         ensures parses { ParsesOn
             (λ ts. IsParsed ts self.old None (from token.entry tokens.old))
+            tokens.old result self.new tokens.new }
+        ensures complete { KeepsOn
+            (IsAhead self.old None (from token.entry tokens.old))
             tokens.old result self.new tokens.new }
         ensures left { tokens_left tokens.new ≤ tokens_left tokens.old }
         ensures goes_on { IsStep tokens.old tokens.new self.new result }
@@ -197,6 +262,8 @@ impl Parser<'_> {
             → Primary (lexeme_of token.entry ∷ rest) (Lit (bare_literal literal)) rest
             → is_number_alone (lexeme_of token.entry ∷ rest) ≡ false
             → IfOk result (λ h. IsParsed ts self.new h rest) }
+        ensures complete { (rest : List Lexeme) → IsBehind self.old precedences.Member rest
+            → StaysAhead self.new rest result }
         ensures opened { MatchResult result
             (IsUpTo (max (open_start self.old) token.entry.span.start) self.new)
             (λ e. e ≡ Memory) }
@@ -213,6 +280,10 @@ impl Parser<'_> {
             → digits.entry.kind ≡ kinds.Digits
             → next ≡ first_kind rest
             → IfOk result (λ h. IsParsed ts self.new h rest) }
+        ensures complete { (rest : List Lexeme)
+            → IsAhead self.old None (lexeme_of digits.entry ∷ rest)
+            → digits.entry.kind ≡ kinds.Digits
+            → next ≡ first_kind rest → StaysAhead self.new rest result }
         ensures opened { MatchResult result
             (IsUpTo (max (open_start self.old) digits.entry.span.start) self.new)
             (IsAbout digits.entry.span) }
@@ -234,6 +305,9 @@ impl Parser<'_> {
             → digits.entry.kind ≡ kinds.Digits
             → IsFree (last_of None (waits self.old)) (lexeme_of digits.entry ∷ rest)
             → IfOk result (λ h. IsParsed ts self.new h rest) }
+        ensures complete { (rest : List Lexeme) → IsTokenText digits.entry.text.now kinds.Digits
+            → digits_value 10 digits.entry.text.now < 2 ^ 63
+            → IsBehind self.old precedences.Member rest → StaysAhead self.new rest result }
         ensures opened { MatchResult result
             (IsUpTo (max (open_start self.old) digits.entry.span.start) self.new)
             (IsAbout digits.entry.span) }
@@ -250,6 +324,9 @@ impl Parser<'_> {
             → IsParsedBehindMinus ts self.old (lexeme_of digits.entry ∷ rest)
             → digits.entry.kind ≡ kinds.Digits
             → IfOk result (λ h. IsParsed ts self.new h rest) }
+        ensures complete { (rest : List Lexeme) → IsTokenText digits.entry.text.now kinds.Digits
+            → digits_value 10 digits.entry.text.now ≤ 2 ^ 63
+            → IsBehind self.old precedences.Unary rest → StaysAhead self.new rest result }
         ensures opened { MatchResult result
             (IsUpTo (max (open_start self.old) start) self.new)
             (IsAbout digits.entry.span) }
@@ -297,6 +374,9 @@ impl Parser<'_> {
             (λ ts. (first.entry.kind ≡ kinds.Word)
             × IsParsed ts self.old None (from first.entry tokens.old))
             tokens.old result self.new tokens.new }
+        ensures complete { first.entry.kind ≡ kinds.Word → KeepsOn
+            (IsAhead self.old None (from first.entry tokens.old))
+            tokens.old result self.new tokens.new }
         ensures left { tokens_left tokens.new ≤ tokens_left tokens.old }
         ensures goes_on { IsStep tokens.old tokens.new self.new result }
     {
@@ -320,6 +400,9 @@ impl Parser<'_> {
             → IsParsed ts self.old None (lexeme_of token.entry ∷ rest)
             → IsSign op token.entry.kind
             → IfOk result (λ h. IsParsed ts self.new h rest) }
+        ensures complete { (rest : List Lexeme)
+            → IsAhead self.old None (lexeme_of token.entry ∷ rest)
+            → IsSign op token.entry.kind → StaysAhead self.new rest result }
         ensures opened { MatchResult result
             (IsUpTo (max (open_start self.old) token.entry.span.start) self.new)
             (IsAbout token.entry.span) }
@@ -338,6 +421,9 @@ impl Parser<'_> {
         ensures counts { IfOk result (λ n. n < 4 →
             StandsOn (last_of None (waits self.now)) (sign op n)) }
         ensures refused { IfErr result (IsAbout span) }
+        ensures complete { MatchResult result
+            (λ n. 4 ≤ n → TakesNoSign op (last_of None (waits self.now)))
+            (λ _. TakesNoSign op (last_of None (waits self.now))) }
     {
         match self.operations.last() {
             Some(operation) => operation.signs_before(op, span),
@@ -351,6 +437,9 @@ impl Parser<'_> {
             → IsParsed ts self.old None (lexeme_of token.entry ∷ rest)
             → token.entry.kind ≡ kinds.If
             → IfOk result (λ h. IsParsed ts self.new h rest) }
+        ensures complete { (rest : List Lexeme)
+            → IsAhead self.old None (lexeme_of token.entry ∷ rest)
+            → token.entry.kind ≡ kinds.If → StaysAhead self.new rest result }
         ensures opened { MatchResult result
             (IsUpTo (max (open_start self.old) token.entry.span.start) self.new)
             (IsAbout token.entry.span) }
@@ -364,7 +453,8 @@ impl Parser<'_> {
 
     // Whether a conditional may stand here.
     fn takes_conditional(&self) -> bool
-        ensures { IsTrue result → least_operand (last_of None (waits self.now)) ≤ 0 }
+        ensures fits { IsTrue result → least_operand (last_of None (waits self.now)) ≤ 0 }
+        ensures complete { least_operand (last_of None (waits self.now)) ≤ 0 → IsTrue result }
     {
         match self.operations.last() {
             Some(operation) => operation.takes_conditional(),
@@ -377,6 +467,9 @@ impl Parser<'_> {
         requires { IsFirst (max (open_start self.old) operand.span.start) token tokens.old }
         ensures parses { ParsesOn
             (λ ts. IsParsed ts self.old (Some operand) (from token.entry tokens.old))
+            tokens.old result self.new tokens.new }
+        ensures complete { KeepsOn
+            (IsBehind self.old operand.precedence (from token.entry tokens.old))
             tokens.old result self.new tokens.new }
         ensures left { tokens_left tokens.new ≤ tokens_left tokens.old }
         ensures goes_on { IsStep tokens.old tokens.new self.new result }
@@ -399,6 +492,9 @@ impl Parser<'_> {
             (λ ts. IsTestKind token.entry.kind
             × IsParsed ts self.old (Some operand) (from token.entry tokens.old))
             tokens.old result self.new tokens.new }
+        ensures complete { IsTestKind token.entry.kind → KeepsOn
+            (IsBehind self.old operand.precedence (from token.entry tokens.old))
+            tokens.old result self.new tokens.new }
         ensures left { tokens_left tokens.new ≤ tokens_left tokens.old }
         ensures goes_on { IsStep tokens.old tokens.new self.new result }
     {
@@ -417,6 +513,10 @@ impl Parser<'_> {
             → IsParsed ts self.old (Some operand) (lexeme_of token.entry ∷ rest)
             → operator_of token.entry.kind ≡ Some (operator «infix»)
             → IfOk result (λ h. IsParsed ts self.new h rest) }
+        ensures complete { (rest : List Lexeme)
+            → IsBehind self.old operand.precedence (lexeme_of token.entry ∷ rest)
+            → operator_of token.entry.kind ≡ Some (operator «infix»)
+            → StaysAhead self.new rest result }
         ensures opened { MatchResult result
             (IsUpTo (max (open_start self.old) operand.span.start) self.new)
             (IsAbout token.entry.span) }
@@ -440,6 +540,11 @@ impl Parser<'_> {
             → IfOk result (λ h. IsParsed ts self.new (Some h) rest) }
         ensures below { IfOk result (λ h. WaitsBelow own self.new
             × (precedence_number least ≤ precedence_number h.precedence)) }
+        ensures complete { (k : TokenKind) (w : List ℕ) (ts : List Lexeme)
+            → IsInfixOf (precedence_number own) (precedence_number least) k
+            → IsBehind self.old operand.precedence (lexeme k w ∷ ts) → MatchResult result
+            (λ h. IsBehind self.new h.precedence (lexeme k w ∷ ts))
+            (λ e. e ≡ Memory) }
         ensures opened { MatchResult result
             (λ h. IsUpTo (max (open_start self.old) operand.span.start) self.new (Some h))
             (IsAbout token.entry.span) }
@@ -456,6 +561,9 @@ impl Parser<'_> {
         ensures parses { (ts rest : List Lexeme) → IsParsed ts self.old (Some last) rest
             → IfOk result (λ h. IsParsed ts self.new (Some h) rest) }
         ensures below { IfOk result (λ _. WaitsBelow least self.new) }
+        ensures complete { (ts : List Lexeme) → own_at ts ≤ precedence_number least
+            → IsBehind self.old last.precedence ts
+            → IfOk result (λ h. IsBehind self.new h.precedence ts) }
         ensures opened { MatchResult result
             (λ h. IsUpTo (max (open_start self.old) last.span.start) self.new (Some h))
             (λ e. e ≡ Memory) }
@@ -475,6 +583,8 @@ impl Parser<'_> {
             (λ o. IsPopped self.old o self.new) }
         ensures fewer { IfSome result (λ _.
             length self.new.operations.items < length self.old.operations.items) }
+        ensures tight { IfSome result (λ o.
+            precedence_number least ≤ precedence_number (waiting_precedence (waiting o))) }
         ensures opened { open_start self.new ≤ open_start self.old }
         ensures start { IfSome result (λ o. start_of o ≤ open_start self.old) }
     {
@@ -491,6 +601,9 @@ impl Parser<'_> {
         ensures parses { ParsesOn
             (λ ts. IsParsed ts self.old (Some last) (from token.entry tokens.old))
             tokens.old result self.new tokens.new }
+        ensures complete { own_of token.entry.kind ≡ 0 → KeepsOn
+            (IsBehind self.old last.precedence (from token.entry tokens.old))
+            tokens.old result self.new tokens.new }
         ensures left { tokens_left tokens.new ≤ tokens_left tokens.old }
         ensures goes_on { IsStep tokens.old tokens.new self.new result }
     {
@@ -506,6 +619,7 @@ impl Parser<'_> {
         ensures parses { IfOk result (λ e. (ts : List Lexeme) →
             IsParsed ts self.old operand [] → Stands ts (bare_expr e)) }
         ensures refused { IfErr result (IsAbout end.entry.span) }
+        ensures complete { IfErr result (λ e. IsAhead self.old operand [] → e ≡ Memory) }
     {
         let Some(last) = operand else {
             return Err(ParseFailure::Syntax(end.span, "an expression is wanted here"));
@@ -522,6 +636,8 @@ impl Parser<'_> {
     pub(crate) fn open(&mut self, kind: GroupKind, start: usize) -> Step
         ensures parses { (ts rest : List Lexeme) → IsOpenParsed ts self.old kind rest
             → IfOk result (λ h. IsParsed ts self.new h rest) }
+        ensures complete { (rest : List Lexeme) → IsOpening self.old kind rest
+            → StaysAhead self.new rest result }
         ensures opened { MatchResult result
             (IsUpTo (max (open_start self.old) start) self.new)
             (λ e. e ≡ Memory) }
@@ -539,6 +655,7 @@ impl Parser<'_> {
 // What `.` or `[` stands behind.
 fn member(operand: Operand, token: Token<'_>) -> Result<Operand, ParseFailure>
     ensures same { IfOk result (λ h. (h ≡ operand) × (operand.precedence ≡ precedences.Member)) }
+    ensures complete { IfErr result (λ _. precedence_number operand.precedence < 7) }
     ensures span { MatchResult result (λ h. h.span ≡ operand.span) (IsAbout token.entry.span) }
 {
     match operand.precedence {

@@ -4,6 +4,7 @@ ghost use Rattle.cedar_terms.specs.Precedences.{precedence_number};
 ghost use Rattle.cedar_terms.specs.declared.precedence.Precedence.TheVariants as precedences;
 ghost use Rattle.cedar_lexer.specs.declared.token.TokenKind.TheVariants as kinds;
 ghost use Rattle.semantics_grammar.specs.Lexemes.{lexeme};
+ghost use Rattle.cedar_parser.specs.Complete.{IsBehind, KeepsOn};
 ghost use Rattle.cedar_parser.specs.Meant.{IsParsed, ParsesOn, WaitsBelow, here};
 ghost use Rattle.cedar_lexer.specs.TokenStreams.{tokens_left};
 ghost use Rattle.cedar_parser.specs.Refused.{IsBefore, IsStep, open_start};
@@ -24,6 +25,9 @@ impl Parser<'_> {
         ensures parses { ParsesOn
             (λ ts. (operand.precedence ≡ precedences.Member) × ((w : List ℕ)
             × IsParsed ts self.old (Some operand) (lexeme kinds.Dot w ∷ here tokens.old)))
+            tokens.old result self.new tokens.new }
+        ensures complete { (w : List ℕ) → KeepsOn
+            (IsBehind self.old operand.precedence (lexeme kinds.Dot w ∷ here tokens.old))
             tokens.old result self.new tokens.new }
         ensures left { tokens_left tokens.new ≤ tokens_left tokens.old }
         ensures goes_on { IsStep tokens.old tokens.new self.new result }
@@ -46,6 +50,9 @@ impl Parser<'_> {
             (λ ts. (operand.precedence ≡ precedences.Member) × ((w : List ℕ)
             × IsParsed ts self.old (Some operand) (lexeme kinds.OpenSquare w ∷ here tokens.old)))
             tokens.old result self.new tokens.new }
+        ensures complete { (w : List ℕ) → KeepsOn
+            (IsBehind self.old operand.precedence (lexeme kinds.OpenSquare w ∷ here tokens.old))
+            tokens.old result self.new tokens.new }
         ensures left { tokens_left tokens.new ≤ tokens_left tokens.old }
         ensures goes_on { IsStep tokens.old tokens.new self.new result }
     {
@@ -62,6 +69,9 @@ impl Parser<'_> {
             (λ ts. WaitsBelow precedences.Relation self.old
             × (4 ≤ precedence_number left.precedence) × ((w : List ℕ)
             × IsParsed ts self.old (Some left) (lexeme kinds.Has w ∷ here tokens.old)))
+            tokens.old result self.new tokens.new }
+        ensures complete { (w : List ℕ) → WaitsBelow precedences.Relation self.old → KeepsOn
+            (IsBehind self.old left.precedence (lexeme kinds.Has w ∷ here tokens.old))
             tokens.old result self.new tokens.new }
         ensures left { tokens_left tokens.new ≤ tokens_left tokens.old }
         ensures goes_on { IsStep tokens.old tokens.new self.new result }
@@ -85,6 +95,9 @@ impl Parser<'_> {
             × (4 ≤ precedence_number left.precedence) × ((w : List ℕ)
             × IsParsed ts self.old (Some left) (lexeme kinds.Like w ∷ here tokens.old)))
             tokens.old result self.new tokens.new }
+        ensures complete { (w : List ℕ) → WaitsBelow precedences.Relation self.old → KeepsOn
+            (IsBehind self.old left.precedence (lexeme kinds.Like w ∷ here tokens.old))
+            tokens.old result self.new tokens.new }
         ensures left { tokens_left tokens.new ≤ tokens_left tokens.old }
         ensures goes_on { IsStep tokens.old tokens.new self.new result }
     {
@@ -105,6 +118,9 @@ impl Parser<'_> {
             (λ ts. WaitsBelow precedences.Relation self.old
             × (4 ≤ precedence_number left.precedence) × ((w : List ℕ)
             × IsParsed ts self.old (Some left) (lexeme kinds.Is w ∷ here tokens.old)))
+            tokens.old result self.new tokens.new }
+        ensures complete { (w : List ℕ) → WaitsBelow precedences.Relation self.old → KeepsOn
+            (IsBehind self.old left.precedence (lexeme kinds.Is w ∷ here tokens.old))
             tokens.old result self.new tokens.new }
         ensures left { tokens_left tokens.new ≤ tokens_left tokens.old }
         ensures goes_on { IsStep tokens.old tokens.new self.new result }

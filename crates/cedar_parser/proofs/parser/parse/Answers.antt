@@ -1,17 +1,11 @@
-use Rattle.std.proofs.Common.{◌≡◌, ◌∙◌, Err, ap, subst, sym, max, arith, rules}
+use Rattle.std.proofs.Common.{◌≡◌, ◌∙◌, Err, subst, sym, rules}
+use Rattle.cedar_exprs.specs.BareExpr.{bare_expr}
 use Rattle.cedar_lexer.specs.TokenStreams.{IsEndBehind, end_of}
-use Rattle.cedar_parser.specs.Meant.{IsParsed, here}
-use Rattle.cedar_parser.specs.Refused.{greatest, group_start, open_start, operand_start, start_of}
-use Rattle.cedar_parser.proofs.InOrder.{earlier, taken}
-use Rattle.cedar_parser.proofs.TakenSteps.{end_kept, taken_here, untouched_here}
-use Rattle.cedar_parser.proofs.Tokenized.{all_before, all_fit, stuck_within}
-use Rattle.cedar_parser.proofs.Whole.{begun, ended_parse}
+use Rattle.cedar_parser.specs.Refused.{IsWithin}
+use Rattle.cedar_parser.proofs.Tokenized.{all_before, stopped_within, stuck_within}
+use Rattle.cedar_parser.proofs.CompleteWhole.{text_stands}
+use Rattle.cedar_parser.proofs.Whole.{lexemes_of_text, text_parsed}
 use Rattle.cedar_parser.proofs.parser.parse.Goals as goal
-
-pub step-requires : goal.step-requires
-step-requires c =
-    let at = max (open_start c.tokens.parser) (operand_start c.tokens.operand) in
-    let k = taken at c.tokens.tokens c.next.new.self c.in-Some.token c.tokens.invariant.before c.in-Some.ensures.gives in k.0
 
 pub returns-in_err-found-clause-refused : goal.returns-in_err-found-clause-refused
 returns-in_err-found-clause-refused c =
@@ -19,41 +13,51 @@ returns-in_err-found-clause-refused c =
     let same : c.from_residual.result ≡ Err e = search rules in
     rw same (stuck_within c.args.text.now e c.in_err-found.ensures)
 
-pub tokens-init : goal.tokens-init
-tokens-init c =
+pub parse_tokens-requires : goal.parse_tokens-requires
+parse_tokens-requires c =
+    let tokens = c.new.result in
+    let same = c.deref.ensures.value in
+    all_before c.args.text.now c.in_ok-found.found.items tokens c.in_ok-found.ensures (c.new.ensures.all ∙ same)
+    (subst (λ ts. IsEndBehind ts (end_of tokens)) same c.new.ensures.end)
+
+pub returns-in-Ok-clause-parses : goal.returns-in-Ok-clause-parses
+returns-in-Ok-clause-parses c none =
     let text = c.args.text.now in
     let found = c.in_ok-found.found.items in
-    let tokens = c.new-tokens.result in
-    let first : greatest start_of c.new.result.items ≡ 0 = ap (greatest start_of) c.new.ensures.items in
-    let second : greatest group_start c.new-2.result.items ≡ 0 = ap (greatest group_start) c.new-2.ensures.items in
-    let same = c.deref.ensures.value in
-    let behind = subst (λ ts. IsEndBehind ts (end_of tokens)) same c.new-tokens.ensures.end in
-    record {
-      before = earlier 0 _ tokens (omega (arith, first, second)) (all_before text found tokens c.in_ok-found.ensures (c.new-tokens.ensures.all ∙ same) behind);
-      fits = all_fit text found tokens c.in_ok-found.ensures behind;
-      parses = λ none.
-          (begun text found tokens _ c.in_ok-found.ensures (c.new-tokens.ensures.all ∙ same) c.new.ensures.items c.new-2.ensures.items none, behind.0);
-    }
+    let tokens = c.new.result in
+    let all = c.new.ensures.all ∙ c.deref.ensures.value in
+    text_parsed text found tokens (bare_expr c.in-Ok.expr) c.in_ok-found.ensures all
+    (c.in-Ok.ensures.parses none c.new.ensures.end.0 (lexemes_of_text text found tokens c.in_ok-found.ensures all))
 
-pub tokens-preserved : goal.tokens-preserved
-tokens-preserved c =
-    let at = max (open_start c.tokens.parser) (operand_start c.tokens.operand) in
-    let mid = c.next.new.self in
-    let t = c.in-Some.token in
-    let k = taken at c.tokens.tokens mid t c.tokens.invariant.before c.in-Some.ensures.gives in
-    let left = c.in_ok-operand.ensures.goes_on in
-    let first = here c.new-tokens.result in
-    record {
-      before = left.before;
-      fits = omega (arith, c.tokens.invariant.fits, left.stop, k.1);
-      parses = λ none.
-          (let p = c.tokens.invariant.parses none in
-          c.in_ok-operand.ensures.parses first (end_kept c.tokens.tokens mid c.in-Some.ensures.gives.1 p.1)
-          (subst (IsParsed first c.tokens.parser c.tokens.operand) (taken_here c.tokens.tokens mid t c.in-Some.ensures.gives) p.0));
-    }
+pub told_of_signs-requires : goal.told_of_signs-requires
+told_of_signs-requires c =
+    let tokens = c.new-in-Err.result in
+    let same = c.deref-in-Err.ensures.value in
+    all_before c.args.text.now c.in_ok-found.found.items tokens c.in_ok-found.ensures (c.new-in-Err.ensures.all ∙ same)
+    (subst (λ ts. IsEndBehind ts (end_of tokens)) same c.new-in-Err.ensures.end)
 
-pub returns-clause-parses : goal.returns-clause-parses
-returns-clause-parses c none =
-    let same = c.deref.ensures.value in
-    ended_parse c.args.text.now c.in_ok-found.found.items c.new-tokens.result c.tokens.tokens _ c.tokens.operand c.end.result c.in_ok-found.ensures
-    (c.new-tokens.ensures.all ∙ same) c.in_default.ensures.gives.1 (c.tokens.invariant.parses none).0 c.end.ensures.parses
+pub returns-clause-refused : goal.returns-clause-refused
+returns-clause-refused c =
+    let first = c.new.result in
+    let tokens = c.new-in-Err.result in
+    let found = c.in_ok-found.found.items in
+    let before = subst (λ ts. IsEndBehind ts (end_of first)) c.deref.ensures.value c.new.ensures.end in
+    let behind = subst (λ ts. IsEndBehind ts (end_of tokens)) c.deref-in-Err.ensures.value c.new-in-Err.ensures.end in
+    let within = subst (λ n. IsWithin n c.in-Err.failure) (before.3 ∙ sym behind.3) c.in-Err.ensures.refused in
+    stopped_within c.args.text.now found tokens c.told_of_signs.result c.in_ok-found.ensures behind (c.told_of_signs.ensures.within within)
+
+pub returns-in_err-found-clause-complete : goal.returns-in_err-found-clause-complete
+returns-in_err-found-clause-complete c =
+    let e = c.in_err-found.field-0.0 in
+    let same : c.from_residual.result ≡ Err e = search rules in
+    rw same (λ tree p. c.tokens_are_unique.ensures.accepted c.args.text.now p.0 e p.1 c.in_err-found.ensures)
+
+pub returns-clause-complete : goal.returns-clause-complete
+returns-clause-complete c tree p =
+    let text = c.args.text.now in
+    let found = c.in_ok-found.found.items in
+    let tokens = c.new.result in
+    let all = c.new.ensures.all ∙ c.deref.ensures.value in
+    c.told_of_signs.ensures.memory
+    (c.in-Err.ensures.complete c.new.ensures.end.0 (lexemes_of_text text found tokens c.in_ok-found.ensures all) tree
+    (text_stands text found tokens tree c.tokens_are_unique.ensures.same c.in_ok-found.ensures all p))

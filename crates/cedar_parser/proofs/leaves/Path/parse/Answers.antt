@@ -1,7 +1,10 @@
+use Rattle.std.proofs.Common.{rules}
+use Rattle.std.proofs.Common.{refl}
+use Rattle.cedar_parser.proofs.CompleteLeaves.{path_ended}
 use Rattle.std.proofs.Common.{◌++◌, ◌∙◌, ap, refl, string_bytes, subst, arith}
 use Rattle.std.specs.Prelude.{codes}
 use Rattle.std.specs.Result.{is_ok}
-use Rattle.cedar_parser.specs.Meant.{AreLexemes, from, here}
+use Rattle.cedar_parser.specs.Meant.{AreLexemes, from}
 use Rattle.semantics_grammar.specs.Written.{ArePathIds}
 use Rattle.cedar_parser.proofs.InOrder.{left_from, pair_taken}
 use Rattle.cedar_parser.proofs.Paths.{appended, first_id, ids_taken, joined, pair_lexemes}
@@ -56,3 +59,6 @@ returns-clause-end c = c.in_default.ensures.gives.1 ∙ c.identifiers.invariant.
 pub returns-clause-lexemes : goal.returns-clause-lexemes
 returns-clause-lexemes c l =
     subst AreLexemes (untouched_here c.identifiers.tokens c.take_pair.new.self c.in_default.ensures.gives) (c.identifiers.invariant.lexemes l)
+
+pub returns-clause-complete : goal.returns-clause-complete
+returns-clause-complete c = path_ended c.identifiers.tokens c.take_pair.new.self (λ b. search rules) c.in_default.ensures.gives

@@ -1,3 +1,6 @@
+use Rattle.std.proofs.Common.{Err}
+use Rattle.std.proofs.Common.{refl}
+use Rattle.cedar_parser.proofs.CompleteRows.{follows, rest_taken, text_taken}
 use Rattle.std.proofs.Common.{◌≡◌, ◌∙◌, ap, rules, string_bytes, subst, sym}
 use Rattle.cedar_names.specs.Names.{IsNameOf}
 use Rattle.cedar_names.specs.PlainNames.{bare_name}
@@ -35,3 +38,28 @@ returns-clause-parses c ts w colons ids lex =
       l.1,
       c.in_ok-id.ensures.gives.1.1,
     )
+
+pub returns-in_err-id-clause-complete : goal.returns-in_err-id-clause-complete
+returns-in_err-id-clause-complete c =
+    let x = c.in_err-id.field-0.0 in
+    let same : c.from_residual.result ≡ Err x = search rules in
+    rw same (λ n t q rest named plain e text. (let quoted = follows kinds.Quoted q rest c.args.tokens.now refl e in absurd (search rules)))
+
+pub returns-in_err-name-clause-complete : goal.returns-in_err-name-clause-complete
+returns-in_err-name-clause-complete c =
+    let x = c.in_err-name.field-0.0 in
+    let same : c.from_residual-in_err-name.result ≡ Err x = search rules in
+    rw same (λ n t q rest named plain e text. c.in_err-name.ensures.complete n named plain)
+
+pub returns-in_err-text_of-clause-complete : goal.returns-in_err-text_of-clause-complete
+returns-in_err-text_of-clause-complete c =
+    let x = c.in_err-text_of.field-0.0 in
+    let same : c.from_residual-in_err-text_of.result ≡ Err x = search rules in
+    rw same (λ n t q rest named plain e text.
+    c.in_err-text_of.ensures.complete t
+    (subst (λ w. IsTextOf w t)
+    (text_taken kinds.Quoted q rest c.in_ok-id.id c.args.tokens.now c.expect.new.self e c.in_ok-id.ensures.gives.1) text))
+
+pub returns-clause-takes : goal.returns-clause-takes
+returns-clause-takes c q rest e =
+    (rest_taken kinds.Quoted q rest c.in_ok-id.id c.args.tokens.now c.expect.new.self e c.in_ok-id.ensures.gives.1, c.in_ok-id.ensures.gives.1.1)

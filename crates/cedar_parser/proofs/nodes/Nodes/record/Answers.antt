@@ -1,6 +1,11 @@
+use Rattle.cedar_parser.proofs.CompleteTexts.{distinct_accepted}
 use Rattle.cedar_exprs.specs.BareExpr.{bare_expr}
 use Rattle.cedar_parser.proofs.Records.{record_tree}
 use Rattle.cedar_parser.proofs.nodes.Nodes.record.Goals as goal
 
 pub returns-in-Ok-clause-tree : goal.returns-in-Ok-clause-tree
 returns-in-Ok-clause-tree c = record_tree c.args.pairs.items (bare_expr c.in-Ok.expr) c.in-Ok.ensures.made.tree c.in-Ok.ensures.distinct
+
+pub returns-in-Err-clause-complete : goal.returns-in-Err-clause-complete
+returns-in-Err-clause-complete c d =
+    c.refused_record.ensures.memory (distinct_accepted bare_expr c.args.pairs.items c.in-Err.error c.in-Err.ensures.refuses d)

@@ -1,3 +1,14 @@
+use Rattle.std.proofs.Common.{ap, refl, subst, sym}
+use Rattle.cedar_lexer.specs.declared.token.TokenKind.TheVariants as kinds
+use Rattle.cedar_terms.specs.declared.precedence.Precedence.TheVariants as precedences
+use Rattle.cedar_parser.specs.Ahead.{Rest}
+use Rattle.cedar_parser.specs.Meant.{AreLexemes, here, open_groups, waits}
+use Rattle.semantics_grammar.specs.Written.{IsTextOf}
+use Rattle.cedar_parser.proofs.AheadSteps.{index_ahead}
+use Rattle.cedar_parser.proofs.CompleteSteps.{operand_ahead}
+use Rattle.cedar_parser.proofs.CompleteRows.{rest_taken, text_taken}
+use Rattle.cedar_parser.proofs.CompleteTokens.{first_is, no_end}
+use Rattle.cedar_parser.specs.Meant.{first_kind}
 use Rattle.std.specs.Rc.{rc_str_bytes}
 use Rattle.std.proofs.Common.{◌∙◌}
 use Rattle.cedar_parser.proofs.TakenSteps.{bracket_parsed, end_kept}
@@ -33,3 +44,44 @@ returns-clause-parses c ts end h = (
       c.in_ok-attr.ensures.text c.in_ok-last.ensures.gives.0 c.in_ok-last.ensures.gives.1 c.in_ok-get.ensures.precedence c.in_ok-get.ensures.tree,
   end_kept c.args.tokens.now c.expect-2.new.self (c.in_ok-last.ensures.gives.1.1 ∙ c.in_ok-token.ensures.gives.1.1) end,
 )
+
+pub returns-in_err-token-clause-complete : goal.returns-in_err-token-clause-complete
+returns-in_err-token-clause-complete c w end b =
+    let r = c.args.self.now in
+    let i = index_ahead (open_groups r) (waits r) c.args.operand.precedence w (here c.args.tokens.now) b.goes_on in
+    let quoted = first_is kinds.Quoted c.args.tokens.now (ap first_kind i.tokens) (no_end kinds.Quoted refl) in
+    absurd (search rules)
+
+pub returns-in_err-attr-clause-complete : goal.returns-in_err-attr-clause-complete
+returns-in_err-attr-clause-complete c w end b =
+    let r = c.args.self.now in
+    let i = index_ahead (open_groups r) (waits r) c.args.operand.precedence w (here c.args.tokens.now) b.goes_on in
+    let same = text_taken kinds.Quoted i.quoted _ c.in_ok-token.token c.args.tokens.now c.expect.new.self i.tokens c.in_ok-token.ensures.gives.1 in
+    let x = c.in_err-attr.field-0.0 in
+    let failed : c.from_residual-in_err-attr.result ≡ Err x = search rules in
+    rw failed (c.in_err-attr.ensures.complete i.text (subst (λ q. IsTextOf q i.text) same i.is_text))
+
+pub returns-in_err-last-clause-complete : goal.returns-in_err-last-clause-complete
+returns-in_err-last-clause-complete c w end b =
+    let r = c.args.self.now in
+    let i = index_ahead (open_groups r) (waits r) c.args.operand.precedence w (here c.args.tokens.now) b.goes_on in
+    let same = rest_taken kinds.Quoted i.quoted _ c.in_ok-token.token c.args.tokens.now c.expect.new.self i.tokens c.in_ok-token.ensures.gives.1 in
+    let close = first_is kinds.CloseSquare c.expect.new.self (sym (ap first_kind same)) (no_end kinds.CloseSquare refl) in
+    absurd (search rules)
+
+pub returns-clause-complete : goal.returns-clause-complete
+returns-clause-complete c w end b =
+    let r = c.args.self.now in
+    let t0 = c.args.tokens.now in
+    let t1 = c.expect.new.self in
+    let t2 = c.expect-2.new.self in
+    let i = index_ahead (open_groups r) (waits r) c.args.operand.precedence w (here t0) b.goes_on in
+    let one = rest_taken kinds.Quoted i.quoted _ c.in_ok-token.token t0 t1 i.tokens c.in_ok-token.ensures.gives.1 in
+    let two = rest_taken kinds.CloseSquare i.close i.behind c.in_ok-last.last t1 t2 (sym one) c.in_ok-last.ensures.gives.1 in (
+      operand_ahead r c.in_ok-get.field-0 precedences.Member (here t2)
+          (record {
+            lexemes = subst AreLexemes two (subst AreLexemes i.tokens b.lexemes.1).1.1;
+            goes_on = subst (Rest (open_groups r) (waits r) precedences.Member) two i.goes_on;
+          }) c.in_ok-get.ensures.precedence,
+      end_kept t0 t2 (c.in_ok-last.ensures.gives.1.1 ∙ c.in_ok-token.ensures.gives.1.1) end,
+    )

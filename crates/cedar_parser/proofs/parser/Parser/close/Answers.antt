@@ -1,3 +1,5 @@
+use Rattle.std.proofs.Common.{rules}
+use Rattle.cedar_parser.proofs.CompleteSteps.{closing_resumed, none_open, some_left}
 use Rattle.cedar_parser.proofs.parser.Parser.close.Goals as goal
 use Rattle.std.proofs.Common.{max, ap, arith, refl}
 use Rattle.cedar_parser.specs.Meant.{from}
@@ -26,3 +28,17 @@ returns-in-Some-clause-parses c ts end h =
     c.resume_group.ensures.parses ts end
     (closing_parsed ts (from c.args.token c.args.tokens.now) c.apply_down_to.new.self _ c.in-Some.group c.in_ok-operand.operand
     (c.in_ok-operand.ensures.parses ts (from c.args.token c.args.tokens.now) h) c.in_ok-operand.ensures.below c.in-Some.ensures.items refl)
+
+pub returns-in-Some-clause-complete : goal.returns-in-Some-clause-complete
+returns-in-Some-clause-complete c own end b =
+    c.resume_group.ensures.complete end
+    (closing_resumed c.apply_down_to.new.self _ c.in-Some.group c.in_ok-operand.operand.precedence (from c.args.token c.args.tokens.now)
+    (c.in_ok-operand.ensures.complete (from c.args.token c.args.tokens.now) (omega (arith, own)) b) own c.in_ok-operand.ensures.below
+    c.in-Some.ensures.items)
+
+pub returns-in-None-clause-complete : goal.returns-in-None-clause-complete
+returns-in-None-clause-complete c own end b =
+    absurd (some_left _ _
+    (none_open c.apply_down_to.new.self c.in_ok-operand.operand.precedence (from c.args.token c.args.tokens.now)
+    (c.in_ok-operand.ensures.complete (from c.args.token c.args.tokens.now) (omega (arith, own)) b) own c.in_ok-operand.ensures.below
+    (search rules)))

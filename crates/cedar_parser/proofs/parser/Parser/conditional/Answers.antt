@@ -1,3 +1,4 @@
+use Rattle.cedar_parser.proofs.CompleteSteps.{if_opens}
 use Rattle.cedar_parser.proofs.parser.Parser.conditional.Goals as goal
 use Rattle.std.proofs.Common.{◌∷◌, ap, rules, IsTrue}
 use Rattle.semantics_grammar.specs.Lexemes.{lexeme, lexeme_of}
@@ -14,5 +15,14 @@ returns-then-takes_conditional-clause-parses c ts rest h is =
       lexemes = h.lexemes.1;
       so_far = before_primary ts (open_groups c.args.self.now) (waits c.args.self.now) (λ below at. IsOpened below at in_test rest)
           (lexeme_of c.args.token ∷ rest) h.so_far
-          (c.args.token.text.now, c.takes_conditional.ensures takes, ap (λ k. lexeme k c.args.token.text.now ∷ rest) is);
+          (c.args.token.text.now, c.takes_conditional.ensures.fits takes, ap (λ k. lexeme k c.args.token.text.now ∷ rest) is);
     })
+
+pub returns-then-takes_conditional-clause-complete : goal.returns-then-takes_conditional-clause-complete
+returns-then-takes_conditional-clause-complete c rest a is =
+    c.open.ensures.complete rest (if_opens c.args.self.now c.args.token rest a is).1
+
+pub returns-else-takes_conditional-clause-complete : goal.returns-else-takes_conditional-clause-complete
+returns-else-takes_conditional-clause-complete c rest a is =
+    let takes : IsTrue c.takes_conditional.result = c.takes_conditional.ensures.complete (if_opens c.args.self.now c.args.token rest a is).0 in
+    absurd (search rules)

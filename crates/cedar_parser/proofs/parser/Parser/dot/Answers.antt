@@ -1,3 +1,14 @@
+use Rattle.std.proofs.Common.{◌∷◌, ap, refl}
+use Rattle.cedar_lexer.specs.declared.token.TokenKind.TheVariants as kinds
+use Rattle.cedar_terms.specs.declared.precedence.Precedence.TheVariants as precedences
+use Rattle.semantics_grammar.specs.Lexemes.{lexeme}
+use Rattle.cedar_parser.specs.Meant.{AreLexemes}
+use Rattle.cedar_parser.proofs.AheadSteps.{dot_ahead}
+use Rattle.cedar_parser.proofs.CompleteRows.{method_row}
+use Rattle.std.proofs.Common.{rules}
+use Rattle.cedar_parser.proofs.CompleteSteps.{operand_ahead}
+use Rattle.cedar_parser.proofs.CompleteTokens.{attribute_behind, dot_word, first_other, method_behind, no_end}
+use Rattle.cedar_parser.proofs.TakenSteps.{taken_is, untouched_here}
 use Rattle.std.specs.Rc.{rc_str_bytes}
 use Rattle.std.proofs.Common.{◌∙◌, map, subst, sym}
 use Rattle.cedar_exprs.specs.BareExpr.{bare_expr}
@@ -49,3 +60,46 @@ returns-then-is_some-clause-parses c ts end h =
       so_far = subst (λ es. IsOpenUpTo ts (open_groups c.args.self.now) (waits c.args.self.now)
           (in_row (method_arguments (rc_str_bytes c.in_ok-attr.attr)) (map bare_expr es)) (here c.take_if.new.self)) (sym c.in_ok-args.ensures.items) k.0;
     })
+
+pub returns-in_err-name-clause-complete : goal.returns-in_err-name-clause-complete
+returns-in_err-name-clause-complete c w end b =
+    let r = c.args.self.now in
+    let word = dot_word (open_groups r) (waits r) c.args.tokens.now
+    (dot_ahead (open_groups r) (waits r) c.args.operand.precedence w (here c.args.tokens.now) b.lexemes.1 b.goes_on) in
+    absurd (search rules)
+
+pub returns-then-is_some-clause-complete : goal.returns-then-is_some-clause-complete
+returns-then-is_some-clause-complete c w end b =
+    let r = c.args.self.now in
+    let t0 = c.args.tokens.now in
+    let t1 = c.expect.new.self in
+    let t2 = c.take_if.new.self in
+    let n = c.in_ok-name.name in
+    let d = dot_ahead (open_groups r) (waits r) c.args.operand.precedence w (here t0) b.lexemes.1 b.goes_on in
+    let o = one_taken _ _ c.take_if.result c.take_if.ensures.gives (sym c.is_some.ensures ∙ c.if-is_some.true) in
+    let same = taken_is t0 t1 n kinds.Word c.in_ok-name.ensures.gives.0 c.in_ok-name.ensures.gives.1
+    ∙ ap (λ x. lexeme kinds.Word n.text.now ∷ x) (taken_is t1 t2 o.0 kinds.OpenRound o.1.0 o.1.1) in
+    let m = method_behind (open_groups r) (waits r) n.text.now o.0.text.now (here t2) (here t0) d same in
+    c.item.ensures.complete (end_kept t0 t2 (o.1.1.1 ∙ c.in_ok-name.ensures.gives.1.1) end)
+    (method_row r c.in_ok-attr.attr c.args.operand.expr c.in_ok-args.args.items n.text.now t0 o.0.text.now t2 b.lexemes.1 same c.in_ok-attr.ensures.ok
+    c.in_ok-args.ensures.items m)
+
+pub returns-clause-complete : goal.returns-clause-complete
+returns-clause-complete c w end b =
+    let r = c.args.self.now in
+    let t0 = c.args.tokens.now in
+    let t1 = c.expect.new.self in
+    let t2 = c.take_if.new.self in
+    let n = c.in_ok-name.name in
+    let d = dot_ahead (open_groups r) (waits r) c.args.operand.precedence w (here t0) b.lexemes.1 b.goes_on in
+    let u = none_taken _ _ c.take_if.result c.take_if.ensures.gives (sym c.is_some.ensures ∙ c.if-is_some.false) in
+    let same = taken_is t0 t1 n kinds.Word c.in_ok-name.ensures.gives.0 c.in_ok-name.ensures.gives.1
+    ∙ ap (λ x. lexeme kinds.Word n.text.now ∷ x) (untouched_here t1 t2 u) in
+    let other = first_other kinds.OpenRound t1 t2 (λ x. search rules) (no_end kinds.OpenRound refl) u in (
+      operand_ahead r c.in_ok-get.field-0 precedences.Member (here t2)
+          (record {
+            lexemes = (subst AreLexemes same b.lexemes.1).1;
+            goes_on = attribute_behind (open_groups r) (waits r) n.text.now (here t2) (here t0) d same other;
+          }) c.in_ok-get.ensures.precedence,
+      end_kept t0 t2 (u.1 ∙ c.in_ok-name.ensures.gives.1.1) end,
+    )

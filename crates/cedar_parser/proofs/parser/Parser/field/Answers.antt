@@ -1,3 +1,7 @@
+use Rattle.std.proofs.Common.{◌≡◌, Err}
+use Rattle.std.proofs.Common.{rules}
+use Rattle.std.proofs.Common.{◌∙◌}
+use Rattle.cedar_parser.proofs.CompleteRows.{colon_follows, field_begins, field_opens_ahead, member_ahead, record_ends_ahead, stays_keeps}
 use Rattle.cedar_builders.specs.Keys.{meant_pairs}
 use Rattle.cedar_exprs.specs.BareExpr.{bare_expr}
 use Rattle.cedar_parser.proofs.TakenSteps.{end_kept, field_ends, field_key, if_both}
@@ -42,3 +46,37 @@ returns-clause-parses c ts end h =
     c.in_ok-_colon.ensures.gives.0 c.in_ok-_colon.ensures.gives.1 in
     if_both _ _ c.open.result (c.open.ensures.parses ts _ (record { no_values = h.no_values; lexemes = k.1; so_far = k.0 }))
     (end_kept c.args.tokens.now c.expect.new.self k.2 end)
+
+pub returns-in-Some-clause-complete : goal.returns-in-Some-clause-complete
+returns-in-Some-clause-complete c end a =
+    let new = c.take_if.new.self in
+    let k = record_ends_ahead c.args.self.now _ c.in-Some.field-0 c.args.tokens.now new a c.in-Some.ensures.gives.0 c.in-Some.ensures.gives.1 in
+    stays_keeps c.«record».new.self c.«record».result new (end_kept c.args.tokens.now new c.in-Some.ensures.gives.1.1 end)
+    (member_ahead c.args.self.now c.«record».new.self c.«record».result _ k.1 c.«record».ensures.same (c.«record».ensures.complete k.0))
+
+pub returns-clause-complete : goal.returns-clause-complete
+returns-clause-complete c end a =
+    let f = field_begins c.args.self.now (meant_pairs bare_expr c.args.pairs.items) c.args.tokens.now c.take_if.new.self a (λ b. search rules)
+    c.in_default.ensures.gives in
+    let k = c.in_ok-key.ensures.complete f.0.word f.0.key _ f.0.tokens f.0.is_key in
+    let o = field_opens_ahead c.args.self.now c.args.pairs.items c.in_ok-key.key c.take_if.new.self c.key.new.tokens c.expect.new.self c.in_ok-_colon._colon
+    f.0 f.1 k.0 k.1 c.in_ok-_colon.ensures.gives.1 in
+    stays_keeps c.open.new.self c.open.result c.expect.new.self
+    (end_kept c.args.tokens.now c.expect.new.self (c.in_ok-_colon.ensures.gives.1.1 ∙ (k.2 ∙ c.in_default.ensures.gives.1)) end)
+    (c.open.ensures.complete _ (record { lexemes = o.0; goes_on = o.1 }))
+
+pub returns-in_err-key-clause-complete : goal.returns-in_err-key-clause-complete
+returns-in_err-key-clause-complete c end a =
+    let f = field_begins c.args.self.now (meant_pairs bare_expr c.args.pairs.items) c.args.tokens.now c.take_if.new.self a (λ b. search rules)
+    c.in_default.ensures.gives in
+    let e = c.in_err-key.field-0.0 in
+    let failed : c.from_residual.result ≡ Err e = search rules in
+    rw failed (c.in_err-key.ensures.complete f.0.word f.0.key _ f.0.tokens f.0.is_key)
+
+pub returns-in_err-_colon-clause-complete : goal.returns-in_err-_colon-clause-complete
+returns-in_err-_colon-clause-complete c end a =
+    let f = field_begins c.args.self.now (meant_pairs bare_expr c.args.pairs.items) c.args.tokens.now c.take_if.new.self a (λ b. search rules)
+    c.in_default.ensures.gives in
+    let k = c.in_ok-key.ensures.complete f.0.word f.0.key _ f.0.tokens f.0.is_key in
+    let colon = colon_follows f.0.colon f.0.behind c.key.new.tokens k.1 in
+    absurd (search rules)

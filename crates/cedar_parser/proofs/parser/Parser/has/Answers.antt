@@ -1,3 +1,13 @@
+use Rattle.std.proofs.Common.{Err}
+use Rattle.std.proofs.Common.{inl}
+use Rattle.cedar_lexer.specs.declared.token.TokenKind.TheVariants as kinds
+use Rattle.cedar_terms.specs.declared.precedence.Precedence.TheVariants as precedences
+use Rattle.cedar_parser.specs.Meant.{AreLexemes, open_groups, waits}
+use Rattle.cedar_parser.proofs.AheadSteps.{key_more, keys_end, test_ahead}
+use Rattle.cedar_parser.proofs.CompleteSteps.{operand_ahead}
+use Rattle.cedar_parser.proofs.CompleteTokens.{first_other, has_key, key_step, no_end}
+use Rattle.cedar_parser.proofs.CompleteTokens as tokens
+use Rattle.cedar_parser.proofs.TakenSteps.{end_kept, taken_is, untouched_here}
 use Rattle.std.proofs.Common.{◌≡◌, ◌∙◌, map, refl, rules, subst, sym, arith}
 use Rattle.std.specs.Rc.{rc_str_bytes}
 use Rattle.cedar_builders.specs.BareExpr.{HasAttr}
@@ -29,6 +39,7 @@ attributes-init c =
         lexemes = l;
         end = refl;
       };
+      complete = λ gs ws l k. (l, k, refl);
     }
 
 pub attributes-preserved : goal.attributes-preserved
@@ -47,6 +58,13 @@ attributes-preserved c =
       left = left_from (next_start mid) at first new m.before.next (then_left at (next_start mid) first mid new (then_left at at first old mid inv.left m) k);
       parses = λ l. more_keys first old mid new o.0 c.in_ok-attr.attr c.attributes.tail.items c.push.new.self.items (inv.parses l) o.1.0 o.1.1
           c.in_ok-attr.ensures.parses c.in_ok-push.ensures.items;
+      complete = λ gs ws l k. (
+          let i = inv.complete gs ws l k in
+          let same = taken_is old mid o.0 kinds.Dot o.1.0 o.1.1 in
+          let m = key_more gs ws o.0.text.now (here mid) (subst (tokens.KeysAre gs ws) same i.1) in
+          let e = c.in_ok-attr.ensures.complete m.word m.key m.behind m.tokens m.is_key in
+          let s = key_step gs ws mid new m (subst AreLexemes same i.0).1 e.1 in
+          (s.0, s.1, e.2 ∙ (o.1.1.1 ∙ i.2)));
     }
 
 pub returns-clause-parses : goal.returns-clause-parses
@@ -56,3 +74,48 @@ returns-clause-parses c ts end h =
     has_step ts c.args.self.now c.args.left c.in_ok-has.field-0 c.args.tokens.now c.key.new.tokens c.attributes.tokens c.take_if.new.self h.2.0
     c.in_ok-head.head c.attributes.tail.items end h.2.1 h.0 h.1 c.in_ok-head.ensures.parses c.attributes.invariant.parses u
     c.in_ok-has.ensures.precedence e
+
+pub returns-in_err-head-clause-complete : goal.returns-in_err-head-clause-complete
+returns-in_err-head-clause-complete c w below end b =
+    let r = c.args.self.now in
+    let f = has_key (open_groups r) (waits r) (here c.args.tokens.now)
+    (test_ahead (open_groups r) (waits r) c.args.left.precedence kinds.Has w (here c.args.tokens.now) (inl refl) below b.goes_on) in
+    let x = c.in_err-head.field-0.0 in
+    let failed : c.from_residual.result ≡ Err x = search rules in
+    rw failed (c.in_err-head.ensures.complete f.word f.key f.behind f.tokens f.is_key)
+
+pub returns-in_err-attr-clause-complete : goal.returns-in_err-attr-clause-complete
+returns-in_err-attr-clause-complete c w below end b =
+    let r = c.args.self.now in
+    let f = has_key (open_groups r) (waits r) (here c.args.tokens.now)
+    (test_ahead (open_groups r) (waits r) c.args.left.precedence kinds.Has w (here c.args.tokens.now) (inl refl) below b.goes_on) in
+    let k = c.in_ok-head.ensures.complete f.word f.key f.behind f.tokens f.is_key in
+    let s = key_step (open_groups r) (waits r) c.args.tokens.now c.key.new.tokens f b.lexemes.1 k.1 in
+    let i = c.attributes.invariant.complete (open_groups r) (waits r) s.0 s.1 in
+    let o = one_taken _ _ c.take_if.result c.take_if.ensures.gives (sym c.is_some.ensures ∙ c.attributes-test.true) in
+    let m = key_more (open_groups r) (waits r) o.0.text.now (here c.take_if.new.self)
+    (subst (tokens.KeysAre (open_groups r) (waits r)) (taken_is c.attributes.tokens c.take_if.new.self o.0 kinds.Dot o.1.0 o.1.1) i.1) in
+    let x = c.in_err-attr.field-0.0 in
+    let failed : c.from_residual-in_err-attr.result ≡ Err x = search rules in
+    rw failed (c.in_err-attr.ensures.complete m.word m.key m.behind m.tokens m.is_key)
+
+pub returns-clause-complete : goal.returns-clause-complete
+returns-clause-complete c w below end b =
+    let r = c.args.self.now in
+    let f = has_key (open_groups r) (waits r) (here c.args.tokens.now)
+    (test_ahead (open_groups r) (waits r) c.args.left.precedence kinds.Has w (here c.args.tokens.now) (inl refl) below b.goes_on) in
+    let k = c.in_ok-head.ensures.complete f.word f.key f.behind f.tokens f.is_key in
+    let s = key_step (open_groups r) (waits r) c.args.tokens.now c.key.new.tokens f b.lexemes.1 k.1 in
+    let i = c.attributes.invariant.complete (open_groups r) (waits r) s.0 s.1 in
+    let t2 = c.attributes.tokens in
+    let t3 = c.take_if.new.self in
+    let u = none_taken _ _ c.take_if.result c.take_if.ensures.gives (sym c.is_some.ensures ∙ c.attributes-test.false) in
+    let other = first_other kinds.Dot t2 t3 (λ x. search rules) (no_end kinds.Dot refl) u in
+    let same = untouched_here t2 t3 u in (
+      operand_ahead r c.in_ok-has.field-0 precedences.Relation (here t3)
+          (record {
+            lexemes = subst AreLexemes same i.0;
+            goes_on = keys_end (open_groups r) (waits r) (here t3) other (subst (tokens.KeysAre (open_groups r) (waits r)) same i.1);
+          }) c.in_ok-has.ensures.precedence,
+      end_kept c.args.tokens.now t3 (u.1 ∙ (i.2 ∙ k.2)) end,
+    )

@@ -1,3 +1,7 @@
+use Rattle.std.proofs.Common.{◌≡◌, Err, rules}
+use Rattle.cedar_parser.proofs.CompleteSteps.{infix_pushed}
+use Rattle.cedar_parser.proofs.Rising.{operator_fits}
+use Rattle.std.proofs.Common.{◌∙◌, ap, sym, arith}
 use Rattle.cedar_parser.proofs.parser.Parser.«infix».Goals as goal
 use Rattle.std.proofs.Common.{◌∷◌, ◌≤◌, refl, subst}
 use Rattle.cedar_terms.specs.Precedences.{precedence_number}
@@ -12,3 +16,21 @@ returns-clause-parses c ts rest h is =
     (subst (λ l. WaitsBelow l c.left.new.self) c.precedences-own.ensures.own c.in_ok-left.ensures.below.0)
     (subst (λ l. precedence_number l ≤ precedence_number c.in_ok-left.left.precedence) c.precedences-own.ensures.left c.in_ok-left.ensures.below.1)
     c.in_ok-push.ensures.items refl refl
+
+pub returns-clause-complete : goal.returns-clause-complete
+returns-clause-complete c rest b is =
+    let f = operator_fits c.args.token.kind _ is in
+    let x = ap precedence_number c.precedences-own.ensures.own in
+    let y = ap precedence_number c.precedences-own.ensures.left in
+    let l = c.in_ok-left.ensures.complete c.args.token.kind c.args.token.text.now rest (f.1 ∙ sym x, f.0 ∙ sym y, omega (arith, f.1, f.2, x)) b in
+    infix_pushed c.left.new.self _ c.in_ok-left.left c.args.«infix» c.args.token rest l is
+    (subst (λ l. WaitsBelow l c.left.new.self) c.precedences-own.ensures.own c.in_ok-left.ensures.below.0) c.in_ok-push.ensures.items refl
+
+pub returns-in_err-left-clause-complete : goal.returns-in_err-left-clause-complete
+returns-in_err-left-clause-complete c rest b is =
+    let f = operator_fits c.args.token.kind _ is in
+    let x = ap precedence_number c.precedences-own.ensures.own in
+    let y = ap precedence_number c.precedences-own.ensures.left in
+    let e = c.in_err-left.field-0.0 in
+    let failed : c.from_residual.result ≡ Err e = search rules in
+    rw failed (c.in_err-left.ensures.complete c.args.token.kind c.args.token.text.now rest (f.1 ∙ sym x, f.0 ∙ sym y, omega (arith, f.1, f.2, x)) b)

@@ -1,10 +1,21 @@
-use Rattle.std.proofs.Common.{◌≡◌, ◌∙◌, Option, None, Some, false, true, refl, rules, string_bytes, subst, sym}
-use Rattle.std.specs.Option.{is_none, is_some}
-use Rattle.std.proofs.lemmas.Bool.{false≢true}
+use Rattle.std.proofs.Common.{Err}
+use Rattle.std.proofs.Common.{inr, arith}
+use Rattle.cedar_lexer.specs.declared.token.TokenKind.TheVariants as kinds
+use Rattle.cedar_terms.specs.declared.precedence.Precedence.TheVariants as precedences
+use Rattle.cedar_exprs.specs.BareExpr.{bare_expr}
+use Rattle.cedar_parser.specs.Meant.{AreLexemes, here, open_groups, waits}
+use Rattle.cedar_parser.specs.Waiting.{is_of_in}
+use Rattle.cedar_parser.proofs.AheadSteps.{test_ahead}
+use Rattle.cedar_parser.proofs.Onward.{waits_more}
+use Rattle.cedar_parser.proofs.CompleteSteps.{operand_ahead, pushed_ahead}
+use Rattle.cedar_parser.proofs.CompleteTokens.{TypeIs, first_other, in_behind, is_word, no_end, type_at, type_end}
+use Rattle.cedar_parser.proofs.TakenSteps.{taken_is, untouched_here}
+use Rattle.std.proofs.Common.{◌≡◌, ◌∙◌, false, true, refl, rules, string_bytes, subst}
+use Rattle.std.specs.Option.{is_some}
 use Rattle.cedar_names.specs.Names.{IsNameOf}
 use Rattle.cedar_names.specs.PlainNames.{bare_name}
 use Rattle.cedar_terms.specs.Entities.{bare_entity_type}
-use Rattle.cedar_parser.proofs.TakenSteps.{end_kept, is_in_step, is_parsed, none_taken, not_some, one_taken, some_there}
+use Rattle.cedar_parser.proofs.TakenSteps.{end_kept, is_in_step, is_parsed, none_taken, one_taken}
 use Rattle.std.proofs.Common.{◌∙◌, ap, max, arith}
 use Rattle.cedar_parser.specs.Refused.{greatest, open_start, start_of}
 use Rattle.cedar_parser.proofs.Greatest.{greatest_push}
@@ -55,4 +66,58 @@ returns-clause-parses c ts end h =
           c.in_ok-first.ensures.gives.1 c.in_ok-path.ensures.parses name c.in_ok-path.ensures.lexemes o.1.0 o.1.1 c.in_ok-test.ensures.tree
           c.in_ok-again.ensures.tree c.in_ok-push.ensures.items refl refl,
       end_kept c.args.tokens.now c.take_if.new.self (o.1.1.1 ∙ (c.in_ok-path.ensures.end ∙ c.in_ok-first.ensures.gives.1.1)) end,
+    )
+
+pub returns-in_err-first-clause-complete : goal.returns-in_err-first-clause-complete
+returns-in_err-first-clause-complete c w below end b =
+    let r = c.args.self.now in
+    let word = is_word (open_groups r) (waits r) c.args.tokens.now
+    (test_ahead (open_groups r) (waits r) c.args.left.precedence kinds.Is w (here c.args.tokens.now) (inr (inr refl)) below b.goes_on) in
+    absurd (search rules)
+
+pub returns-in_err-name-clause-complete : goal.returns-in_err-name-clause-complete
+returns-in_err-name-clause-complete c w below end b =
+    let r = c.args.self.now in
+    let t = test_ahead (open_groups r) (waits r) c.args.left.precedence kinds.Is w (here c.args.tokens.now) (inr (inr refl)) below b.goes_on in
+    let k = type_at (open_groups r) (waits r) c.in_ok-first.first (string_bytes c.in_ok-path.path.text) c.args.tokens.now c.expect.new.self c.parse.new.tokens t
+    b.lexemes.1 c.in_ok-first.ensures.gives.0 c.in_ok-first.ensures.gives.1 c.in_ok-path.ensures.parses c.in_ok-path.ensures.complete in
+    let x = c.in_err-name.field-0.0 in
+    let failed : c.from_residual-in_err-name.result ≡ Err x = search rules in
+    rw failed (c.in_err-name.ensures.complete k.name k.named k.plain)
+
+pub returns-then-is_none-clause-complete : goal.returns-then-is_none-clause-complete
+returns-then-is_none-clause-complete c w below end b =
+    let r = c.args.self.now in
+    let t = test_ahead (open_groups r) (waits r) c.args.left.precedence kinds.Is w (here c.args.tokens.now) (inr (inr refl)) below b.goes_on in
+    let k = type_at (open_groups r) (waits r) c.in_ok-first.first (string_bytes c.in_ok-path.path.text) c.args.tokens.now c.expect.new.self c.parse.new.tokens t
+    b.lexemes.1 c.in_ok-first.ensures.gives.0 c.in_ok-first.ensures.gives.1 c.in_ok-path.ensures.parses c.in_ok-path.ensures.complete in
+    let t2 = c.parse.new.tokens in
+    let t3 = c.take_if.new.self in
+    let none : is_some c.take_if.result ≡ false = search rules in
+    let u = none_taken _ _ c.take_if.result c.take_if.ensures.gives none in
+    let other = first_other kinds.In t2 t3 (λ x. search rules) (no_end kinds.In refl) u in
+    let same = untouched_here t2 t3 u in (
+      operand_ahead r c.in_ok-is.field-0 precedences.Relation (here t3)
+          (record {
+            lexemes = subst AreLexemes same k.lexemes;
+            goes_on = type_end (open_groups r) (waits r) (here t3) other (subst (TypeIs (open_groups r) (waits r)) same k.left);
+          }) c.in_ok-is.ensures.precedence,
+      end_kept c.args.tokens.now t3 (u.1 ∙ (c.in_ok-path.ensures.end ∙ c.in_ok-first.ensures.gives.1.1)) end,
+    )
+
+pub returns-clause-complete : goal.returns-clause-complete
+returns-clause-complete c w below end b =
+    let r = c.args.self.now in
+    let t = test_ahead (open_groups r) (waits r) c.args.left.precedence kinds.Is w (here c.args.tokens.now) (inr (inr refl)) below b.goes_on in
+    let k = type_at (open_groups r) (waits r) c.in_ok-first.first (string_bytes c.in_ok-path.path.text) c.args.tokens.now c.expect.new.self c.parse.new.tokens t
+    b.lexemes.1 c.in_ok-first.ensures.gives.0 c.in_ok-first.ensures.gives.1 c.in_ok-path.ensures.parses c.in_ok-path.ensures.complete in
+    let t2 = c.parse.new.tokens in
+    let t3 = c.take_if.new.self in
+    let o = one_taken _ _ c.take_if.result c.take_if.ensures.gives (search rules) in
+    let same = taken_is t2 t3 o.0 kinds.In o.1.0 o.1.1 in
+    let i = in_behind (open_groups r) (waits r) o.0.text.now (here t3) (subst (TypeIs (open_groups r) (waits r)) same k.left) in (
+      pushed_ahead r _ _ (here t3) (subst AreLexemes same k.lexemes).1
+          (waits_more (open_groups r) (waits r) (is_of_in (bare_expr c.in_ok-test.test.expr) (bare_expr c.in_ok-again.again)) (here t3) i.1 (i.0, i.2) i.3)
+          c.in_ok-push.ensures.items refl,
+      end_kept c.args.tokens.now t3 (o.1.1.1 ∙ (c.in_ok-path.ensures.end ∙ c.in_ok-first.ensures.gives.1.1)) end,
     )

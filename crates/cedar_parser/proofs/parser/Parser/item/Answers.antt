@@ -1,4 +1,7 @@
-use Rattle.std.proofs.Common.{map, sym, subst}
+use Rattle.std.proofs.Common.{rules}
+use Rattle.cedar_parser.proofs.CompleteRows.{member_ahead, row_ends_ahead, row_opens_ahead, stays_keeps}
+use Rattle.std.proofs.Common.{length}
+use Rattle.std.proofs.Common.{map, subst}
 use Rattle.cedar_exprs.specs.BareExpr.{bare_expr}
 use Rattle.cedar_parser.specs.Meant.{IsOpenParsed, row_of}
 use Rattle.cedar_parser.specs.declared.groups.GroupKind.TheVariants as groups
@@ -30,3 +33,18 @@ returns-in-None-clause-parses c ts end h =
     (c.open.ensures.parses ts _ (subst (IsOpenParsed ts c.args.self.now (groups.Row c.args.kind c.args.items))
     (untouched_here c.args.tokens.now c.take_if.new.self c.in-None.ensures.gives) h))
     (end_kept c.args.tokens.now c.take_if.new.self c.in-None.ensures.gives.1 end)
+
+pub returns-in-Some-clause-complete : goal.returns-in-Some-clause-complete
+returns-in-Some-clause-complete c end a =
+    let new = c.take_if.new.self in
+    let k = row_ends_ahead c.args.self.now (row_of c.args.kind) (length c.args.items.items) c.in-Some.field-0 c.closing.result c.args.tokens.now new a
+    c.closing.ensures c.in-Some.ensures.gives.0 c.in-Some.ensures.gives.1 in
+    stays_keeps c.row.new.self c.row.result new (end_kept c.args.tokens.now new c.in-Some.ensures.gives.1.1 end)
+    (member_ahead c.args.self.now c.row.new.self c.row.result _ k.1 c.row.ensures.same (c.row.ensures.complete k.0))
+
+pub returns-in-None-clause-complete : goal.returns-in-None-clause-complete
+returns-in-None-clause-complete c end a =
+    let new = c.take_if.new.self in
+    let k = row_opens_ahead c.args.self.now c.args.kind c.args.items.items c.args.tokens.now new a (λ b. search rules) c.in-None.ensures.gives in
+    stays_keeps c.open.new.self c.open.result new (end_kept c.args.tokens.now new c.in-None.ensures.gives.1 end)
+    (c.open.ensures.complete _ (record { lexemes = k.0; goes_on = k.1 }))

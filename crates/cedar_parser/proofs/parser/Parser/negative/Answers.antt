@@ -1,3 +1,5 @@
+use Rattle.cedar_parser.proofs.CompleteSteps.{operand_ahead}
+use Rattle.cedar_terms.specs.declared.precedence.Precedence.TheVariants as precedences
 use Rattle.cedar_parser.proofs.parser.Parser.negative.Goals as goal
 use Rattle.std.proofs.Common.{refl, subst}
 use Rattle.cedar_lexer.specs.Grammar.{IsTokenText}
@@ -9,3 +11,6 @@ returns-clause-parses c ts rest h k =
     negative_step ts rest c.args.self.now _ c.args.digits (bare_literal c.in_ok-integer.field-0) h k
     (c.in_ok-integer.ensures.negative (subst (IsTokenText c.args.digits.text.now) k h.lexemes.0) refl) refl
     c.in_ok-expr.ensures
+
+pub returns-clause-complete : goal.returns-clause-complete
+returns-clause-complete c rest text fits b = operand_ahead c.args.self.now _ precedences.Unary rest b refl

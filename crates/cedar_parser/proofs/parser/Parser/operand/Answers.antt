@@ -1,5 +1,11 @@
+use Rattle.std.proofs.Common.{◌≡◌, Err}
+use Rattle.std.proofs.Common.{rules, false}
+use Rattle.cedar_terms.specs.declared.precedence.Precedence.TheVariants as precedences
+use Rattle.cedar_parser.proofs.CompleteRows.{stays_keeps}
+use Rattle.cedar_parser.proofs.CompleteLeaves.{brackets_open, false_behind, none_begins_so, record_goes_on, row_goes_on, slot_behind, text_behind, true_behind}
+use Rattle.cedar_parser.proofs.CompleteSteps.{operand_ahead}
 use Rattle.cedar_parser.proofs.parser.Parser.operand.Goals as goal
-use Rattle.std.proofs.Common.{◌∷◌, [], ◌∙◌, ap, false, map, refl, subst, sym, true}
+use Rattle.std.proofs.Common.{◌∷◌, ◌∙◌, ap, false, map, refl, subst, sym, true}
 use Rattle.cedar_builders.specs.BareExpr.{Lit, Slot}
 use Rattle.cedar_exprs.specs.BareExpr.{bare_expr}
 use Rattle.cedar_terms.specs.Literals.{BoolLit, StringLit}
@@ -9,7 +15,7 @@ use Rattle.cedar_parser.proofs.Machine.{literal_parsed}
 use Rattle.cedar_lexer.specs.declared.token.TokenKind.TheVariants as kinds
 use Rattle.semantics_grammar.specs.Grammar as grammar
 use Rattle.semantics_grammar.specs.Lexemes.{lexeme, lexeme_of}
-use Rattle.cedar_parser.specs.Meant.{here, waits}
+use Rattle.cedar_parser.specs.Meant.{here}
 use Rattle.cedar_parser.specs.SoFar.{AreRowItems, no_items}
 use Rattle.cedar_parser.specs.Waiting.{members}
 use Rattle.cedar_parser.proofs.TakenSteps.{alone_at, if_both, next_kind, opens, primary_at, record_opens}
@@ -79,3 +85,86 @@ returns-in_ok-slot-in-Slot-clause-parses c ts end h =
           c.member.ensures.precedence (ap bare_expr c.member.ensures.expr ∙ s.2),
       end,
     )
+
+pub returns-in-Word-clause-complete : goal.returns-in-Word-clause-complete
+returns-in-Word-clause-complete c end a = c.name.ensures.complete c.in-Word.is end a
+
+pub returns-in-Digits-clause-complete : goal.returns-in-Digits-clause-complete
+returns-in-Digits-clause-complete c end a =
+    let t = c.args.tokens.now in
+    stays_keeps c.number.new.self c.number.result t end
+    (c.number.ensures.complete (here t) a c.in-Digits.is (ap (λ t. t.kind) c.first.ensures ∙ next_kind t end))
+
+pub returns-in_ok-text_of-in-Quoted-clause-complete : goal.returns-in_ok-text_of-in-Quoted-clause-complete
+returns-in_ok-text_of-in-Quoted-clause-complete c end a =
+    let t = c.args.tokens.now in
+    let x = text_behind c.args.self.now c.args.token (here t) a c.in-Quoted.is in
+    stays_keeps c.literal.new.self c.literal.result t end (c.literal.ensures.complete (here t) x.2)
+
+pub returns-in_err-text_of-in-Quoted-clause-complete : goal.returns-in_err-text_of-in-Quoted-clause-complete
+returns-in_err-text_of-in-Quoted-clause-complete c end a =
+    let x = text_behind c.args.self.now c.args.token (here c.args.tokens.now) a c.in-Quoted.is in
+    let e = c.in_err-text_of-in-Quoted.field-0.0 in
+    let failed : c.from_residual.result ≡ Err e = search rules in
+    rw failed (c.in_err-text_of-in-Quoted.ensures.complete x.0 x.1)
+
+pub returns-in_ok-slot-in-Slot-clause-complete : goal.returns-in_ok-slot-in-Slot-clause-complete
+returns-in_ok-slot-in-Slot-clause-complete c end a =
+    let x = slot_behind c.args.self.now c.args.token (here c.args.tokens.now) a c.in-Slot.is in
+    (operand_ahead c.args.self.now c.member.result precedences.Member (here c.args.tokens.now) x.2 c.member.ensures.precedence, end)
+
+pub returns-in_err-slot-in-Slot-clause-complete : goal.returns-in_err-slot-in-Slot-clause-complete
+returns-in_err-slot-in-Slot-clause-complete c end a =
+    let x = slot_behind c.args.self.now c.args.token (here c.args.tokens.now) a c.in-Slot.is in
+    let e = c.in_err-slot-in-Slot.field-0.0 in
+    let failed : c.from_residual-in_err-slot-in-Slot.result ≡ Err e = search rules in
+    rw failed (c.in_err-slot-in-Slot.ensures.complete x.0 x.1)
+
+pub returns-in-True-clause-complete : goal.returns-in-True-clause-complete
+returns-in-True-clause-complete c end a =
+    let t = c.args.tokens.now in
+    stays_keeps c.literal-in-True.new.self c.literal-in-True.result t end
+    (c.literal-in-True.ensures.complete (here t) (true_behind c.args.self.now c.args.token (here t) a c.in-True.is))
+
+pub returns-in-False-clause-complete : goal.returns-in-False-clause-complete
+returns-in-False-clause-complete c end a =
+    let t = c.args.tokens.now in
+    stays_keeps c.literal-in-False.new.self c.literal-in-False.result t end
+    (c.literal-in-False.ensures.complete (here t) (false_behind c.args.self.now c.args.token (here t) a c.in-False.is))
+
+pub returns-in-Not-clause-complete : goal.returns-in-Not-clause-complete
+returns-in-Not-clause-complete c end a =
+    stays_keeps c.prefix.new.self c.prefix.result c.args.tokens.now end (c.prefix.ensures.complete (here c.args.tokens.now) a c.in-Not.is)
+
+pub returns-in-Minus-clause-complete : goal.returns-in-Minus-clause-complete
+returns-in-Minus-clause-complete c end a =
+    stays_keeps c.prefix-in-Minus.new.self c.prefix-in-Minus.result c.args.tokens.now end
+    (c.prefix-in-Minus.ensures.complete (here c.args.tokens.now) a c.in-Minus.is)
+
+pub returns-in-If-clause-complete : goal.returns-in-If-clause-complete
+returns-in-If-clause-complete c end a =
+    stays_keeps c.conditional.new.self c.conditional.result c.args.tokens.now end
+    (c.conditional.ensures.complete (here c.args.tokens.now) a c.in-If.is)
+
+pub returns-in-OpenRound-clause-complete : goal.returns-in-OpenRound-clause-complete
+returns-in-OpenRound-clause-complete c end a =
+    let t = c.args.tokens.now in
+    stays_keeps c.open.new.self c.open.result t end
+    (c.open.ensures.complete (here t) (brackets_open c.args.self.now c.args.token (here t) a c.in-OpenRound.is))
+
+pub returns-in-OpenSquare-clause-complete : goal.returns-in-OpenSquare-clause-complete
+returns-in-OpenSquare-clause-complete c end a =
+    let t = c.args.tokens.now in
+    c.item.ensures.complete end (row_goes_on c.args.self.now c.args.token (here t) c.new.result.items a c.in-OpenSquare.is c.new.ensures.items)
+
+pub returns-in-OpenCurly-clause-complete : goal.returns-in-OpenCurly-clause-complete
+returns-in-OpenCurly-clause-complete c end a =
+    let t = c.args.tokens.now in
+    c.field.ensures.complete end
+    (record_goes_on c.args.self.now c.args.token (here t) c.new-in-OpenCurly.result.items a c.in-OpenCurly.is c.new-in-OpenCurly.ensures.items)
+
+pub returns-in_default-clause-complete : goal.returns-in_default-clause-complete
+returns-in_default-clause-complete c end a =
+    let d = c.in_default in
+    absurd (none_begins_so c.args.self.now c.args.token (here c.args.tokens.now) a d.not-Word d.not-Digits d.not-Quoted d.not-Slot d.not-True d.not-False
+    d.not-Not d.not-Minus d.not-If d.not-OpenRound d.not-OpenSquare d.not-OpenCurly)
