@@ -7,3 +7,7 @@ pub mod Keyed
 pub mod Hierarchies
 pub mod Stores
 pub mod Stays
+pub mod Paths
+pub mod Ties
+pub mod PathsFound
+pub mod Images

@@ -1,0 +1,13 @@
+//! Stores of entities: attributes, tags and ancestors, by type and identifier.
+#![tactic(auto)]
+
+mod entities;
+mod entities_error;
+mod entity;
+pub mod laws;
+#[cfg(test)]
+mod tests;
+
+pub use entities::Entities;
+pub use entities_error::EntitiesError;
+pub use entity::Entity;
