@@ -1,8 +1,8 @@
 -- When each number with these first bits has those.
-use Rattle.std.proofs.Common.{◌≡◌, ℕ, ◌+◌, ◌-◌, ◌*◌, ◌/◌, ◌^◌, ◌<◌, ◌≤◌, ◌==◌, ◌↔◌, Bool, true, false, refl, sym, ap, subst, ◌∙◌, ⊎_elim, arith, eqb-true, eq-eqb}
-use Rattle.std.proofs.lemmas.Bool.{cases_lt}
+use Rattle.std.proofs.Common.{◌≡◌, ℕ, ◌+◌, ◌-◌, ◌*◌, ◌/◌, ◌^◌, ◌<◌, ◌≤◌, ◌==◌, ◌↔◌, Bool, true, false, ◌&&◌, nat_le, refl, sym, ap, subst, ◌∙◌, ⊎_elim, arith, eqb-true, eq-eqb}
+use Rattle.std.proofs.lemmas.Bool.{and_from, and_parts, cases_lt, le-leb, leb-true}
 use Rattle.std.proofs.lemmas.Nat.{div-mul-add, div_below, mul-add-lt, pow-add, pow_below, pow_pos, shl-shr, shr-shr}
-use Rattle.cedar_extensions.specs.Ranges.{IsWithin}
+use Rattle.cedar_extensions.specs.Ranges.{IsWithin, is_within}
 
 -- the first bits of the first bits
 shorter : (w p q n : ℕ) → p ≤ w → q ≤ p → n / 2 ^ (w - p) / 2 ^ (p - q) ≡ n / 2 ^ (w - q)
@@ -49,3 +49,16 @@ not_within w a p b q pw qw lt fits = (λ e. absurd (never e), λ h. absurd (pref
 pub within_by_bits : (w a p b q m n : ℕ) (r : Bool) → p ≤ w → q ≤ p → a < 2 ^ w → m ≡ a / 2 ^ (w - q) → n ≡ b / 2 ^ (w - q) → r ≡ (m == n) → (r ≡ true) ↔ IsWithin w a p b q
 within_by_bits w a p b q m n r pw qp fits em en er =
     (λ e. within_if w a p b q pw qp (sym em ∙ eqb-true m n (sym er ∙ e) ∙ en), λ h. er ∙ eq-eqb m n (em ∙ h a fits refl ∙ sym en))
+
+-- a number is within a range by its first bits
+pub by_bits : (w a p b q : ℕ) → p ≤ w → q ≤ w → a < 2 ^ w → (is_within w a p b q ≡ true) ↔ IsWithin w a p b q
+by_bits w a p b q pw qw fits = (
+  λ e.
+      let both = and_parts (nat_le q p) (a / 2 ^ (w - q) == b / 2 ^ (w - q)) e in
+      within_if w a p b q pw (leb-true q p both.0) (eqb-true (a / 2 ^ (w - q)) (b / 2 ^ (w - q)) both.1),
+  λ h.
+      ⊎_elim
+      (λ (lt : p < q). absurd (prefix_is_longer w a p b q pw qw lt fits h))
+      (λ (le : q ≤ p). and_from (nat_le q p) (a / 2 ^ (w - q) == b / 2 ^ (w - q)) (le-leb q p le) (eq-eqb (a / 2 ^ (w - q)) (b / 2 ^ (w - q)) (h a fits refl)))
+      (cases_lt p q),
+)

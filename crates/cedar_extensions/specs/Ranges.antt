@@ -1,5 +1,5 @@
 -- Addresses and ranges of addresses, as numbers.
-use Rattle.std.specs.Prelude.{◌≡◌, ℕ, ◌-◌, ◌/◌, ◌^◌, ◌<◌, Bool, false, ◌&&◌, ◌==◌, List, length, slice_index}
+use Rattle.std.specs.Prelude.{◌≡◌, ℕ, ◌-◌, ◌/◌, ◌^◌, ◌<◌, Bool, false, ◌&&◌, ◌==◌, List, length, nat_le, slice_index}
 use Rattle.std.specs.List.{list_any}
 use Rattle.std.specs.Net.Addr.{ipv4_bits, ipv6_bits}
 use Rattle.std.specs.Net.Grammar.{IsIpText}
@@ -23,6 +23,10 @@ SharesPrefix width prefix m n = m / 2 ^ (width - prefix) ≡ n / 2 ^ (width - pr
 -- each number of this width that begins with the first p bits of a begins with the first q bits of b
 abbrev pub IsWithin : ℕ → ℕ → ℕ → ℕ → ℕ → Type 0
 IsWithin width a p b q = (x : ℕ) → x < 2 ^ width → SharesPrefix width p x a → SharesPrefix width q x b
+
+-- whether it does, by its first bits
+abbrev pub is_within : ℕ → ℕ → ℕ → ℕ → ℕ → Bool
+is_within width a p b q = nat_le q p && (a / 2 ^ (width - q) == b / 2 ^ (width - q))
 
 -- an IPv4 address stands in the text of an IPv6 address
 abbrev pub is_mixed : List ℕ → Bool

@@ -1,0 +1,5 @@
+pub mod Read
+pub mod Tested
+pub mod Moments
+pub mod Kept
+pub mod Made

@@ -1,0 +1,5 @@
+pub mod Extensions
+pub mod Answers
+pub mod Functions
+pub mod Values
+pub mod Laws

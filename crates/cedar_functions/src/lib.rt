@@ -1,0 +1,17 @@
+//! Cedar's extension functions over values: decimals, IP addresses, moments and durations.
+#![tactic(auto)]
+
+mod answer;
+mod calls;
+mod decimals;
+mod extension;
+mod extension_value;
+mod extensions;
+pub mod laws;
+mod ranges;
+mod texts;
+mod times;
+
+pub use answer::{Answer, CallFault};
+pub use calls::{call, function_of};
+pub use extension::BuiltinExtension;
