@@ -15,7 +15,7 @@ from repository import files_below, source_files
 DOCS = r"^((?:@///.*\n)*)((?:@(?:#\[(?:.*\]|.*\n(?:@ +.*\n)*@\)\])|//(?!/).*)\n)*)"
 # A function: its header, which ends before a line {, in a ; or in a { of its own; and its body.
 FN = (
-    r"@((pub )?(?:const |final )*fn (\w+)"
+    r"@((pub )?(?:pub\(\w+\) )?(?:const |final )*fn (\w+)"
     r"(?:.*(?:;| \{\}?)$|.*\n(?:.*\n)*?(?:(?=@\{)|.*;$|@[)>].* \{\}?$)))"
     r"(?:(?:(?<= \{)|@\{)\n[\s\S]*?^@\}$|@\{.*$)?"
 )
@@ -115,6 +115,20 @@ def read_calls(text: str, file: str, owner: str = "", head: str = "") -> list[It
             lines = re.sub(r"\} ?;$", "}", dedent("".join(clauses))).splitlines()
             of = ([], [], signature, lines, owner, head)
             found.append(Item("fn", name, file, comment(docs), marks, at[0], *of))
+    return found
+
+
+def read_functions(text: str, file: str) -> list[Item]:
+    """Every function of a file, public or not, each with the whole of its text."""
+    found = []
+    for indent, pattern in FUNCTIONS.items():
+        clause = re.compile(rf"^{indent}    (?:requires|ensures)\b.*", re.M)
+        for at in pattern.finditer(text):
+            docs, marks, header, _, name = at.groups()
+            shown = [line.strip() for line in clause.findall(header)]
+            said = comment(docs) if docs else []
+            whole = dedent(at[0])
+            found.append(Item("fn", name, file, said, marks, whole, [], [], "", shown))
     return found
 
 

@@ -15,8 +15,8 @@ def run(shown: bytes, said: bytes, status: int) -> object:
 
 class Units(unittest.TestCase):
     def test_each_command_of_scripts_is_in_a_family(self) -> None:
-        table = text_of("docs/SCRIPT.md").split("## Commands\n")[1].split("\n## ")[0]
-        rows = [line.split("|")[1] for line in table.split("\n") if line.startswith("| `")]
+        listed = text_of("docs/SCRIPT.md").split("## Commands\n")[1].split("\n## ")[0]
+        rows = re.findall(r"^- ((?:`[^`]+`,?\s+)*`[^`]+`): ", listed, re.M)
         commands = [words.split()[0] for row in rows for words in re.findall(r"`([^`]+)`", row)]
         lines = [line for script in memory.FAMILIES.values() for line in script.split("\n")]
         used = {line.split()[0] for line in lines if line}

@@ -190,6 +190,14 @@ class OfOneFile(unittest.TestCase):
         self.assertTrue(new.text.startswith("    /// A new one.\n"))
         self.assertTrue(new.text.endswith("        }\n    }"))
 
+    def test_every_function(self) -> None:
+        found = {it.name: it for it in sources.read_functions(SHAPES, "src/shapes.rt")}
+        wanted = {"all", "hidden", "new", "private", "sides", "clear", "fmt", "corners", "has_some"}
+        self.assertEqual(set(found), wanted)
+        self.assertTrue(found["private"].text.startswith("fn private"))
+        clause = "ensures { result ≡ Self.corners_of self.now };"
+        self.assertEqual(found["corners"].clauses, [clause])
+
     def test_bodies_of_one_line(self) -> None:
         sides = self.by_path["Shape::sides"]
         self.assertEqual(sides.signature, "pub const fn sides(&self) -> usize")
