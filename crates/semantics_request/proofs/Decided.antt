@@ -91,10 +91,7 @@ module _ {X : Type 0} (R : X → X → Ordering) (E : X → X → Bool) (laws : 
       → Under (apply_by R E T k.entities o t w) (apply_by R E T l.entities o t w)
   at_both Binary.Less t w = same
   at_both Binary.LessEq t w = same
-  at_both Binary.In t w = at_under t w
-  at_both Binary.GetTag t w = at_tag t w
-  at_both Binary.HasTag t w = at_has_tag t w
-  at_both o t w = same
+  at_both o t w = at_two o t w
 
   pub at_get : (j : Text) (t : BareValue X) → Under (attribute k.entities j t) (attribute l.entities j t)
   at_get j (LitValue (EntityLit u)) =
