@@ -22,6 +22,7 @@ use Rattle.semantics_extensions.specs.Tests.{is_in_range, is_loopback, is_multic
 use Rattle.cedar_function_names.specs.Names.{function_named}
 use Rattle.cedar_function_names.specs.declared.function.ExtensionFunction.{ExtensionFunction}
 use Rattle.cedar_function_names.specs.declared.function.ExtensionFunction.TheVariants as by
+use Rattle.cedar_evaluator.specs.Kinds.{extension_in, text_of}
 use Rattle.cedar_functions.specs.Answers.{extension}
 use Rattle.cedar_functions.specs.declared.extension.BuiltinExtension.{BuiltinExtension}
 use Rattle.cedar_functions.specs.declared.extension.BuiltinExtension.TheVariants as of
@@ -122,16 +123,6 @@ of_extensions f (of.Datetime d) (of.Duration e) = of_datetime_and_duration f d e
 of_extensions f (of.Datetime d) (of.Datetime e) = of_datetimes f d e
 of_extensions f x y = Err WrongType
 
--- the text that a value is, if it is one
-abbrev pub text_in : BareValue BuiltinExtension → Option (List ℕ)
-text_in (LitValue (StringLit text)) = Some text
-text_in t = None
-
--- the extension value that a value is, if it is one
-abbrev pub extension_in : BareValue BuiltinExtension → Option BuiltinExtension
-extension_in (ExtensionValue x g) = Some x
-extension_in t = None
-
 -- of a value that is a text, or an extension value
 abbrev pub of_one : ExtensionFunction → Option (List ℕ) → Option BuiltinExtension → Given
 of_one f (Some text) x = of_text f text
@@ -145,7 +136,7 @@ of_two f x y = Err WrongType
 
 -- what a function gives of its arguments; each takes one or two
 abbrev pub gives : ExtensionFunction → List (BareValue BuiltinExtension) → Given
-gives f (t ∷ []) = of_one f (text_in t) (extension_in t)
+gives f (t ∷ []) = of_one f (text_of t) (extension_in t)
 gives f (t ∷ u ∷ []) = of_two f (extension_in t) (extension_in u)
 gives f ts = Err WrongType
 

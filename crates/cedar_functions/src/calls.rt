@@ -1,8 +1,9 @@
 //! Calls of extension functions on values.
-ghost use Rattle.std.specs.Prelude.{◌≡◌, IfOk, IsTrue, map, option_map};
+ghost use Rattle.std.specs.Prelude.{◌≡◌, IfOk, IsTrue, map};
 ghost use Rattle.cedar_names.specs.PlainNames.{bare_name};
 ghost use Rattle.cedar_values.specs.BareValues.{bare_value, bare_value_kind};
 ghost use Rattle.cedar_values.specs.WellFormed.{kind_well_formed, well_formed};
+ghost use Rattle.cedar_evaluator.specs.Kinds.{extension_in, text_of};
 ghost use Rattle.cedar_functions.specs.Answers.{answer_value, answered};
 ghost use Rattle.cedar_functions.specs.Values.{given};
 ghost use Rattle.cedar_functions.specs.Functions as meant;
@@ -11,6 +12,7 @@ use crate::answer::{Answer, CallFault};
 use crate::extension::BuiltinExtension;
 use crate::extensions::{of_extension, of_extensions};
 use crate::texts::of_text;
+use cedar_evaluator::operations::{as_extension, as_text};
 use cedar_function_names::ExtensionFunction;
 use cedar_names::Name;
 use cedar_terms::Literal;
@@ -20,37 +22,15 @@ use std::alloc::{AllocError, Global};
 use std::convert::AsStr;
 use std::rc::Rc;
 
-// The text, if a value is one.
-fn as_text(value: &Value<BuiltinExtension>) -> Option<&str>
-    ensures { option_map (λ s. s.now) result ≡ meant.text_in (bare_value value.now) }
-{
-    match value.try_as_lit() {
-        Some(Literal::String(text)) => Some(text.as_str()),
-        _ => None,
-    }
-}
-
-// The extension value, if a value is one.
-fn as_extension(value: &Value<BuiltinExtension>) -> Option<BuiltinExtension>
-    ensures { result ≡ meant.extension_in (bare_value value.now) }
-{
-    match value.value_kind() {
-        ValueKind::ExtensionValue(value) => Some(*value.value()),
-        ValueKind::Lit(_) => None,
-        ValueKind::Set(_) => None,
-        ValueKind::Record(_) => None,
-    }
-}
-
 // What a function gives of one argument.
 fn of_one(function: ExtensionFunction, arg: &Value<BuiltinExtension>) -> Result<Answer, CallFault>
-    ensures { answered result ≡ meant.of_one function (meant.text_in (bare_value arg.now))
-        (meant.extension_in (bare_value arg.now)) }
+    ensures { answered result ≡ meant.of_one function (text_of (bare_value arg.now))
+        (extension_in (bare_value arg.now)) }
 {
     match as_text(arg) {
         Some(text) => of_text(function, text),
         None => match as_extension(arg) {
-            Some(value) => of_extension(function, value),
+            Some(value) => of_extension(function, *value),
             None => Err(CallFault::WrongType),
         },
     }
@@ -63,11 +43,11 @@ fn of_two(
     second: &Value<BuiltinExtension>,
 ) -> Result<Answer, CallFault>
     ensures { answered result ≡ meant.of_two function
-        (meant.extension_in (bare_value first.now)) (meant.extension_in (bare_value second.now)) }
+        (extension_in (bare_value first.now)) (extension_in (bare_value second.now)) }
 {
     match as_extension(first) {
         Some(left) => match as_extension(second) {
-            Some(right) => of_extensions(function, left, right),
+            Some(right) => of_extensions(function, *left, *right),
             None => Err(CallFault::WrongType),
         },
         None => Err(CallFault::WrongType),
