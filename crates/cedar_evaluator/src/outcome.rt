@@ -33,7 +33,7 @@ pub struct Outcome<X: Ord = NoExtension> {
 }
 
 impl<X: Ord + Drop> Outcome<X> {
-    ghost use Rattle.std.specs.Prelude.{Ok, Err, map};
+    ghost use Rattle.std.specs.Prelude.{Bool, Ok, Err, map};
     ghost use Rattle.std.specs.Rc.{rc_str_bytes};
     ghost use Rattle.cedar_values.specs.BareValues.{bare_value};
     ghost use Rattle.semantics_values.specs.BareValue.{LitValue};
@@ -41,7 +41,14 @@ impl<X: Ord + Drop> Outcome<X> {
     ghost use Rattle.cedar_terms.specs.Entities.{bare_entity_type};
     ghost use Rattle.semantics_eval.specs.Attributes.{get_in, has_path as path_in, is_in, like_in};
     ghost use Rattle.semantics_eval.specs.Operators.{apply_one as one, apply_two as two};
-    ghost use Rattle.semantics_eval.specs.Outcomes.{Fault, as_truth, strict, strict_two};
+    ghost use Rattle.semantics_eval.specs.Outcomes.{
+      By,
+      Fault,
+      WrongType,
+      as_truth,
+      strict,
+      strict_two,
+    };
     ghost use Rattle.cedar_evaluator.specs.Outcomes.{
       bare_fault,
       fault_in,
@@ -105,8 +112,8 @@ impl<X: Ord + Drop> Outcome<X> {
         Outcome { result: Err(fault) }
     }
 
-    // The Boolean that the value is.
-    pub(crate) fn truth(&self) -> Result<bool, EvalFault>
+    /// The Boolean that the value is.
+    pub fn truth(&self) -> Result<bool, EvalFault>
         ensures { faulted result ≡ truth_in (meaning_of self.now) }
     {
         match &self.result {
@@ -118,10 +125,14 @@ impl<X: Ord + Drop> Outcome<X> {
         }
     }
 
-    // The fault of what is no Boolean: its own, or a wrong type at this place.
+    /// The fault of what is no Boolean: its own, or a wrong type at this place. Ask `truth` before:
+    /// a Boolean is a wrong type here too.
     #[tactic(auto, using(crate::proofs::Truths::no_truth))]
-    pub(crate) fn no_truth(self, source_loc: Option<Loc>) -> Outcome<X>
-        ensures { (f : Fault) → truth_in (meaning_of self) ≡ Err f → meaning_of result ≡ Err f }
+    pub fn no_truth(self, source_loc: Option<Loc>) -> Outcome<X>
+        ensures fault { (f : Fault) → truth_in (meaning_of self) ≡ Err f
+            → meaning_of result ≡ Err f }
+        ensures boolean { (b : Bool) → truth_in (meaning_of self) ≡ Ok b
+            → meaning_of result ≡ Err (By WrongType) }
     {
         match &self.result {
             Ok(_) => Outcome::fail(EvalFault::WrongType, source_loc),
@@ -129,8 +140,8 @@ impl<X: Ord + Drop> Outcome<X> {
         }
     }
 
-    // The outcome, if it is a Boolean or a fault.
-    pub(crate) fn into_truth(self, source_loc: Option<Loc>) -> Outcome<X>
+    /// The outcome, if it is a Boolean or a fault.
+    pub fn into_truth(self, source_loc: Option<Loc>) -> Outcome<X>
         ensures { meaning_of result ≡ strict as_truth (meaning_of self) }
     {
         match self.truth() {
@@ -139,8 +150,8 @@ impl<X: Ord + Drop> Outcome<X> {
         }
     }
 
-    // An operator on the value.
-    pub(crate) fn apply_one(self, op: UnaryOp, source_loc: Option<Loc>) -> Outcome<X>
+    /// An operator on the value.
+    pub fn apply_one(self, op: UnaryOp, source_loc: Option<Loc>) -> Outcome<X>
         ensures { meaning_of result ≡ strict (one op) (meaning_of self) }
     {
         match &self.result {
@@ -166,8 +177,8 @@ impl<X: Ord + Drop> Outcome<X> {
         }
     }
 
-    // Whether a pattern matches the text.
-    pub(crate) fn like(self, pattern: &Pattern, source_loc: Option<Loc>) -> Outcome<X>
+    /// Whether a pattern matches the text.
+    pub fn like(self, pattern: &Pattern, source_loc: Option<Loc>) -> Outcome<X>
         ensures { meaning_of result ≡ strict (like_in pattern.now) (meaning_of self) }
     {
         match &self.result {
@@ -176,8 +187,8 @@ impl<X: Ord + Drop> Outcome<X> {
         }
     }
 
-    // Whether the entity is of a type.
-    pub(crate) fn is_of_type(self, ty: &EntityType, source_loc: Option<Loc>) -> Outcome<X>
+    /// Whether the entity is of a type.
+    pub fn is_of_type(self, ty: &EntityType, source_loc: Option<Loc>) -> Outcome<X>
         ensures { meaning_of result
             ≡ strict (is_in (bare_entity_type ty.now)) (meaning_of self) }
     {

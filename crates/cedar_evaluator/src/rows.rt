@@ -40,8 +40,8 @@ pub fn split_row<X: Ord + Drop>(
     Ok(Ok(values))
 }
 
-// The keys and values of a record, or the first fault.
-pub(crate) fn split_pairs<X: Ord + Drop>(
+/// The keys and values of a record, or the first fault.
+pub fn split_pairs<X: Ord + Drop>(
     alloc: Global,
     row: Vec<(RcStr, Outcome<X>)>,
 ) -> Result<Result<Vec<(RcStr, Value<X>)>, EvaluationFault>, AllocError>
