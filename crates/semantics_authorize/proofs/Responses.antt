@@ -8,7 +8,6 @@ use Rattle.cedar_names.specs.Names.{BareName}
 use Rattle.cedar_builders.specs.BareExpr.{BareExpr}
 use Rattle.cedar_builders.specs.Environment.{fold}
 use Rattle.cedar_builders.specs.Trees.{tree_ops, sure}
-use Rattle.semantics_values.specs.BareValue.{BareCall}
 use Rattle.semantics_eval.specs.Outcomes.{Open, By, Outcome, truth_of}
 use Rattle.semantics_simplify.specs.Asks.{asks_only}
 use Rattle.semantics_simplify.specs.Simplified.{tree_of}

@@ -12,10 +12,12 @@ use Rattle.semantics_simplify.specs.Simplified.{tree_of}
 use Rattle.semantics_simplify.specs.Simplifier.{simplified}
 use Rattle.semantics_request.specs.Entities.{NotKnown, Entities, both_stores}
 use Rattle.semantics_request.specs.Requests.{Functions, Knowledge}
+use Rattle.semantics_request.specs.Evaluator.{evaluated}
 use Rattle.semantics_request.specs.Put.{IsPlainRequest, of_entities_alone, with_none_bound, put}
 use Rattle.semantics_request.specs.Residuals.{residual}
 use Rattle.semantics_request.specs.Laws.{IsFuller, is_known}
-use Rattle.semantics_authorize.specs.Policies.{Permit, Forbid, Policy}
+use Rattle.semantics_authorize.specs.Policies.{Permit, Forbid, Policy, verdict}
+use Rattle.semantics_authorize.specs.ResidualPolicies.{residual_policies}
 use Rattle.semantics_authorize.specs.Decisions.{Allow, Deny, applies}
 use Rattle.semantics_authorize.specs.DecisionLaws.{IsSameResponse}
 use Rattle.semantics_authorize.specs.Authorization.{with_condition, evaluated_policies, authorized}
@@ -52,6 +54,14 @@ module _ {X : Type 0} (R : X → X → Ordering) (E : X → X → Bool) where
       (C : X → BareCall) (T : Functions X) (k l : Knowledge X) → IsFuller k l
       → BindsPlainValues C l.bindings → (ps : List Policy)
       → authorized R E T l (map (with_condition (λ e. tree_of C (residual R E C k e))) ps)
+      ≡ authorized R E T l ps
+
+  -- nor, where more is known, to take the policies that were left before
+  abbrev pub ResidualPoliciesFirst : Type 0
+  ResidualPoliciesFirst =
+      (C : X → BareCall) (T : Functions X) (k l : Knowledge X) → IsFuller k l
+      → BindsPlainValues C l.bindings → (ps : List Policy)
+      → authorized R E T l (residual_policies (λ e. verdict (evaluated R E T k e)) ps)
       ≡ authorized R E T l ps
 
   -- a decision that is known stays where more is known

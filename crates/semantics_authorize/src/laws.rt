@@ -19,6 +19,7 @@ ghost use Rattle.semantics_authorize.specs.Laws.{
   PutFirst,
   RequestPutFirst,
   ResidualFirst,
+  ResidualPoliciesFirst,
   SimplifiedFirst,
   StoreInParts,
 };
@@ -100,6 +101,14 @@ pub fn residual_first<X: Ord>()
     ensures { ResidualFirst X.cmp X.eq }
 {
     outcomes::residual_first::<X>();
+}
+
+/// The policies that are left, where something is known of the request, of the entities and of the
+/// unknowns, have the response of all the policies wherever more is known.
+pub fn residual_policies_first<X: Ord>()
+    ensures { ResidualPoliciesFirst X.cmp X.eq }
+{
+    outcomes::decided_stays::<X>();
 }
 
 /// A decision that is known stays where more is known of the request, of the entities and of the
