@@ -2,6 +2,7 @@
 -- a part, and what follows; an expression is tokens of its own, which the grammar of conditions reads.
 use Rattle.std.specs.Prelude.{◌≡◌, Bool, true, false, not, ℕ, List, [], ◌∷◌, ◌++◌, codes, map, IsTrue}
 use Rattle.std.specs.List.{list_all}
+use Rattle.std.specs.Str.{bytes_eq}
 use Rattle.cedar_names.specs.Names.{BareName}
 use Rattle.cedar_names.specs.declared.slot.SlotId.{SlotId}
 use Rattle.cedar_names.specs.declared.slot.SlotId.TheVariants as slots
@@ -65,15 +66,21 @@ pub data IsScope (v : Variable) (s : SlotId) : List Lexeme → ScopeConstraint �
       → IsPath us n (lexeme kinds.In j ∷ (ts ++ rest)) → Stands ts (operand_tree s o)
       → IsScope v s (lexeme kinds.Word w ∷ lexeme kinds.Is i ∷ us) (is_of_in n o) rest
 
+-- whether an entity is an action: the last name of its type is `Action`
+abbrev pub is_action : BareEntityUID → Bool
+is_action u = bytes_eq u.entity_type.basename (codes "Action")
+
 -- what the scope says of the action, and then the rest
 pub data IsActionScope : List Lexeme → ActionConstraint → List Lexeme → Type 0 where
   any_of_them : {w : List ℕ} {rest : List Lexeme} → w ≡ var_text variables.Action → IsActionScope (lexeme kinds.Word w ∷ rest) any_action rest
-  equal_to : {w e : List ℕ} {u : BareEntityUID} {ts rest : List Lexeme} → w ≡ var_text variables.Action → Stands ts (entity_tree u)
+  equal_to : {w e : List ℕ} {u : BareEntityUID} {ts rest : List Lexeme} → w ≡ var_text variables.Action → is_action u ≡ true
+      → Stands ts (entity_tree u)
       → IsActionScope (lexeme kinds.Word w ∷ lexeme kinds.Equal e ∷ (ts ++ rest)) (action_equals u) rest
-  within_one : {w i : List ℕ} {u : BareEntityUID} {ts rest : List Lexeme} → w ≡ var_text variables.Action → Stands ts (entity_tree u)
+  within_one : {w i : List ℕ} {u : BareEntityUID} {ts rest : List Lexeme} → w ≡ var_text variables.Action → is_action u ≡ true
+      → Stands ts (entity_tree u)
       → IsActionScope (lexeme kinds.Word w ∷ lexeme kinds.In i ∷ (ts ++ rest)) (action_in u) rest
   within_set : {w i : List ℕ} {us : List BareEntityUID} {ts rest : List Lexeme} → w ≡ var_text variables.Action
-      → Stands ts (Set (trees_of (map entity_tree us)))
+      → list_all is_action us ≡ true → Stands ts (Set (trees_of (map entity_tree us)))
       → IsActionScope (lexeme kinds.Word w ∷ lexeme kinds.In i ∷ (ts ++ rest)) (action_in_set us) rest
 
 -- whether a token is a slot

@@ -1,5 +1,5 @@
 -- Conditions of policies, worked by hand.
-use Rattle.std.specs.Prelude.{◌≡◌, true, List, [], ◌∷◌, ◌++◌, codes}
+use Rattle.std.specs.Prelude.{◌≡◌, ℕ, true, false, List, [], ◌∷◌, ◌++◌, codes}
 use Rattle.cedar_names.specs.Names.{BareName}
 use Rattle.cedar_names.specs.declared.slot.SlotId.TheVariants as slots
 use Rattle.cedar_terms.specs.Entities.{BareEntityUID}
@@ -9,6 +9,7 @@ use Rattle.cedar_terms.specs.declared.ops.UnaryOp.TheVariants as Unary
 use Rattle.cedar_terms.specs.declared.var.Var.TheVariants as variables
 use Rattle.cedar_builders.specs.BareExpr.{BareExpr, Lit, Var, Slot, And, UnaryApp, BinaryApp, GetAttr, Set, Is, no_trees, tree}
 use Rattle.semantics_policies.specs.Conditions.{condition}
+use Rattle.semantics_policies.specs.Grammar.{is_action}
 use Rattle.semantics_policies.specs.Policies.{Effect, entity, slot, any, equals, is_in, is_of_in, any_action, action_equals, action_in_set, Clause, when_true, unless_true, BarePolicy}
 
 -- a policy whose scope takes every request
@@ -52,3 +53,8 @@ TemplateWorked =
     ≡ And
     (And (BinaryApp Binary.Eq (Var variables.Principal) (Slot slots.Principal)) (BinaryApp Binary.Eq (Var variables.Action) (Lit (EntityLit a))))
     (BinaryApp Binary.In (Var variables.Resource) (Slot slots.Resource))
+
+-- `Shop::Action::"view"` is an action, whatever the namespace, and `User::"view"` is none
+pub record ActionsWorked : Type 0 where
+  pub is_one : (ns : List (List ℕ)) → is_action (record { entity_type = record { path = ns; basename = codes "Action" }; eid = codes "view" }) ≡ true
+  pub is_none : (ns : List (List ℕ)) → is_action (record { entity_type = record { path = ns; basename = codes "User" }; eid = codes "view" }) ≡ false

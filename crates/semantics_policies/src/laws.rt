@@ -2,6 +2,7 @@
 //!
 //! Each function here does nothing: its contract is the law, over the definitions alone.
 ghost use Rattle.semantics_policies.specs.Laws.{
+  ActionsWorked,
   ClausesWorked,
   LastClause,
   ScopeWorked,
@@ -32,4 +33,9 @@ pub fn scope_worked()
 /// A template's scope has the slots where a policy's has entities.
 pub fn template_worked()
     ensures { TemplateWorked }
+{}
+
+/// Entities of a type `Action` are actions, in any namespace, and no others are.
+pub fn actions_worked()
+    ensures { ActionsWorked }
 {}
