@@ -1,0 +1,8 @@
+pub mod ByKind
+pub mod Compared
+pub mod Members
+pub mod Paths
+pub mod Calls
+pub mod Trees
+pub mod KeyedValues
+pub mod Bindings
