@@ -18,7 +18,7 @@ use Rattle.semantics_extensions.specs.Datetimes.{moment}
 use Rattle.semantics_extensions.specs.Readings.{datetime_in, decimal_in, duration_in, ip_addr_in}
 use Rattle.cedar_function_names.specs.declared.function.ExtensionFunction.TheVariants as by
 use Rattle.cedar_functions.specs.Answers.{extension}
-use Rattle.cedar_functions.specs.Functions.{Given, gives, made, moment_at}
+use Rattle.cedar_functions.specs.Functions.{gives, made, moment_at}
 use Rattle.cedar_functions.specs.Laws.{CallsMakeValues}
 use Rattle.cedar_functions.specs.declared.extension.BuiltinExtension.{BuiltinExtension}
 use Rattle.cedar_functions.specs.declared.extension.BuiltinExtension.TheVariants as of
@@ -37,7 +37,7 @@ of_both o p =
 from_zero : (n : ℤ) → n ≡ pos 0 +ℤ n
 from_zero n = grind (arith, ints)
 
-offset_of_zero : (d : Datetime) → FitsSigned w64 d.milliseconds → ◌≡◌ {A = Given} (moment_at (pos 0 +ℤ d.milliseconds)) (Ok (extension (of.Datetime d)))
+offset_of_zero : (d : Datetime) → FitsSigned w64 d.milliseconds → ◌≡◌ {A = Outcome BuiltinExtension} (settled (moment_at (pos 0 +ℤ d.milliseconds))) (Ok (extension (of.Datetime d)))
 offset_of_zero d h = sym (moment_some (pos 0 +ℤ d.milliseconds) d (from_zero d.milliseconds) (subst (FitsSigned w64) (from_zero d.milliseconds) h))
 
 module _ (R : BuiltinExtension → BuiltinExtension → Ordering) (E : BuiltinExtension → BuiltinExtension → Bool)
@@ -51,4 +51,4 @@ module _ (R : BuiltinExtension → BuiltinExtension → Ordering) (E : BuiltinEx
   calls_make_values k (of.Duration d) h = ap (λ o. of_read (option_map of.Duration o)) (durations d h)
   calls_make_values k (of.Datetime d) h =
       (λ i. of_both (epoch i) (durations (record { milliseconds = d.milliseconds }) h i))
-      ∙ ap (λ g. Ok (settled g)) (offset_of_zero d h)
+      ∙ ap (λ m. Ok m) (offset_of_zero d h)

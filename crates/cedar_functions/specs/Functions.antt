@@ -6,8 +6,8 @@ use Rattle.std.specs.Ordering.{int_cmp}
 use Rattle.std.specs.declared.cmp.Ordering.{Ordering}
 use Rattle.std.specs.Net.Addr.{is_ipv4, is_ipv6}
 use Rattle.cedar_names.specs.Names.{BareName}
-use Rattle.cedar_terms.specs.Literals.{LongLit, StringLit}
-use Rattle.semantics_values.specs.BareValue.{BareValue, LitValue, ExtensionValue}
+use Rattle.cedar_terms.specs.Literals.{LongLit}
+use Rattle.semantics_values.specs.BareValue.{BareValue, LitValue}
 use Rattle.semantics_eval.specs.Longs.{is_long}
 use Rattle.semantics_eval.specs.Outcomes.{Mistake, WrongType, Overflow, truth}
 use Rattle.semantics_request.specs.Requests.{Functions}

@@ -1,9 +1,11 @@
 //! The methods of decimals.
 ghost use Rattle.std.specs.Prelude.{◌≡◌};
+ghost use Rattle.semantics_eval.specs.Outcomes.{settled};
 ghost use Rattle.cedar_functions.specs.Answers.{answered};
 ghost use Rattle.cedar_functions.specs.Functions as meant;
 
-use crate::answer::{Answer, CallFault};
+use crate::answer::Answer;
+use cedar_evaluator::EvalFault;
 use cedar_extensions::Decimal;
 use cedar_function_names::ExtensionFunction;
 
@@ -13,8 +15,8 @@ pub(crate) fn of_decimals(
     function: ExtensionFunction,
     left: Decimal,
     right: Decimal,
-) -> Result<Answer, CallFault>
-    ensures { answered result ≡ meant.of_decimals function left right }
+) -> Result<Answer, EvalFault>
+    ensures { answered result ≡ settled (meant.of_decimals function left right) }
 {
     match function {
         ExtensionFunction::LessThan => Ok(Answer::Bool(left.less_than(right))),
@@ -23,6 +25,6 @@ pub(crate) fn of_decimals(
         ExtensionFunction::GreaterThanOrEqual => {
             Ok(Answer::Bool(left.greater_than_or_equal(right)))
         }
-        _ => Err(CallFault::WrongType),
+        _ => Err(EvalFault::WrongType),
     }
 }

@@ -9,9 +9,11 @@ mod extension_value;
 mod extensions;
 pub mod laws;
 mod ranges;
+mod table;
 mod texts;
 mod times;
 
-pub use answer::{Answer, CallFault};
+pub use answer::Answer;
 pub use calls::{call, function_of};
 pub use extension::BuiltinExtension;
+pub use table::{BuiltinFunction, BuiltinFunctions};

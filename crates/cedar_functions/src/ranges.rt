@@ -3,10 +3,12 @@ ghost use Rattle.std.specs.Prelude.{◌≡◌, ◌<◌, ◌^◌};
 ghost use Rattle.cedar_extensions.specs.IpAddrs.{address_of};
 ghost use Rattle.cedar_extensions.specs.Ranges.{bits_of, width_of};
 ghost use Rattle.semantics_extensions.specs.Tests as meant_tests;
+ghost use Rattle.semantics_eval.specs.Outcomes.{settled};
 ghost use Rattle.cedar_functions.specs.Answers.{answered};
 ghost use Rattle.cedar_functions.specs.Functions as meant;
 
-use crate::answer::{Answer, CallFault};
+use crate::answer::Answer;
+use cedar_evaluator::EvalFault;
 use cedar_extensions::IpAddr;
 use cedar_function_names::ExtensionFunction;
 use semantics_extensions::laws::tests_are_exact;
@@ -57,15 +59,15 @@ fn is_in_range(range: IpAddr, other: IpAddr) -> bool
 }
 
 // What a method gives of a range.
-pub(crate) fn of_range(function: ExtensionFunction, range: IpAddr) -> Result<Answer, CallFault>
-    ensures { answered result ≡ meant.of_range function range }
+pub(crate) fn of_range(function: ExtensionFunction, range: IpAddr) -> Result<Answer, EvalFault>
+    ensures { answered result ≡ settled (meant.of_range function range) }
 {
     match function {
         ExtensionFunction::IsIpv4 => Ok(Answer::Bool(range.is_ipv4())),
         ExtensionFunction::IsIpv6 => Ok(Answer::Bool(range.is_ipv6())),
         ExtensionFunction::IsLoopback => Ok(Answer::Bool(is_loopback(range))),
         ExtensionFunction::IsMulticast => Ok(Answer::Bool(is_multicast(range))),
-        _ => Err(CallFault::WrongType),
+        _ => Err(EvalFault::WrongType),
     }
 }
 
@@ -74,11 +76,11 @@ pub(crate) fn of_ranges(
     function: ExtensionFunction,
     range: IpAddr,
     other: IpAddr,
-) -> Result<Answer, CallFault>
-    ensures { answered result ≡ meant.of_ranges function range other }
+) -> Result<Answer, EvalFault>
+    ensures { answered result ≡ settled (meant.of_ranges function range other) }
 {
     match function {
         ExtensionFunction::IsInRange => Ok(Answer::Bool(is_in_range(range, other))),
-        _ => Err(CallFault::WrongType),
+        _ => Err(EvalFault::WrongType),
     }
 }

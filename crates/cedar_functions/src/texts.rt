@@ -6,12 +6,14 @@ ghost use Rattle.semantics_extensions.specs.Readings.{
   duration_in,
   ip_addr_in,
 };
+ghost use Rattle.semantics_eval.specs.Outcomes.{settled};
 ghost use Rattle.cedar_functions.specs.Answers.{answered};
 ghost use Rattle.cedar_functions.specs.Functions as meant;
 ghost use Rattle.cedar_functions.specs.declared.extension.BuiltinExtension.TheVariants as of;
 
-use crate::answer::{Answer, CallFault};
+use crate::answer::Answer;
 use crate::extension::BuiltinExtension;
+use cedar_evaluator::EvalFault;
 use cedar_extensions::{Datetime, Decimal, Duration, IpAddr};
 use cedar_function_names::ExtensionFunction;
 use semantics_extensions::laws::readings_are_exact;
@@ -65,24 +67,24 @@ fn read_duration(text: &str) -> Option<BuiltinExtension>
 }
 
 // What is read, or a fault.
-fn made(read: Option<BuiltinExtension>) -> Result<Answer, CallFault>
-    ensures { answered result ≡ meant.made read }
+fn made(read: Option<BuiltinExtension>) -> Result<Answer, EvalFault>
+    ensures { answered result ≡ settled (meant.made read) }
 {
     match read {
         Some(value) => Ok(Answer::Extension(value)),
-        None => Err(CallFault::WrongType),
+        None => Err(EvalFault::WrongType),
     }
 }
 
 // What a function gives of a text.
-pub(crate) fn of_text(function: ExtensionFunction, text: &str) -> Result<Answer, CallFault>
-    ensures { answered result ≡ meant.of_text function text.now }
+pub(crate) fn of_text(function: ExtensionFunction, text: &str) -> Result<Answer, EvalFault>
+    ensures { answered result ≡ settled (meant.of_text function text.now) }
 {
     match function {
         ExtensionFunction::Decimal => made(read_decimal(text)),
         ExtensionFunction::Ip => made(read_ip(text)),
         ExtensionFunction::Datetime => made(read_datetime(text)),
         ExtensionFunction::Duration => made(read_duration(text)),
-        _ => Err(CallFault::WrongType),
+        _ => Err(EvalFault::WrongType),
     }
 }

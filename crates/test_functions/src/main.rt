@@ -4,13 +4,14 @@
 #![tactic(auto)]
 
 use anyhow::Result;
+use cedar_evaluator::EvalFault;
 use cedar_exprs::Expr;
 use cedar_function_names::ExtensionFunction;
-use cedar_functions::{BuiltinExtension, CallFault, call, function_of};
+use cedar_functions::{BuiltinExtension, call, function_of};
 use cedar_names::{FromNormalizedStr, Name};
 use cedar_printer::policy_text;
 use cedar_terms::Literal;
-use cedar_values::{BoundedToString, ExtensionValue, Value, ValueKind};
+use cedar_values::{BoundedToString, ExtensionValue, Value, ValueKind, WellFormedValue};
 use std::alloc::{AllocError, Global};
 
 fn main(rt: HostRuntime) -> Result<()> {
@@ -142,7 +143,7 @@ fn made(
     };
     let args = vec![in alloc; literal(Literal::from_text(alloc, text)?)]?;
     match call(alloc, function, &args)? {
-        Ok(value) => Ok(Some(value)),
+        Ok(value) => Ok(Some(value.into_value())),
         Err(_) => Ok(None),
     }
 }
@@ -154,14 +155,15 @@ fn literal(literal: Literal) -> Value<BuiltinExtension> {
 // A value, or why there is none.
 fn shown(
     alloc: Global,
-    made: Result<Value<BuiltinExtension>, CallFault>,
+    made: Result<WellFormedValue<BuiltinExtension>, EvalFault>,
 ) -> Result<String, AllocError> {
     match made {
-        Ok(value) => match value.value_kind() {
+        Ok(value) => match value.as_value().value_kind() {
             ValueKind::ExtensionValue(extension) => format!(in alloc; "{}", extension.value()),
-            _ => value.to_string_unbounded(alloc),
+            _ => value.as_value().to_string_unbounded(alloc),
         },
-        Err(CallFault::WrongType) => String::from_str(alloc, "wrong type"),
-        Err(CallFault::Overflow) => String::from_str(alloc, "overflow"),
+        Err(EvalFault::WrongType) => String::from_str(alloc, "wrong type"),
+        Err(EvalFault::Overflow) => String::from_str(alloc, "overflow"),
+        Err(fault) => format!(in alloc; "{fault}"),
     }
 }
