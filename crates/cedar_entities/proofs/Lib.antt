@@ -1,3 +1,4 @@
 pub mod Parts
 pub mod Stored
 pub mod Named
+pub mod Answered

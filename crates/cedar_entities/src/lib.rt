@@ -4,6 +4,7 @@
 mod entities;
 mod entities_error;
 mod entity;
+mod entity_store;
 pub mod laws;
 #[cfg(test)]
 mod tests;
