@@ -1,0 +1,11 @@
+pub mod Taken
+pub mod Groups
+pub mod Constraints
+pub mod EntityTrees
+pub mod Keys
+pub mod SeenLemmas
+pub mod Loops
+pub mod Bodies
+pub mod Wholes
+pub mod Slots
+pub mod Texts

@@ -1,0 +1,4 @@
+pub mod Seen
+pub mod Streams
+pub mod Scopes
+pub mod Annotations
