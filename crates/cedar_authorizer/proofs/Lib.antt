@@ -1,0 +1,3 @@
+pub mod Tallies
+pub mod ResidualPolicies
+pub mod Taken
