@@ -1,18 +1,34 @@
 //! The answer to a condition.
-use crate::bindings::Bindings;
+ghost use Rattle.std.specs.Prelude.{◌≡◌, ◌≢◌, Err, IfOk, IfSome, Ok};
+ghost use Rattle.cedar_builders.specs.Environment.{fold};
+ghost use Rattle.cedar_exprs.specs.BareExpr.{bare_expr};
+ghost use Rattle.cedar_values.specs.BareValues.{bare_value};
+ghost use Rattle.semantics_eval.specs.Evaluator.{evaluator_ops};
+ghost use Rattle.cedar_evaluator.specs.Outcomes.{bare_fault, bare_outcome, fault_in, unplaced};
+ghost use Rattle.cedar_evaluator.specs.declared.fault.EvalFault.TheVariants.{Open};
+ghost use Rattle.cedar_bindings.specs.Bindings.{env_in, names_in};
+ghost use Rattle.cedar_bindings.specs.Names.{named};
+ghost use Rattle.cedar_conditions.specs.Answers.{
+  HasNoValue,
+  IsAnswerOf,
+  IsAnswerTo,
+  IsValueText,
+};
+
 use crate::calls::wrong_call;
 use crate::faults::fault_words;
 use crate::hints::syntax_words;
 use crate::problem::Problem;
-use crate::size::{nodes_of, too_deep};
+use crate::size::{Node, nodes_of, too_deep};
 use crate::unknowns::unknowns_of;
+use cedar_bindings::{Bindings, put_names};
 use cedar_builders::BuildFault;
 use cedar_evaluator::{EvaluationFault, evaluate_shared};
 use cedar_exprs::Expr;
-use cedar_parser::{Excerpt, ParseError, SyntaxError, parse_expr, parse_with_values};
+use cedar_parser::{Excerpt, ParseError, SyntaxError, parse_expr};
 use cedar_printer::policy_text;
 use cedar_simplifier::simplify_shared;
-use cedar_values::Value;
+use cedar_values::{NoExtension, Value};
 use std::alloc::{AllocError, Global};
 use std::fmt;
 
@@ -59,17 +75,23 @@ impl fmt::Display for Answer {
 /// }
 /// ```
 ///
-/// A call of what is no function or method of Cedar makes a text no condition, and so do sets and
-/// records that nest more than 1,000 deep.
+/// It is what the condition's tree evaluates to, in which each bound name stands for what it is
+/// bound to; or the residual that simplifying the tree leaves. A call of what is no function or
+/// method of Cedar makes a text no condition, and so do sets and records that nest more than 1,000
+/// deep.
+#[tactic(auto, using(crate::proofs::Answering::answer_to))]
 pub fn evaluate_condition(
     alloc: Global,
     text: &str,
     bindings: &Bindings,
-) -> Result<Answer, AllocError> {
-    match parse_with_values(alloc, text, &bindings.parsed_as) {
-        Ok(expr) => match refused(alloc, text, &expr, bindings)? {
+) -> Result<Answer, AllocError>
+    ensures { IfOk result (IsAnswerTo ⟦<NoExtension as Ord>⟧.cmp ⟦<NoExtension as PartialEq>⟧.eq
+        bindings.now text.now) }
+{
+    match parse_expr(alloc, text) {
+        Ok(parsed) => match refused(alloc, text, &parsed)? {
             Some(problem) => Ok(Answer::NoCondition(problem)),
-            None => answer_expr(alloc, text, &expr, bindings),
+            None => answer_parsed(alloc, text, &parsed, bindings),
         },
         Err(ParseError::Syntax(error)) => no_condition(alloc, text, &error, bindings),
         Err(ParseError::Memory) => Err(AllocError),
@@ -81,74 +103,125 @@ fn no_condition(
     text: &str,
     error: &SyntaxError,
     bindings: &Bindings,
-) -> Result<Answer, AllocError> {
+) -> Result<Answer, AllocError>
+    ensures { IfOk result (IsAnswerTo ⟦<NoExtension as Ord>⟧.cmp ⟦<NoExtension as PartialEq>⟧.eq
+        bindings.now text.now) }
+{
     let words = syntax_words(alloc, text, error, bindings)?;
     Ok(Answer::NoCondition(Problem::new(alloc, error.excerpt(text), words)?))
 }
 
-// Why an expression is no condition, though its text is in the grammar.
-fn refused(
-    alloc: Global,
-    text: &str,
-    expr: &Expr,
-    bindings: &Bindings,
-) -> Result<Option<Problem>, AllocError> {
-    if let Some(problem) = too_deep(alloc, text)? {
-        return Ok(Some(problem));
-    }
-    if !bindings.holds_calls() {
-        return refused_nodes(alloc, text, expr);
-    }
-    // Calls that are bound are no calls of the text.
-    match parse_expr(alloc, text) {
-        Ok(expr) => refused_nodes(alloc, text, &expr),
-        Err(ParseError::Syntax(_)) => Ok(None),
-        Err(ParseError::Memory) => Err(AllocError),
-    }
-}
-
-// The first call, from outside, of what is no function or method, or that there are too many nodes.
-fn refused_nodes(alloc: Global, text: &str, expr: &Expr) -> Result<Option<Problem>, AllocError> {
+// Why an expression is no condition, though its text is in the grammar: it has too many nodes, or a
+// node, the first from outside, stands in too many sets and records, or is a call of what is no
+// function or method.
+fn refused(alloc: Global, text: &str, expr: &Expr) -> Result<Option<Problem>, AllocError> {
     let nodes = match nodes_of(alloc, text, expr)? {
         Ok(nodes) => nodes,
         Err(problem) => return Ok(Some(problem)),
     };
-    for node in &nodes {
-        if let Some(problem) = wrong_call(alloc, text, node)? {
+    for node in nodes {
+        if let Some(problem) = refused_node(alloc, text, node)? {
             return Ok(Some(problem));
         }
     }
     Ok(None)
 }
 
+fn refused_node(alloc: Global, text: &str, node: Node<'_>) -> Result<Option<Problem>, AllocError> {
+    match too_deep(alloc, text, node)? {
+        Some(problem) => Ok(Some(problem)),
+        None => wrong_call(alloc, text, node.expr),
+    }
+}
+
+// The answer to what a text was parsed as.
+fn answer_parsed(
+    alloc: Global,
+    text: &str,
+    parsed: &Expr,
+    bindings: &Bindings,
+) -> Result<Answer, AllocError>
+    ensures { IfOk result (IsAnswerOf ⟦<NoExtension as Ord>⟧.cmp ⟦<NoExtension as PartialEq>⟧.eq
+        (env_in bindings.now) (named (names_in bindings.now) (bare_expr parsed.now))) }
+{
+    let expr = put_names(alloc, parsed, bindings.named())?;
+    answer_expr(alloc, text, &expr, bindings)
+}
+
 // The answer to an expression.
+#[tactic(auto, using(crate::proofs::Answering::no_value_by_call))]
 fn answer_expr(
     alloc: Global,
     text: &str,
     expr: &Expr,
     bindings: &Bindings,
-) -> Result<Answer, AllocError> {
-    match evaluate_shared(alloc, expr, &bindings.values) {
-        Ok(outcome) => match outcome.into_result() {
-            Ok(value) => answer_value(alloc, &value),
-            Err(fault) => match fault_problem(alloc, text, expr, &fault, bindings)? {
-                Some(problem) => Ok(Answer::Fault(problem)),
-                None => answer_residual(alloc, expr, bindings),
-            },
-        },
+) -> Result<Answer, AllocError>
+    ensures { IfOk result (IsAnswerOf ⟦<NoExtension as Ord>⟧.cmp ⟦<NoExtension as PartialEq>⟧.eq
+        (env_in bindings.now) (bare_expr expr.now)) }
+{
+    match evaluate_shared(alloc, expr, bindings.values()) {
+        Ok(outcome) => answer_outcome(alloc, text, expr, outcome.into_result(), bindings),
         Err(BuildFault::Build(_)) => answer_residual(alloc, expr, bindings),
         Err(BuildFault::Memory) => Err(AllocError),
     }
 }
 
-fn answer_value(alloc: Global, value: &Value) -> Result<Answer, AllocError> {
+// The answer to an expression that has this outcome.
+#[tactic(auto, using(crate::proofs::Answering::value_answer))]
+fn answer_outcome(
+    alloc: Global,
+    text: &str,
+    expr: &Expr,
+    outcome: Result<Value, EvaluationFault>,
+    bindings: &Bindings,
+) -> Result<Answer, AllocError>
+    ensures { fold (evaluator_ops ⟦<NoExtension as Ord>⟧.cmp ⟦<NoExtension as PartialEq>⟧.eq)
+        (env_in bindings.now) (bare_expr expr.now) ≡ Ok (bare_outcome (unplaced outcome))
+        → IfOk result (IsAnswerOf ⟦<NoExtension as Ord>⟧.cmp ⟦<NoExtension as PartialEq>⟧.eq
+        (env_in bindings.now) (bare_expr expr.now)) }
+{
+    match outcome {
+        Ok(value) => answer_value(alloc, &value),
+        Err(fault) => answer_fault(alloc, text, expr, &fault, bindings),
+    }
+}
+
+fn answer_value(alloc: Global, value: &Value) -> Result<Answer, AllocError>
+    ensures { IfOk result (IsValueText (bare_value value.now)) }
+{
     let expr = value.to_expr(alloc)?;
     Ok(Answer::Value(policy_text(alloc, &expr)?.text))
 }
 
+// The answer to an expression that has this fault: the fault, or what is left, where it may be
+// taken away.
+#[tactic(auto, using(crate::proofs::Answering::fault_answer, crate::proofs::Answering::no_value_by_fault))]
+fn answer_fault(
+    alloc: Global,
+    text: &str,
+    expr: &Expr,
+    fault: &EvaluationFault,
+    bindings: &Bindings,
+) -> Result<Answer, AllocError>
+    ensures { fold (evaluator_ops ⟦<NoExtension as Ord>⟧.cmp ⟦<NoExtension as PartialEq>⟧.eq)
+        (env_in bindings.now) (bare_expr expr.now) ≡ Ok (Err (bare_fault (fault_in fault.now)))
+        → IfOk result (IsAnswerOf ⟦<NoExtension as Ord>⟧.cmp ⟦<NoExtension as PartialEq>⟧.eq
+        (env_in bindings.now) (bare_expr expr.now)) }
+{
+    match fault_problem(alloc, text, expr, fault, bindings)? {
+        Some(problem) => Ok(Answer::Fault(problem)),
+        None => answer_residual(alloc, expr, bindings),
+    }
+}
+
 // The residual of what has no value yet.
-fn answer_residual(alloc: Global, expr: &Expr, bindings: &Bindings) -> Result<Answer, AllocError> {
-    let residual = simplify_shared(alloc, expr, &bindings.values)?.into_expr(alloc)?;
+fn answer_residual(alloc: Global, expr: &Expr, bindings: &Bindings) -> Result<Answer, AllocError>
+    ensures { HasNoValue ⟦<NoExtension as Ord>⟧.cmp ⟦<NoExtension as PartialEq>⟧.eq
+        (env_in bindings.now) (bare_expr expr.now)
+        → IfOk result (IsAnswerOf ⟦<NoExtension as Ord>⟧.cmp ⟦<NoExtension as PartialEq>⟧.eq
+        (env_in bindings.now) (bare_expr expr.now)) }
+{
+    let residual = simplify_shared(alloc, expr, bindings.values())?.into_expr(alloc)?;
     Ok(Answer::Residual(Residual {
         text: policy_text(alloc, &residual)?.text,
         unknowns: unknowns_of(alloc, &residual)?,
@@ -162,7 +235,9 @@ fn fault_problem(
     expr: &Expr,
     fault: &EvaluationFault,
     bindings: &Bindings,
-) -> Result<Option<Problem>, AllocError> {
+) -> Result<Option<Problem>, AllocError>
+    ensures { IfOk result (λ found. IfSome found (λ _. fault_in fault.now ≢ Open)) }
+{
     let Some(place) = fault.source_loc().or(expr.source_loc()) else {
         return Ok(None);
     };

@@ -1,68 +1,57 @@
-//! The functions and methods that Cedar has.
+//! Calls of what is no function or method of Cedar.
 use crate::layout::from_on;
-use crate::nearest::nearest;
 use crate::problem::{Problem, Words};
 use cedar_exprs::{Expr, ExprKind};
+use cedar_function_names::ExtensionFunction;
+use cedar_json::nearest;
 use cedar_names::Loc;
 use cedar_parser::Excerpt;
 use std::alloc::{AllocError, Global};
 
-/// The functions; `unknown` stands for what is not known yet.
-pub(crate) const FUNCTIONS: [&str; 5] = ["ip", "decimal", "datetime", "duration", "unknown"];
-
-/// The methods, those of sets and of tags among them.
-pub(crate) const METHODS: [&str; 24] = [
-    "contains",
-    "containsAll",
-    "containsAny",
-    "isEmpty",
-    "getTag",
-    "hasTag",
-    "lessThan",
-    "lessThanOrEqual",
-    "greaterThan",
-    "greaterThanOrEqual",
-    "isIpv4",
-    "isIpv6",
-    "isLoopback",
-    "isMulticast",
-    "isInRange",
-    "offset",
-    "durationSince",
-    "toDate",
-    "toTime",
-    "toMilliseconds",
-    "toSeconds",
-    "toMinutes",
-    "toHours",
-    "toDays",
-];
-
-/// How a name of an extension is called.
+// How a function is called.
 #[derive(Clone, Copy, Debug, PartialEq, Eq)]
-pub(crate) enum Style {
-    /// Before all its arguments.
+enum Style {
+    // Before all its arguments.
     Function,
-    /// Behind its first argument and a dot.
+    // Behind its first argument and a dot.
     Method,
 }
 
-/// How a name of an extension is called, and how many arguments it takes, that before the dot among
-/// them.
-pub(crate) fn style_of(name: &str) -> Option<(Style, usize)> {
-    match name {
-        "ip" | "decimal" | "datetime" | "duration" => Some((Style::Function, 1)),
-        "isIpv4" | "isIpv6" | "isLoopback" | "isMulticast" | "toDate" | "toTime" => {
-            Some((Style::Method, 1))
+impl Style {
+    fn of(function: ExtensionFunction) -> Style {
+        if function.is_method() {
+            Style::Method
+        } else {
+            Style::Function
         }
-        "toMilliseconds" | "toSeconds" | "toMinutes" | "toHours" | "toDays" => {
-            Some((Style::Method, 1))
+    }
+
+    // What is called so without being a function of an extension: `unknown` stands for what is not
+    // known yet, and the methods are those of sets and tags.
+    fn other_names(self) -> &'static [&'static str] {
+        match self {
+            Style::Function => &["unknown"],
+            Style::Method => &[
+                "contains",
+                "containsAll",
+                "containsAny",
+                "isEmpty",
+                "getTag",
+                "hasTag",
+            ],
         }
-        "lessThan" | "lessThanOrEqual" | "greaterThan" | "greaterThanOrEqual" => {
-            Some((Style::Method, 2))
+    }
+
+    // All names that are called so.
+    fn names(self, alloc: Global) -> Result<Vec<&'static str>, AllocError> {
+        let mut names = Vec::new(alloc);
+        for function in ExtensionFunction::all() {
+            if Style::of(function) == self {
+                names.push(function.name())?;
+            }
         }
-        "isInRange" | "offset" | "durationSince" => Some((Style::Method, 2)),
-        _ => None,
+        names.extend_from_slice(self.other_names())?;
+        Ok(names)
     }
 }
 
@@ -96,15 +85,17 @@ fn wrong_words(
     style: Style,
     count: usize,
 ) -> Result<Option<Words>, AllocError> {
-    match style_of(name) {
-        Some((known, wanted)) if known == style && wanted == count => Ok(None),
-        Some((known, wanted)) if known == style => Ok(Some(wrong_count(
+    match ExtensionFunction::from_name(name) {
+        Some(function) if Style::of(function) != style => {
+            Ok(Some(wrong_style(alloc, name, Style::of(function))?))
+        }
+        Some(function) if function.arity() == count => Ok(None),
+        Some(function) => Ok(Some(wrong_count(
             alloc,
             name,
-            shown_count(style, wanted),
+            shown_count(style, function.arity()),
             shown_count(style, count),
         )?)),
-        Some((known, _)) => Ok(Some(wrong_style(alloc, name, known)?)),
         None => Ok(Some(unknown_name(alloc, name, style)?)),
     }
 }
@@ -144,40 +135,40 @@ fn wrong_style(alloc: Global, name: &str, known: Style) -> Result<Words, AllocEr
 }
 
 fn unknown_name(alloc: Global, name: &str, style: Style) -> Result<Words, AllocError> {
-    let (message, near) = match style {
-        Style::Function if name == "unknown" => (
-            String::from_str(alloc, "`unknown` takes one text in quotes")?,
-            Some("unknown(\"NAME\")"),
-        ),
-        Style::Function => (
-            format!(in alloc; "Cedar has no function `{name}`")?,
-            nearest(alloc, name, &FUNCTIONS)?,
-        ),
-        Style::Method => (
-            format!(in alloc; "Cedar has no method `{name}`")?,
-            nearest(alloc, name, &METHODS)?,
-        ),
-    };
-    let hint = match (style, name, near) {
-        (Style::Function, "permit" | "forbid", _) => {
-            String::from_str(alloc, "a condition is what stands in braces behind `when`")?
+    let message = match style {
+        Style::Function if name == "unknown" => {
+            String::from_str(alloc, "`unknown` takes one text in quotes")?
         }
-        (_, _, Some(near)) => format!(in alloc; "did you mean `{near}`?")?,
-        (Style::Function, _, None) => {
-            String::from_str(
-                alloc,
-                "the functions are ip, decimal, datetime, duration, unknown",
-            )?
-        }
-        (Style::Method, _, None) => String::from_str(
-            alloc,
-            "docs/CONDITIONS.md lists the methods",
-        )?,
+        Style::Function => format!(in alloc; "Cedar has no function `{name}`")?,
+        Style::Method => format!(in alloc; "Cedar has no method `{name}`")?,
     };
     Ok(Words {
         message,
-        hint: Some(hint),
+        hint: Some(meant_call(alloc, name, style)?),
     })
+}
+
+// What may have been meant by a call of what is not there.
+fn meant_call(alloc: Global, name: &str, style: Style) -> Result<String, AllocError> {
+    if style == Style::Function {
+        match name {
+            "unknown" => return String::from_str(alloc, "did you mean `unknown(\"NAME\")`?"),
+            "permit" | "forbid" => {
+                let hint = "a condition is what stands in braces behind `when`";
+                return String::from_str(alloc, hint);
+            }
+            _ => {}
+        }
+    }
+    let names = style.names(alloc)?;
+    match (nearest(alloc, name, &names)?, style) {
+        (Some(near), _) => format!(in alloc; "did you mean `{near}`?"),
+        (None, Style::Function) => {
+            let names = names.join(alloc, ", ")?;
+            format!(in alloc; "the functions are {names}")
+        }
+        (None, Style::Method) => String::from_str(alloc, "docs/CONDITIONS.md lists the methods"),
+    }
 }
 
 // How a call is written: the first argument of a method stands before its name.

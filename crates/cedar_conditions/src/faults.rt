@@ -1,10 +1,13 @@
 //! Faults in words: which type was found and which is wanted, which attribute is missing.
-use crate::bindings::Bindings;
-use crate::nearest::did_you_mean;
+ghost use Rattle.std.specs.Prelude.{◌≡◌, IfOk, None};
+ghost use Rattle.cedar_evaluator.specs.declared.fault.EvalFault.TheVariants.{Open};
+
 use crate::problem::Words;
+use cedar_bindings::Bindings;
 use cedar_builders::BuildFault;
 use cedar_evaluator::{EvalFault, evaluate_shared};
 use cedar_exprs::{Expr, ExprKind};
+use cedar_json::did_you_mean;
 use cedar_names::{Loc, NonEmpty};
 use cedar_terms::{BinaryOp, Literal, UnaryOp};
 use cedar_values::{Value, ValueKind};
@@ -82,14 +85,22 @@ pub(crate) fn fault_words(
     fault: EvalFault,
     place: &Loc,
     bindings: &Bindings,
+) -> Result<Option<Words>, AllocError>
+    ensures { fault ≡ Open → IfOk result (λ words. words ≡ None) }
+{
+    match fault {
+        EvalFault::Open => Ok(None),
+        _ => mistake_words(alloc, expr, fault, place, bindings),
+    }
+}
+
+fn mistake_words(
+    alloc: Global,
+    expr: &Expr,
+    fault: EvalFault,
+    place: &Loc,
+    bindings: &Bindings,
 ) -> Result<Option<Words>, AllocError> {
-    let general = match fault {
-        EvalFault::WrongType => Some("a value has the wrong type"),
-        EvalFault::Overflow => Some("an integer is outside 64 bits"),
-        EvalFault::Missing => Some("a record lacks the attribute"),
-        EvalFault::Store => None,
-        EvalFault::Open => return Ok(None),
-    };
     for node in expr.subexpressions(alloc)? {
         if stands_at(node, place) {
             if let Some(words) = node_words(alloc, node, fault, bindings)? {
@@ -97,9 +108,19 @@ pub(crate) fn fault_words(
             }
         }
     }
-    match general {
+    match general_words(fault) {
         Some(general) => Ok(Some(Words::message(String::from_str(alloc, general)?))),
         None => Ok(None),
+    }
+}
+
+// What is told of a fault that no binding takes away, wherever it comes up.
+fn general_words(fault: EvalFault) -> Option<&'static str> {
+    match fault {
+        EvalFault::WrongType => Some("a value has the wrong type"),
+        EvalFault::Overflow => Some("an integer is outside 64 bits"),
+        EvalFault::Missing => Some("a record lacks the attribute"),
+        EvalFault::Store | EvalFault::Open => None,
     }
 }
 
@@ -346,7 +367,7 @@ fn type_of(alloc: Global, expr: &Expr, bindings: &Bindings) -> Result<Option<Typ
 
 // The value of an expression, if it has one.
 fn value_of(alloc: Global, expr: &Expr, bindings: &Bindings) -> Result<Option<Value>, AllocError> {
-    match evaluate_shared(alloc, expr, &bindings.values) {
+    match evaluate_shared(alloc, expr, bindings.values()) {
         Ok(outcome) => Ok(outcome.into_result().ok()),
         Err(BuildFault::Build(_)) => Ok(None),
         Err(BuildFault::Memory) => Err(AllocError),

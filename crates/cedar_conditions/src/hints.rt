@@ -1,7 +1,7 @@
 //! What may have been meant by a text that is no condition.
-use crate::bindings::Bindings;
-use crate::nearest::nearest;
 use crate::problem::Words;
+use cedar_bindings::Bindings;
+use cedar_json::nearest;
 use cedar_parser::SyntaxError;
 use std::alloc::{AllocError, Global};
 
@@ -41,7 +41,7 @@ fn no_variable(alloc: Global, name: &str, bindings: &Bindings) -> Result<Words, 
     let near = nearest(alloc, name, &VARIABLES)?;
     let hint = match near {
         _ if name.contains("::") => entity_hint(alloc, name)?,
-        _ if bindings.parsed_as.contains_key(name) => {
+        _ if bindings.named().contains_key(name) => {
             format!(in alloc; "the bound name `{name}` is written `unknown(\"{name}\")`")?
         }
         Some(near) => format!(in alloc; "did you mean `{near}`?")?,

@@ -2,17 +2,14 @@
 #![tactic(auto)]
 
 mod answer;
-mod bindings;
 mod calls;
 mod faults;
 mod hints;
-mod json;
 mod layout;
-mod nearest;
 mod problem;
 mod size;
 mod unknowns;
 
 pub use answer::{Answer, Residual, evaluate_condition};
-pub use bindings::{Bindings, BindingsError};
+pub use cedar_bindings::{Bindings, BindingsError};
 pub use problem::Problem;

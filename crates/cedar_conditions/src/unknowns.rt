@@ -1,6 +1,5 @@
 //! What of a condition is not known.
 use cedar_exprs::{Expr, ExprKind};
-use cedar_lexer::{Token, TokenKind};
 use cedar_terms::{BinaryOp, Literal};
 use std::alloc::{AllocError, Global};
 use std::collections::BTreeSet;
@@ -45,25 +44,4 @@ fn asks_for_entities(kind: &ExprKind) -> bool {
         }
         _ => false,
     }
-}
-
-/// Whether a text asks for the unknown of a name, as in `unknown("limit")`.
-pub(crate) fn asks_for(tokens: &[Token<'_>], name: &str) -> bool {
-    tokens.windows(3).any(|tokens| match tokens {
-        [function, open, text] => {
-            function.text == "unknown"
-                && open.kind == TokenKind::OpenRound
-                && text.kind == TokenKind::Quoted
-                && is_quoted(text.text, name)
-        }
-        _ => false,
-    })
-}
-
-// Whether a token between quotes is this text.
-fn is_quoted(token: &str, name: &str) -> bool {
-    let inside = token
-        .strip_prefix('"')
-        .and_then(|rest| rest.strip_suffix('"'));
-    inside == Some(name)
 }

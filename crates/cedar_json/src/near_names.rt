@@ -6,7 +6,7 @@ use strsim::levenshtein;
 const LONGEST: usize = 60;
 
 /// The known name to which the fewest edits lead from a wanted one, if they are few for its length.
-pub(crate) fn nearest<'a>(
+pub fn nearest<'a>(
     alloc: Global,
     wanted: &str,
     known: &[&'a str],
@@ -35,7 +35,7 @@ fn most_edits(name: &str) -> usize {
 }
 
 /// `did you mean` with the nearest known name, if one is near.
-pub(crate) fn did_you_mean(
+pub fn did_you_mean(
     alloc: Global,
     wanted: &str,
     known: &[&str],

@@ -1,0 +1,3 @@
+mod Nodes
+mod Binding
+mod Pairs

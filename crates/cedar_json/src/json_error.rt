@@ -1,0 +1,81 @@
+//! JSON texts, and why one stands for nothing.
+ghost use Rattle.std.specs.Prelude.{◌≡◌, IfOk, Some};
+ghost use Rattle.serde_json.specs.Read.{read};
+ghost use Rattle.serde_json.specs.View.{view};
+ghost use Rattle.cedar_json.specs.declared.json_error.JsonError.TheVariants.{Memory};
+
+use crate::no_value::NoValue;
+use serde_json::Value;
+use std::alloc::{AllocError, AllocFailed, Global};
+use thiserror::Error;
+
+/// Why a JSON text does not stand for what is wanted.
+#[derive(Debug, Drop, Error)]
+pub enum JsonError {
+    /// It is no JSON.
+    #[error("{0}")]
+    Json(serde_json::Error),
+    /// Its objects and arrays nest deeper than 127 levels.
+    #[error("JSON nests at most 127 levels deep: {0}")]
+    TooDeep(serde_json::Error),
+    /// It is no object.
+    #[error("an object of names and their values is wanted")]
+    NoObject,
+    /// A part of it stands for nothing. The path leads to it.
+    #[error("{path}: {problem}")]
+    NoValue { path: String, problem: String },
+    /// Memory was wanted, and none was given.
+    #[error("no memory")]
+    Memory,
+}
+
+impl From<AllocError> for JsonError {
+    ghost from_gives = { λ _ e. e ≡ Memory };
+
+    fn from(_error: AllocError) -> JsonError {
+        JsonError::Memory
+    }
+}
+
+impl<T: Drop> From<AllocFailed<T>> for JsonError {
+    ghost from_gives = { λ _ e. e ≡ Memory };
+
+    fn from(_refused: AllocFailed<T>) -> JsonError {
+        JsonError::Memory
+    }
+}
+
+impl JsonError {
+    /// What is wrong with a part of what `start` names.
+    pub fn of_part(alloc: Global, start: &str, failure: NoValue) -> JsonError {
+        match failure {
+            NoValue::Because { path, problem } => match format!(in alloc; "{start}{path}") {
+                Ok(path) => JsonError::NoValue { path, problem },
+                Err(_) => JsonError::Memory,
+            },
+            NoValue::Memory => JsonError::Memory,
+        }
+    }
+
+    // What is told of an error of the reader of JSON.
+    fn of_json(alloc: Global, error: serde_json::Error) -> JsonError {
+        if error.is_memory() {
+            return JsonError::Memory;
+        }
+        match error.to_string(alloc) {
+            Ok(text) if text.starts_with("recursion limit") => JsonError::TooDeep(error),
+            Ok(_) => JsonError::Json(error),
+            Err(_) => JsonError::Memory,
+        }
+    }
+}
+
+/// The JSON that a text is.
+pub fn parse_json(alloc: Global, text: &str) -> Result<Value, JsonError>
+    ensures { IfOk result (λ json. read text.now ≡ Some (view json)) }
+{
+    match Value::from_str(alloc, text) {
+        Ok(json) => Ok(json),
+        Err(error) => Err(JsonError::of_json(alloc, error)),
+    }
+}
