@@ -1,0 +1,81 @@
+//! Decides a request.
+use crate::failure::Failure;
+use crate::inputs::{self, Source};
+use crate::status::Status;
+use crate::{report, residual};
+use cedar_authorizer::{Decision, Response};
+use cedar_decisions::decide;
+use cedar_functions::{BuiltinExtension, BuiltinFunctions};
+use cedar_inputs::Store;
+use cedar_request::Request;
+use cedar_request_evaluator::RequestEvaluator;
+use clap::ArgMatches;
+use std::alloc::Global;
+use std::collections::HashMap;
+
+const FILES: [&str; 4] = ["policies", "entities", "request-json", "context"];
+
+/// Prints ALLOW or DENY, and which policies have an error.
+pub fn run(rt: &HostRuntime, options: &ArgMatches<'_>) -> Result<Status, Failure> {
+    if !inputs::reads_input_once(options, &FILES) {
+        return Err(Failure::input_twice());
+    }
+    let request = if options.get_flag("partial") {
+        inputs::partial_request(rt, options)?
+    } else {
+        inputs::request(rt, options)?
+    };
+    let entities = inputs::entities(rt, options)?;
+    let policies = inputs::read_source(rt, options, "policies")?;
+    if options.get_flag("partial") {
+        return residual::authorize(rt, &policies, &entities, &request);
+    }
+    let response = response_of(rt.alloc(), &policies, &entities, &request)?;
+    if options.get_flag("json") {
+        report::print_json(rt, &policies, &response)?;
+    } else {
+        report::print(rt, &policies, &response, options.get_flag("verbose"))?;
+    }
+    warn_of_templates(rt, &policies)?;
+    Ok(status_of(&response))
+}
+
+// Warns of templates, which decide nothing.
+fn warn_of_templates(rt: &HostRuntime, policies: &Source<'_>) -> Result<(), Failure> {
+    let text = policies.text.as_str();
+    if !text.contains("?principal") && !text.contains("?resource") {
+        return Ok(());
+    }
+    for policy in inputs::policies(rt, policies)?.policies() {
+        if policy.template.is_template() {
+            let file = policies.file;
+            let id = &policy.id;
+            eprintln!(rt;
+                "warning: {file}: `{id}` is a template, and decides nothing until it is linked"
+            )?;
+        }
+    }
+    Ok(())
+}
+
+fn response_of(
+    alloc: Global,
+    policies: &Source<'_>,
+    entities: &Store,
+    request: &Request<BuiltinExtension>,
+) -> Result<Response, Failure> {
+    let values = HashMap::new(alloc);
+    let evaluator = RequestEvaluator::new(request, entities, &BuiltinFunctions, &values);
+    match decide(alloc, &policies.text, &evaluator) {
+        Ok(response) => Ok(response),
+        Err(error) => Err(Failure::of_syntax(policies.file, &policies.text, &error)),
+    }
+}
+
+fn status_of(response: &Response) -> Status {
+    match response.decision {
+        Some(Decision::Allow) => Status::Success,
+        Some(Decision::Deny) => Status::Deny,
+        None => Status::Unknown,
+    }
+}

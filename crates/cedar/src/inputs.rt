@@ -1,0 +1,187 @@
+//! What the program reads: arguments, files and standard input.
+use crate::failure::Failure;
+use cedar_functions::BuiltinExtension;
+use cedar_inputs::{RequestParts, Store, context_from_json, entities_from_json, entity_from_text};
+use cedar_policies::PolicySet;
+use cedar_policy_parser::parse_policies;
+use cedar_request::{Context, Request};
+use cedar_terms::EntityUID;
+use clap::ArgMatches;
+use std::rc::Rc;
+use std::rt::Env as _;
+use std::{env, fs, io, str};
+
+/// The arguments behind the program's name.
+pub fn words(rt: &HostRuntime) -> Result<Vec<String>, Failure> {
+    match env::args(rt) {
+        Ok(args) => Ok(args.skip(1).collect(rt.alloc())?),
+        Err(error) if error.kind() == io::ErrorKind::InvalidData => {
+            Err(Failure::of_argument(broken_argument(rt)))
+        }
+        Err(error) => Err(error.into()),
+    }
+}
+
+// The number of the first argument that is no text.
+fn broken_argument(rt: &HostRuntime) -> usize {
+    let mut buffer = [0; 4096];
+    for number in 1..usize::MAX {
+        match rt.arg(number, &mut buffer) {
+            Ok(length) => match buffer.get(..length) {
+                Some(bytes) if str::from_utf8(bytes).is_ok() => {}
+                _ => return number,
+            },
+            Err(env::FillError::TooLong) => {}
+            Err(env::FillError::NotPresent) => break,
+        }
+    }
+    0
+}
+
+/// A text and the name of the file that holds it.
+#[derive(Debug, Drop)]
+pub struct Source<'a> {
+    /// What the file is called.
+    pub file: &'a str,
+    /// What it holds.
+    pub text: String,
+}
+
+/// The text of the file that an option names.
+pub fn read_source<'a>(
+    rt: &HostRuntime,
+    options: &ArgMatches<'a>,
+    name: &str,
+) -> Result<Source<'a>, Failure> {
+    let file = options.get_str(name).unwrap_or("-");
+    let text = read(rt, file)?;
+    Ok(Source {
+        file: shown(file),
+        text,
+    })
+}
+
+/// The text of an argument, or of standard input if it is `-`.
+pub fn expression(rt: &HostRuntime, options: &ArgMatches<'_>) -> Result<String, Failure> {
+    match options.get_str("expression") {
+        Some("-") => read(rt, "-"),
+        text => Ok(String::from_str(rt.alloc(), text.unwrap_or(""))?),
+    }
+}
+
+/// The policies of a text.
+pub fn policies(rt: &HostRuntime, source: &Source<'_>) -> Result<PolicySet, Failure> {
+    match parse_policies(rt.alloc(), &source.text) {
+        Ok(policies) => Ok(policies),
+        Err(error) => Err(Failure::of_syntax(source.file, &source.text, &error)),
+    }
+}
+
+/// The entities of a file; there are none without one.
+pub fn entities(rt: &HostRuntime, options: &ArgMatches<'_>) -> Result<Store, Failure> {
+    let (file, text) = match options.get_str("entities") {
+        Some(file) => (shown(file), read(rt, file)?),
+        None => ("--entities", String::from_str(rt.alloc(), "[]")?),
+    };
+    match entities_from_json(rt.alloc(), &text) {
+        Ok(entities) => Ok(entities),
+        Err(error) => Err(Failure::of_input(file, &error)),
+    }
+}
+
+/// A request of which parts may be not known.
+pub fn partial_request(
+    rt: &HostRuntime,
+    options: &ArgMatches<'_>,
+) -> Result<Request<BuiltinExtension>, Failure> {
+    Ok(request_parts(rt, options)?.into_request())
+}
+
+/// A request of which each part is known; its context is empty if none is given.
+pub fn request(
+    rt: &HostRuntime,
+    options: &ArgMatches<'_>,
+) -> Result<Request<BuiltinExtension>, Failure> {
+    let mut parts = request_parts(rt, options)?;
+    if let Some(name) = parts.missing() {
+        return Err(Failure::of_missing(name));
+    }
+    if parts.context.is_none() {
+        parts.context = Some(Context::empty(rt.alloc())?);
+    }
+    Ok(parts.into_request())
+}
+
+// What a file, or options, say of a request.
+fn request_parts(rt: &HostRuntime, options: &ArgMatches<'_>) -> Result<RequestParts, Failure> {
+    match options.get_str("request-json") {
+        Some(file) => match RequestParts::from_json(rt.alloc(), &read(rt, file)?) {
+            Ok(parts) => Ok(parts),
+            Err(error) => Err(Failure::of_input(shown(file), &error)),
+        },
+        None => Ok(RequestParts {
+            principal: entity(rt, options, "principal")?,
+            action: entity(rt, options, "action")?,
+            resource: entity(rt, options, "resource")?,
+            context: context(rt, options)?,
+        }),
+    }
+}
+
+// The entity of an option, if it is given.
+fn entity(
+    rt: &HostRuntime,
+    options: &ArgMatches<'_>,
+    name: &str,
+) -> Result<Option<Rc<EntityUID>>, Failure> {
+    let Some(text) = options.get_str(name) else {
+        return Ok(None);
+    };
+    match entity_from_text(rt.alloc(), name, text) {
+        Ok(uid) => Ok(Some(uid)),
+        Err(error) => Err(Failure::of_entity(name, text, &error)),
+    }
+}
+
+// The context of a file, if one is given.
+fn context(
+    rt: &HostRuntime,
+    options: &ArgMatches<'_>,
+) -> Result<Option<Context<BuiltinExtension>>, Failure> {
+    let Some(file) = options.get_str("context") else {
+        return Ok(None);
+    };
+    match context_from_json(rt.alloc(), &read(rt, file)?) {
+        Ok(context) => Ok(Some(context)),
+        Err(error) => Err(Failure::of_input(shown(file), &error)),
+    }
+}
+
+// The text of a file, `-` for standard input.
+fn read(rt: &HostRuntime, file: &str) -> Result<String, Failure> {
+    let text = if file == "-" {
+        io::read_to_string(rt.alloc(), rt.reader())
+    } else {
+        fs::read_to_string(rt, file)
+    };
+    match text {
+        Ok(text) => Ok(text),
+        Err(error) => Err(Failure::of_file(shown(file), &error)),
+    }
+}
+
+// What messages call a file.
+fn shown(file: &str) -> &str {
+    if file == "-" { "<stdin>" } else { file }
+}
+
+/// Whether standard input is wanted at most once, by these options.
+pub fn reads_input_once(options: &ArgMatches<'_>, names: &[&str]) -> bool {
+    let mut wanted: usize = 0;
+    for name in names {
+        if options.get_str(name) == Some("-") {
+            wanted = wanted.saturating_add(1);
+        }
+    }
+    wanted <= 1
+}

@@ -1,0 +1,4 @@
+pub mod Nothing
+pub mod Loops
+pub mod Made
+pub mod Requests
