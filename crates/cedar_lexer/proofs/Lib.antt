@@ -2,6 +2,7 @@ pub mod BlankLemmas
 pub mod EscapeTexts
 pub mod FirstPieceLemmas
 pub mod FirstTokenLemmas
+pub mod GroupCuts
 pub mod Lines
 pub mod OneText
 pub mod OneWay

@@ -10,3 +10,4 @@ pub mod Places
 pub mod Readings
 pub mod Told
 pub mod TokenPlaces
+pub mod Groups

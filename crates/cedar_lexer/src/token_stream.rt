@@ -4,6 +4,7 @@ ghost use Rattle.std.specs.Prelude.{
   ◌++◌,
   ◌↔◌,
   ◌<◌,
+  ◌^◌,
   ◌≤◌,
   ◌≢◌,
   IfSome,
@@ -16,6 +17,7 @@ ghost use Rattle.std.specs.Prelude.{
   length,
   take,
 };
+ghost use Rattle.cedar_lexer.specs.Groups.{IsCutAt, depth_behind, ends, kinds_of};
 ghost use Rattle.cedar_lexer.specs.Told.{IsProblem};
 ghost use Rattle.cedar_lexer.specs.declared.token.TokenKind.TheVariants as kinds;
 ghost use Rattle.cedar_lexer.specs.TokenStreams.{
@@ -167,6 +169,8 @@ impl<'a> TokenStream<'a> {
         ensures end { end_of self.new ≡ end_of self.old }
         ensures kind { (end_of result).kind ≡ kinds.End }
         ensures place { (end_of result).span ≡ (next_of self.new).span }
+        ensures exact { IsCutAt ends_at_comma
+            (kinds_of (rest_of self.old)) (kinds_of (rest_of self.new)) }
     {
         let length = group_length(self.rest, ends_at_comma);
         let group = first_tokens(self.rest, length);
@@ -213,7 +217,9 @@ fn other_tokens<'a>(tokens: &'a [Token<'a>], count: usize) -> &'a [Token<'a>]
 // How many tokens stand before the bracket that closes what they stand in, or before the first
 // comma outside brackets.
 fn group_length(tokens: &[Token<'_>], ends_at_comma: bool) -> usize
-    ensures { result ≤ length tokens.now }
+    ensures fits { result ≤ length tokens.now }
+    ensures exact { IsCutAt ends_at_comma
+        (kinds_of tokens.now) (kinds_of (drop result tokens.now)) }
 {
     let mut depth: usize = 0;
     for (at, token) in tokens.iter().enumerate() {
@@ -226,7 +232,9 @@ fn group_length(tokens: &[Token<'_>], ends_at_comma: bool) -> usize
 }
 
 // Whether a token outside brackets ends a group.
-fn ends_group(kind: TokenKind, ends_at_comma: bool) -> bool {
+fn ends_group(kind: TokenKind, ends_at_comma: bool) -> bool
+    ensures { result ≡ ends ends_at_comma kind }
+{
     match kind {
         TokenKind::CloseRound | TokenKind::CloseSquare | TokenKind::CloseCurly => true,
         TokenKind::Comma => ends_at_comma,
@@ -235,7 +243,10 @@ fn ends_group(kind: TokenKind, ends_at_comma: bool) -> bool {
 }
 
 // How many brackets are open behind a token.
-fn depth_behind(kind: TokenKind, depth: usize) -> usize {
+fn depth_behind(kind: TokenKind, depth: usize) -> usize
+    requires { depth < 2 ^ 63 }
+    ensures { result ≡ depth_behind kind depth }
+{
     match kind {
         TokenKind::OpenRound | TokenKind::OpenSquare | TokenKind::OpenCurly => {
             depth.saturating_add(1)

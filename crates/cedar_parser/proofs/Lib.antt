@@ -9,6 +9,7 @@ pub mod Machine
 pub mod TakenSteps
 pub mod GroupSteps
 pub mod TokenTexts
+pub mod TypePaths
 pub mod CallTrees
 pub mod Paths
 pub mod Records

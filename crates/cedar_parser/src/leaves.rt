@@ -318,6 +318,9 @@ pub fn parse_entity_type(
     ensures goes_on { MatchResult result
         (λ _. IsLeft 0 tokens.old tokens.new)
         (IsWithin (stop_of tokens.old)) }
+    ensures complete { AreLexemes (here tokens.old) → (n : BareName) (rest : List Lexeme)
+        → IsPathOf (here tokens.old) n rest → ends_path rest ≡ true
+        → MatchResult result (λ _. here tokens.new ≡ rest) (λ e. e ≡ Memory) }
 {
     let first = tokens.expect(TokenKind::Word, "a type of entities is wanted here")?;
     let path = Path::parse(alloc, first, tokens)?;

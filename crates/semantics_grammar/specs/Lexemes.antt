@@ -14,3 +14,11 @@ lexeme_of t = lexeme t.kind t.text.now
 -- tokens without their places
 abbrev pub lexemes_of : List Token → List Lexeme
 lexemes_of = map lexeme_of
+
+-- what a token is
+abbrev pub kind_of : Lexeme → TokenKind
+kind_of (lexeme k w) = k
+
+-- what tokens are
+abbrev pub kinds_of_lexemes : List Lexeme → List TokenKind
+kinds_of_lexemes = map kind_of
