@@ -1,10 +1,11 @@
 //! Attributes and tags, where a store answers for entities.
-ghost use Rattle.std.specs.Prelude.{◌≡◌, IfOk, Ok, map, ok_or, option_map};
+ghost use Rattle.std.specs.Prelude.{◌≡◌, IfOk, IfSome, IsTrue, Ok, map, ok_or, option_map};
 ghost use Rattle.std.specs.Rc.{rc_str_bytes};
 ghost use Rattle.cedar_terms.specs.Entities.{bare_entity_uid};
 ghost use Rattle.cedar_builders.specs.Fold.{and_then, on_one};
 ghost use Rattle.cedar_exprs.specs.BareExpr.{further};
 ghost use Rattle.cedar_values.specs.BareValues.{bare_value};
+ghost use Rattle.cedar_values.specs.WellFormed.{well_formed};
 ghost use Rattle.semantics_eval.specs.Outcomes.{Missing, settled, truth};
 ghost use Rattle.semantics_request.specs.Entities as store;
 ghost use Rattle.semantics_request.specs.Evaluator.{path_by};
@@ -153,7 +154,7 @@ fn has_path<X: Ord + Drop, S: EntityStore<X>>(
     let mut here = value;
     let mut key = first;
     for next in rest {
-        match find(entities, here, key) {
+        match find_attribute(entities, here, key) {
             Ok(Some(inner)) => {
                 here = inner;
                 key = next;
@@ -162,21 +163,24 @@ fn has_path<X: Ord + Drop, S: EntityStore<X>>(
             Err(fault) => return Err(fault),
         }
     }
-    match find(entities, here, key) {
+    match find_attribute(entities, here, key) {
         Ok(found) => Ok(Literal::Bool(found.is_some())),
         Err(fault) => Err(fault),
     }
 }
 
-// The value of an attribute, if there is one: an entity that is not there has none.
+/// The value of an attribute, if there is one: an entity that is not in the store has none. The
+/// fault is `Open` for an entity that is not known, and `WrongType` for what is no record.
 #[tactic(auto, using(crate::proofs::ByKind::found_laws))]
-fn find<'a, X: Ord + Drop, S: EntityStore<X>>(
+pub fn find_attribute<'a, X: Ord + Drop, S: EntityStore<X>>(
     entities: &'a S,
     value: &'a Value<X>,
     key: &RcStr,
 ) -> Result<Option<&'a Value<X>>, EvalFault>
-    ensures { on_one (λ o. option_map (λ v. bare_value v.now) o) (faulted result)
+    ensures found { on_one (λ o. option_map (λ v. bare_value v.now) o) (faulted result)
         ≡ found_by (S.bare_entities entities.now) (rc_str_bytes key.now) (bare_value value.now) }
+    ensures well_formed { IsTrue (well_formed X.cmp value.now)
+        → IfOk result (λ o. IfSome o (λ v. IsTrue (well_formed X.cmp v.now))) }
 {
     match as_entity(value) {
         Some(uid) => match entities.entity(uid) {
@@ -190,8 +194,9 @@ fn find<'a, X: Ord + Drop, S: EntityStore<X>>(
 
 // A value, if there is one.
 fn plain<X: Ord + Drop>(value: Option<&WellFormedValue<X>>) -> Option<&Value<X>>
-    ensures { option_map (λ v. bare_value v.now) result
+    ensures same { option_map (λ v. bare_value v.now) result
         ≡ option_map (λ w. tree_of w.now) value.entry }
+    ensures well_formed { IfSome result (λ v. IsTrue (well_formed X.cmp v.now)) }
 {
     match value {
         Some(value) => Some(value.as_value()),

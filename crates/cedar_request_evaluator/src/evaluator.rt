@@ -71,6 +71,27 @@ impl<'a, X: Ord + Drop, S: EntityStore<X>, T: CallableFunctions<X>> RequestEvalu
         }
     }
 
+    /// The request.
+    pub fn request(&self) -> &Request<X>
+        ensures { bare_request result.now ≡ (knowledge_of S.bare_entities self.now).request }
+    {
+        self.known.request
+    }
+
+    /// The store of entities.
+    pub fn entities(&self) -> &S
+        ensures { S.bare_entities result.now ≡ (knowledge_of S.bare_entities self.now).entities }
+    {
+        self.known.entities
+    }
+
+    /// The values of unknowns.
+    pub fn values(&self) -> &HashMap<RcStr, WellFormedValue>
+        ensures { well_formed_env result.now ≡ (knowledge_of S.bare_entities self.now).bindings }
+    {
+        self.values
+    }
+
     /// The outcome of a condition.
     ///
     /// The error is the first call of a function that is not in the table, children before parents

@@ -8,6 +8,7 @@ mod evaluator;
 mod known;
 mod membership;
 mod nodes;
+pub mod operations;
 mod plain_nodes;
 
 pub use evaluator::RequestEvaluator;

@@ -1,0 +1,3 @@
+//! What a store answers of values, for walks that evaluate in part.
+pub use crate::attributes::find_attribute;
+pub use crate::binary::apply_to_values;
