@@ -1,11 +1,10 @@
 -- Keys that are collected one after another.
-use Rattle.std.proofs.Common.{◌≡◌, ℕ, ◌+◌, ◌<◌, true, false, cond, ◌||◌, List, [], ◌∷◌, ◌++◌, length, get_or, take, IsTrue, Some, Ordering, sym, refl, ap, ◌∙◌, ⊎_elim}
+use Rattle.std.proofs.Common.{◌≡◌, ℕ, ◌+◌, ◌<◌, true, false, cond, ◌||◌, List, [], ◌∷◌, length, get_or, take, IsTrue, Some, Ordering, sym, refl, ap, ◌∙◌, ⊎_elim}
 use Rattle.std.specs.Cmp.{IsTotalOrder, Equal-is}
 use Rattle.std.specs.Map.{lookup}
-use Rattle.std.specs.Ordering.{eq_by_cmp, is_eq}
-use Rattle.std.specs.declared.cmp.Ordering.TheVariants.{Equal}
-use Rattle.std.proofs.lemmas.Bool.{or_cases, or_left, or_right, true≢false}
-use Rattle.std.proofs.lemmas.List.Folds.{list_any-append, list_any_more}
+use Rattle.std.specs.Ordering.{eq_by_cmp}
+use Rattle.std.proofs.lemmas.Bool.{or_cases, true≢false}
+use Rattle.std.proofs.lemmas.List.Folds.{list_any_more}
 use Rattle.cedar_sorted_slices.specs.Classes.{has_class, IsPartOf}
 use Rattle.cedar_ancestors.specs.Keyed.{is_listed, AreKnown}
 use Rattle.cedar_ancestors.proofs.Keys.{class_alike}
@@ -20,15 +19,6 @@ pub record IsCovering {K V : Type 0} (R : K → K → Ordering) (P : V → List 
   pub rest : (more : List K) → IsPartOf R keys more → IsCovered R P more left → IsCovered R P more all
 
 module _ {K : Type 0} {R : K → K → Ordering} (o : IsTotalOrder R) where
-  class_push : (xs : List K) (x q : K) → has_class R (xs ++ x ∷ []) q ≡ (has_class R xs q || (eq_by_cmp R q x || false))
-  class_push xs x q = list_any-append (eq_by_cmp R q) xs (x ∷ [])
-
-  pub part_push : (xs : List K) (x : K) → IsPartOf R xs (xs ++ x ∷ [])
-  part_push xs x q h = class_push xs x q ∙ or_left (has_class R xs q) (eq_by_cmp R q x || false) h
-
-  pub has_push : (xs : List K) (x q : K) → R q x ≡ Equal → has_class R (xs ++ x ∷ []) q ≡ true
-  has_push xs x q e = class_push xs x q ∙ or_right (has_class R xs q) (eq_by_cmp R q x || false) (or_left (eq_by_cmp R q x) false (ap is_eq e))
-
   pub part_more : (xs ys : List K) (i : ℕ) (x : K) → i < length xs → x ≡ get_or xs i x → IsPartOf R (take i xs) ys → IsTrue (has_class R ys x) → IsPartOf R (take (i + 1) xs) ys
   part_more xs ys i x lt is part has q h =
       ⊎_elim

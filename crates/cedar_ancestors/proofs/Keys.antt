@@ -1,16 +1,16 @@
 -- Indexes of keys, and the steps between keys as steps between indexes.
-use Rattle.std.proofs.Common.{◌≡◌, ◌↔◌, ℕ, zero, suc, ◌<◌, Bool, true, false, ◌||◌, List, [], ◌∷◌, length, get_or, IsTrue, Option, Some, None, Ordering, Result, Ok, Err, IfOk, sym, refl, ap, ◌∙◌, subst, ⊎_elim, arith}
+use Rattle.std.proofs.Common.{◌≡◌, ◌↔◌, ℕ, zero, suc, ◌<◌, Bool, true, false, ◌||◌, List, [], ◌∷◌, length, get_or, IsTrue, Option, Some, None, Ordering, Result, Ok, Err, IfOk, IfSome, OnOk, sym, refl, ap, ◌∙◌, subst, ⊎_elim, arith}
 use Rattle.std.specs.Cmp.{IsTotalOrder, tied_back, tied_itself, Equal-is}
 use Rattle.std.specs.Global.{Global}
-use Rattle.std.specs.List.{Contains, list_any}
-use Rattle.std.specs.List.Sorted.{IsStrictlySortedBy}
+use Rattle.std.specs.List.{Contains, IsDistinct, list_any, position}
 use Rattle.std.specs.Map.{lookup}
 use Rattle.std.specs.Ordering.{eq_by_cmp, is_eq}
-use Rattle.std.specs.declared.cmp.Ordering.TheVariants.{Less, Equal}
+use Rattle.std.specs.declared.cmp.Ordering.TheVariants.{Equal}
 use Rattle.std.specs.declared.vec.Vec.{Vec}
 use Rattle.std.proofs.lemmas.Bool.{cases_order, true≢false}
 use Rattle.std.proofs.lemmas.List.{get_or_default}
-use Rattle.std.proofs.lemmas.Map.Keys.{Less-from_sorted}
+use Rattle.std.proofs.lemmas.List.Quantifiers.{position-Some}
+use Rattle.std.proofs.lemmas.Map.Keys.{apart_from_distinct}
 use Rattle.std.proofs.lemmas.List.Elements.{Contains-get_or}
 use Rattle.std.proofs.lemmas.List.Folds.{list_any_at}
 use Rattle.cedar_ancestors.proofs.Closing.{row_at_is}
@@ -18,23 +18,26 @@ use Rattle.cedar_sorted_slices.specs.Classes.{has_class}
 use Rattle.cedar_ancestors.specs.Keyed.{IsAt, entry_at, is_listed, lists, IsParentOf, IsAncestorOf, AreKnown, IsTableOf, IsBelowIn}
 use Rattle.cedar_ancestors.specs.Reaching.{one, more}
 use Rattle.cedar_ancestors.specs.Tables.{row_at, IsInRow, IsAbove, IsAcyclic, IsWithin}
-use Rattle.cedar_ancestors.specs.Reach.{leads, IsReachOf}
+use Rattle.cedar_ancestors.specs.Reach.{leads, IsReachOf, IsCyclicIn}
+use Rattle.cedar_ancestors.specs.Hierarchies.{IsCyclicAmong}
+use Rattle.cedar_ancestors.specs.declared.keyed.Cyclic.{Cyclic}
+use Rattle.cedar_ancestors.specs.declared.keyed.Cyclic.TheVariants.{At, Memory}
 use Rattle.cedar_ancestors.specs.declared.reach.Reach.{Reach}
 
 module _ {K : Type 0} {R : K → K → Ordering} (o : IsTotalOrder R) where
   tied_both : {x y z : K} → R x z ≡ Equal → R y z ≡ Equal → R x y ≡ Equal
   tied_both {x} {y} {z} p q = o.congr x z y p ∙ tied_back o y z q
 
-  -- one key has one index
-  no_less : {x y : K} → R x y ≡ Less → R x y ≡ Equal → ⊥
-  no_less p q = let e : Less ≡ Equal = sym p ∙ q in cc
+  -- one key has one index among distinct keys
+  not_before : (keys : List K) → IsDistinct (eq_by_cmp R) keys → (k : K) (i j : ℕ) → IsAt R keys k i → IsAt R keys k j → i < j → ⊥
+  not_before keys s k i j a b lt = true≢false (sym (ap is_eq (tied_both (a.1 k) (b.1 k))) ∙ apart_from_distinct (eq_by_cmp R) keys i j k s lt b.0)
 
-  pub one_index : (keys : List K) → IsStrictlySortedBy R keys → (k : K) (i j : ℕ) → IsAt R keys k i → IsAt R keys k j → i ≡ j
+  pub one_index : (keys : List K) → IsDistinct (eq_by_cmp R) keys → (k : K) (i j : ℕ) → IsAt R keys k i → IsAt R keys k j → i ≡ j
   one_index keys s k i j a b = ⊎_elim
       (λ e. e)
       (⊎_elim
-      (λ lt. absurd (no_less (Less-from_sorted R keys i j k s lt b.0) (tied_both (a.1 k) (b.1 k))))
-      (λ lt. absurd (no_less (Less-from_sorted R keys j i k s lt a.0) (tied_both (b.1 k) (a.1 k)))))
+      (λ lt. absurd (not_before keys s k i j a b lt))
+      (λ lt. absurd (not_before keys s k j i b a lt)))
       (cases_order i j)
 
   pub at_itself : (keys : List K) (i : ℕ) (d : K) → i < length keys → IsAt R keys (get_or keys i d) i
@@ -103,16 +106,21 @@ module _ {K V : Type 0} {R : K → K → Ordering} (o : IsTotalOrder R) (P : V �
             record { from = first.0; to = last.0; child_at = first.1; ancestor_at = last.1; has = (c first.0 last.0).1 last.2 }),
       )
 
-      pub keys_acyclic : IsStrictlySortedBy R keys → IsAcyclic table → (a : K) → IsAncestorOf R P m a a → ⊥
+      pub keys_acyclic : IsDistinct (eq_by_cmp R) keys → IsAcyclic table → (a : K) → IsAncestorOf R P m a a → ⊥
       keys_acyclic s acyclic a h =
           let first = first_known h in
           let last = indexes_above first.0 first.1 h in
           acyclic first.0 (subst (λ (j : ℕ). IsAbove table first.0 j) (sym (one_index o keys s a first.0 last.0 first.1 last.1)) last.2)
 
+      -- an index that is above itself is that of a key that is its own ancestor
+      pub cyclic_among : (e : Cyclic ℕ) → IsCyclicIn table e → IsCyclicAmong R P m keys e
+      cyclic_among (At i) h = (omega (arith, h.0, t.long), λ k at. keys_above k k at at h.1)
+      cyclic_among Memory h = tt
+
 -- what a search for both keys says
 module _ {K : Type 0} {R : K → K → Ordering} (o : IsTotalOrder R) where
   module _ (h : List K × Reach) (child ancestor : K) where
-    pub below_at : IsStrictlySortedBy R h.0 → (i j : ℕ) → IsAt R h.0 child i → IsAt R h.0 ancestor j → (b : Bool) → IsTrue b ↔ leads h.1 i j → IsTrue b ↔ IsBelowIn R h child ancestor
+    pub below_at : IsDistinct (eq_by_cmp R) h.0 → (i j : ℕ) → IsAt R h.0 child i → IsAt R h.0 ancestor j → (b : Bool) → IsTrue b ↔ leads h.1 i j → IsTrue b ↔ IsBelowIn R h child ancestor
     below_at s i j at bt b has = (
       (λ t. record { from = i; to = j; child_at = at; ancestor_at = bt; has = has.0 t }),
       (λ r. has.1 (subst (λ (n : ℕ). leads h.1 n j) (one_index o h.0 s child r.from i r.child_at at) (subst (λ (n : ℕ). leads h.1 r.from n) (one_index o h.0 s ancestor r.to j r.ancestor_at bt) r.has))),
@@ -150,6 +158,24 @@ pub entry_by : {K V : Type 0} (R : K → K → Ordering) (E : K → K → Bool)
     → lookup (E k) m ≡ entry_at R m k
 entry_by R E same m k = λ i. lookup (λ x. same k x i) m
 
+module _ {K : Type 0} (R : K → K → Ordering) (E : K → K → Bool)
+    (same : (x y : K) → E x y ≡ eq_by_cmp R x y) where
+  -- keys that are distinct by that equality are so by the order
+  pub distinct_by : (keys : List K) → IsDistinct E keys → IsDistinct (eq_by_cmp R) keys
+  distinct_by keys = subst (λ e. IsDistinct e keys) (λ i x y. same x y i)
+
+  -- and a key is there by both
+  pub class_by : (keys : List K) (k : K) → list_any (E k) keys ≡ has_class R keys k
+  class_by keys k = λ i. list_any (λ x. same k x i) keys
+
+  -- the first key that is equal
+  pub first_at : IsTotalOrder R → (keys : List K) (k : K) (r : Option ℕ) → r ≡ position (E k) keys → IfSome r (IsAt R keys k)
+  first_at o keys k None e = tt
+  first_at o keys k (Some i) e = (
+    (position-Some (E k) keys i k (sym e)).0,
+    λ d. tied_back o k (get_or keys i d) ((Equal-is (R k (get_or keys i d))).0 (sym (same k (get_or keys i d)) ∙ (position-Some (E k) keys i d (sym e)).1)),
+  )
+
 -- what leads on is in the table
 pub in_row_inside : (table : List (Vec ℕ Global)) (x y : ℕ) → IsInRow table x y → x < length table
 in_row_inside [] x y h = absurd (omega (arith, h.1))
@@ -165,3 +191,7 @@ pub if_ok_map : {A E : Type 0} {P Q : A → Type 0} (r : Result A E) → ((a : A
     → IfOk r P → IfOk r Q
 if_ok_map (Ok a) f h = f a h
 if_ok_map (Err e) f h = h
+
+pub on_ok : {A E Y Z : Type 0} (r : Result A E) → (Y → Z) → OnOk r Y → OnOk r Z
+on_ok (Ok a) f h = f h
+on_ok (Err e) f h = h

@@ -1,18 +1,15 @@
 -- Rows of indexes, filled key by key.
-use Rattle.std.proofs.Common.{◌≡◌, ℕ, zero, suc, ◌+◌, ◌<◌, Bool, true, false, ◌||◌, ◌⊎◌, List, [], ◌∷◌, ◌++◌, length, get_or, take, Ordering, Result, Ok, Err, is_ok, sym, refl, ap, ◌∙◌, subst, inl, inr, ⊎_elim, arith}
+use Rattle.std.proofs.Common.{◌≡◌, ℕ, zero, suc, ◌+◌, ◌<◌, Bool, true, false, ◌||◌, ◌⊎◌, List, [], ◌∷◌, ◌++◌, length, get_or, take, Ordering, sym, refl, ap, ◌∙◌, subst, inl, inr, ⊎_elim, arith}
 use Rattle.std.specs.Cmp.{IsTotalOrder, tied_back, Equal-is}
 use Rattle.std.specs.Global.{Global}
-use Rattle.std.specs.List.{Contains, AllWithin}
-use Rattle.std.specs.List.Sorted.{IsStrictlySortedBy, IsBinarySearchResult, IsSearchInRange, IsSortedBy}
-use Rattle.std.specs.Ordering.{eq_by_cmp, is_eq, is_lt, ordering_reverse}
-use Rattle.std.specs.declared.cmp.Ordering.TheVariants.{Less, Equal, Greater}
+use Rattle.std.specs.List.{Contains, IsDistinct}
+use Rattle.std.specs.Ordering.{eq_by_cmp, is_eq}
+use Rattle.std.specs.declared.cmp.Ordering.TheVariants.{Equal}
 use Rattle.std.specs.declared.vec.Vec.{Vec}
-use Rattle.std.proofs.lemmas.Bool.{cases_lt, or_cases, or_left, or_right, true≢false}
+use Rattle.std.proofs.lemmas.Bool.{or_cases, or_left, or_right, true≢false}
 use Rattle.std.proofs.lemmas.List.{get_or_default}
 use Rattle.std.proofs.lemmas.List.Elements.{Contains-append_left, Contains-push, Contains-push_cases}
-use Rattle.std.proofs.lemmas.List.Folds.{list_any_at, list_any_none, list_any_more}
-use Rattle.std.proofs.lemmas.List.Sorted.{searchable_from_sorted}
-use Rattle.std.proofs.lemmas.Map.Keys.{Less-from_sorted}
+use Rattle.std.proofs.lemmas.List.Folds.{list_any_at, list_any_more}
 use borrow.Author.Count.{below_more}
 use Rattle.cedar_sorted_slices.specs.Classes.{has_class}
 use Rattle.cedar_ancestors.specs.Keyed.{IsAt, IsRowBy}
@@ -20,17 +17,6 @@ use Rattle.cedar_ancestors.specs.Tables.{row_at}
 use Rattle.cedar_ancestors.proofs.Keys.{one_index}
 
 module _ {K : Type 0} {R : K → K → Ordering} (o : IsTotalOrder R) where
-  sorted_by : (xs : List K) → IsStrictlySortedBy R xs → IsSortedBy (λ a b. is_lt (R a b)) xs
-  sorted_by xs s k d low high = ap is_lt (o.antisymm (get_or xs (k + 1) d) (get_or xs k d) ∙ ap ordering_reverse (Less-from_sorted R xs k (k + 1) d s (omega arith) high))
-
-  absent : (xs : List K) (q : K) (i : ℕ) → AllWithin (λ y. R y q ≡ Less) xs 0 i → AllWithin (λ y. R y q ≡ Greater) xs i (length xs) → has_class R xs q ≡ false
-  absent xs q i below above = list_any_none (eq_by_cmp R q) xs (λ k d l. ap is_eq (o.antisymm q (get_or xs k d)) ∙ ⊎_elim (λ h. ap (λ r. is_eq (ordering_reverse r)) (below k d (omega arith) h)) (λ h. ap (λ r. is_eq (ordering_reverse r)) (above k d h l)) (cases_lt k i))
-
-  -- what a binary search says of the class of a key
-  pub found_class : (xs : List K) (q : K) (r : Result ℕ ℕ) → IsStrictlySortedBy R xs → IsSearchInRange r (length xs) → IsBinarySearchResult (λ y. R y q) xs r → is_ok r ≡ has_class R xs q
-  found_class xs q (Ok i) s bound h = sym (list_any_at (eq_by_cmp R q) xs i q bound (ap is_eq (tied_back o _ _ (h q))))
-  found_class xs q (Err i) s bound h = let p = h (searchable_from_sorted o (λ y. y) xs q (sorted_by xs s)) in sym (absent xs q i p.0 p.1)
-
   -- a key at an index, whatever stands past the end
   holds_at : (P : K → Type 0) (keys : List K) (j : ℕ) → j < length keys → ((d : K) → P (get_or keys j d)) → (k : K) × P k
   holds_at P [] j lt h = absurd (omega arith)
@@ -45,7 +31,7 @@ module _ {K : Type 0} {R : K → K → Ordering} (o : IsTotalOrder R) where
     );
   }
 
-  module _ (keys : List K) (s : IsStrictlySortedBy R keys) (parents : List K) (i : ℕ) (parent : K) (lt : i < length parents) (is : parent ≡ get_or parents i parent) (row : List ℕ) where
+  module _ (keys : List K) (s : IsDistinct (eq_by_cmp R) keys) (parents : List K) (i : ℕ) (parent : K) (lt : i < length parents) (is : parent ≡ get_or parents i parent) (row : List ℕ) where
     class_more : (k : K) → has_class R (take (i + 1) parents) k ≡ (has_class R (take i parents) k || eq_by_cmp R k parent)
     class_more k = list_any_more (eq_by_cmp R k) parents i parent lt ∙ ap (λ (x : K). has_class R (take i parents) k || eq_by_cmp R k x) (sym is)
 

@@ -1,6 +1,6 @@
 -- Entries that are added one after another, and what that leaves as it was.
-use Rattle.std.proofs.Common.{◌≡◌, ◌↔◌, ◌⊎◌, ℕ, ◌+◌, ◌<◌, Bool, true, false, cond, ◌||◌, IsTrue, List, [], ◌∷◌, ◌++◌, length, take, get_or, Option, Some, None, Result, Ok, Err, IfOk, IfErr, OnOk, is_some, refl, sym, ap, ◌∙◌, subst, inl, inr, ⊎_elim, arith}
-use Rattle.std.specs.Cmp.{IsTotalOrder, tied_back, tied_itself, Equal-is}
+use Rattle.std.proofs.Common.{◌≡◌, ◌⊎◌, ℕ, ◌+◌, ◌<◌, Bool, true, false, cond, ◌||◌, List, [], ◌∷◌, ◌++◌, length, take, get_or, Option, Some, None, Result, Ok, Err, IfOk, IfErr, OnOk, is_some, refl, sym, ap, ◌∙◌, subst, inl, inr, ⊎_elim, arith}
+use Rattle.std.specs.Cmp.{IsTotalOrder, tied_back, Equal-is}
 use Rattle.std.specs.List.{Contains}
 use Rattle.std.specs.Map.{lookup}
 use Rattle.std.specs.Ordering.{eq_by_cmp, is_eq}
@@ -11,7 +11,7 @@ use Rattle.std.proofs.lemmas.List.Elements.{Contains-append_left, Contains-push,
 use Rattle.std.proofs.lemmas.List.Folds.{list_any_more}
 use Rattle.cedar_sorted_slices.specs.Classes.{has_class}
 use Rattle.cedar_ancestors.specs.Keyed.{entry_at, AreKnown}
-use Rattle.cedar_ancestors.specs.Stores.{HasEntry, HaveEntries, KnowsAllParents, EntriesStay, IsThere, HasAdded, HasMore, IsDuplicate, IsRefusalAt, IsRefusalOfAll, IsRefusedFor, IsRefusedStore}
+use Rattle.cedar_ancestors.specs.Stores.{HasEntry, HaveEntries, KnowsAllParents, EntriesStay, IsThere, HasAdded, HasMore, IsRefusalAt, IsRefusalOfAll, IsRefusedFor, IsRefusedStore}
 use Rattle.cedar_ancestors.specs.declared.store.StoreError.{StoreError}
 use Rattle.cedar_ancestors.specs.declared.store.StoreError.TheVariants.{Duplicate, Cycle, MissingParent, Memory}
 

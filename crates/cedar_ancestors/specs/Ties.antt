@@ -1,6 +1,6 @@
 -- Keys that compare as equal have the same entry, and are parents alike.
-use Rattle.std.specs.Prelude.{◌≡◌, Bool, List, Option, Some, None}
-use Rattle.std.proofs.Common.{refl, sym, ap, ◌∙◌}
+use Rattle.std.specs.Prelude.{◌≡◌, List, Option, Some, None}
+use Rattle.std.proofs.Common.{refl, ap, ◌∙◌}
 use Rattle.std.specs.Cmp.{IsTotalOrder}
 use Rattle.std.specs.List.{list_any}
 use Rattle.std.specs.Map.{lookup}

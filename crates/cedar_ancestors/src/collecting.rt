@@ -3,6 +3,7 @@ ghost use Rattle.std.specs.Prelude.{◌≡◌, IfOk, IsTrue, OnOk};
 ghost use Rattle.cedar_sorted_slices.specs.Classes.{IsPartOf, has_class};
 ghost use Rattle.cedar_ancestors.specs.Keyed.{AreKnown, ClonesAreAlike};
 
+use indexmap::IndexSet;
 use std::alloc::{AllocError, Global};
 use std::collections::HashMap;
 use std::hash::Hash;
@@ -26,21 +27,21 @@ impl<K> HasParents<K> for Vec<K> {
     }
 }
 
-// Adds a clone of a key.
-fn add_clone<K: Clone + Ord>(keys: &mut Vec<K>, key: &K) -> Result<(), AllocError>
+// Adds a clone of a key, unless the key is there.
+fn add_clone<K: Clone + Ord + Hash>(keys: &mut IndexSet<K>, key: &K) -> Result<(), AllocError>
     requires { ClonesAreAlike K.cmp K.is_clone }
-    ensures kept { OnOk result (IsPartOf K.cmp keys.old.items keys.new.items) }
-    ensures added { OnOk result (IsTrue (has_class K.cmp keys.new.items key.now)) }
+    ensures kept { OnOk result (IsPartOf K.cmp keys.old.keys keys.new.keys) }
+    ensures added { OnOk result (IsTrue (has_class K.cmp keys.new.keys key.now)) }
 {
-    keys.push(key.clone()?)?;
+    keys.insert(key.clone()?)?;
     Ok(())
 }
 
-// Adds a clone of each key.
-fn add_clones<K: Clone + Ord>(keys: &mut Vec<K>, more: &[K]) -> Result<(), AllocError>
+// Adds a clone of each key that is not there.
+fn add_clones<K: Clone + Ord + Hash>(keys: &mut IndexSet<K>, more: &[K]) -> Result<(), AllocError>
     requires { ClonesAreAlike K.cmp K.is_clone }
-    ensures kept { OnOk result (IsPartOf K.cmp keys.old.items keys.new.items) }
-    ensures added { OnOk result (IsPartOf K.cmp more.now keys.new.items) }
+    ensures kept { OnOk result (IsPartOf K.cmp keys.old.keys keys.new.keys) }
+    ensures added { OnOk result (IsPartOf K.cmp more.now keys.new.keys) }
 {
     for key in more {
         add_clone(keys, key)?;
@@ -48,15 +49,15 @@ fn add_clones<K: Clone + Ord>(keys: &mut Vec<K>, more: &[K]) -> Result<(), Alloc
     Ok(())
 }
 
-/// Clones of all keys that occur, some maybe more than once.
+/// Clones of all keys that occur, each once.
 pub(crate) fn keys_of<K: Clone + Ord + Hash, V: HasParents<K>>(
     alloc: Global,
     parents: &HashMap<K, V>,
-) -> Result<Vec<K>, AllocError>
+) -> Result<IndexSet<K>, AllocError>
     requires { ClonesAreAlike K.cmp K.is_clone }
-    ensures { IfOk result (λ keys. AreKnown K.cmp V.parents_of keys.items parents.now.entries) }
+    ensures { IfOk result (λ keys. AreKnown K.cmp V.parents_of keys.keys parents.now.entries) }
 {
-    let mut keys = Vec::new(alloc);
+    let mut keys = IndexSet::new(alloc);
     for (child, entry) in parents {
         add_clone(&mut keys, child)?;
         add_clones(&mut keys, entry.parents())?;

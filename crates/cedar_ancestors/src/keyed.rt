@@ -1,33 +1,36 @@
 //! Hierarchies of keys, each of which may list its parents.
-ghost use Rattle.std.specs.Prelude.{◌≡◌, ◌↔◌, [], length, IfErr, IfOk, IfSome, IsTrue, OnOk};
-ghost use Rattle.std.specs.List.Sorted.{IsStrictlySortedBy};
+ghost use Rattle.std.specs.Prelude.{◌≡◌, ◌↔◌, ◌<◌, length, IfErr, IfOk, IfSome, IsTrue, OnOk};
+ghost use Rattle.std.specs.List.{IsDistinct};
 ghost use Rattle.std.specs.Option.{is_some};
 ghost use Rattle.cedar_sorted_slices.specs.Classes.{has_class};
 ghost use Rattle.cedar_ancestors.specs.Keyed.{AreKnown, ClonesAreAlike, IsAncestorOf, IsAt, IsBelowIn, IsRowBy, IsTableOf, is_listed, lists};
-ghost use Rattle.cedar_ancestors.specs.Hierarchies.{HasNoCycle, IsCyclicBy, IsHierarchyOf};
+ghost use Rattle.cedar_ancestors.specs.Hierarchies.{HasNoCycle, IsCyclicAmong, IsCyclicBy, IsHierarchyOf};
 ghost use Rattle.cedar_ancestors.specs.declared.keyed.Cyclic.TheVariants.{Memory};
 
 use crate::collecting::{HasParents, keys_of};
 use crate::reach::Reach;
-use cedar_sorted_slices::into_ascending;
+use indexmap::IndexSet;
 use std::alloc::{AllocError, Global};
 use std::collections::HashMap;
 use std::hash::Hash;
 use std::marker::Model;
 
-// The index of a key among strictly ascending keys.
-fn index_of<K: Ord>(keys: &[K], key: &K) -> Option<usize>
-    ensures at { IfSome result (IsAt K.cmp keys.now key.now) }
-    ensures found { IsStrictlySortedBy K.cmp keys.now
-        → is_some result ≡ has_class K.cmp keys.now key.now }
+// The index of a key among others: one look-up by hash.
+fn index_of<K: Ord + Hash>(keys: &IndexSet<K>, key: &K) -> Option<usize>
+    ensures at { IfSome result (IsAt K.cmp keys.now.keys key.now) }
+    ensures found { is_some result ≡ has_class K.cmp keys.now.keys key.now }
 {
-    keys.binary_search(key).ok()
+    keys.get_index_of(key)
 }
 
 // The indexes of those of the keys that are among some parents.
-fn indexes_of<K: Ord>(alloc: Global, keys: &[K], parents: &[K]) -> Result<Vec<usize>, AllocError>
-    requires { IsStrictlySortedBy K.cmp keys.now }
-    ensures { IfOk result (λ row. IsRowBy (has_class K.cmp parents.now) keys.now row.items) }
+fn indexes_of<K: Ord + Hash>(
+    alloc: Global,
+    keys: &IndexSet<K>,
+    parents: &[K],
+) -> Result<Vec<usize>, AllocError>
+    requires { IsDistinct K.eq keys.now.keys }
+    ensures { IfOk result (λ row. IsRowBy (has_class K.cmp parents.now) keys.now.keys row.items) }
 {
     let mut row = Vec::new(alloc);
     for parent in parents {
@@ -41,13 +44,13 @@ fn indexes_of<K: Ord>(alloc: Global, keys: &[K], parents: &[K]) -> Result<Vec<us
 // The indexes of the parents of a key.
 fn row_for<K: Ord + Hash, V: HasParents<K>>(
     alloc: Global,
-    keys: &[K],
+    keys: &IndexSet<K>,
     parents: &HashMap<K, V>,
     key: &K,
 ) -> Result<Vec<usize>, AllocError>
-    requires { IsStrictlySortedBy K.cmp keys.now }
-    ensures { IfOk result
-        (λ row. IsRowBy (lists K.cmp V.parents_of parents.now.entries key.now) keys.now row.items) }
+    requires { IsDistinct K.eq keys.now.keys }
+    ensures { IfOk result (λ row.
+        IsRowBy (lists K.cmp V.parents_of parents.now.entries key.now) keys.now.keys row.items) }
 {
     match parents.get(key) {
         Some(entry) => indexes_of(alloc, keys, entry.parents()),
@@ -58,19 +61,46 @@ fn row_for<K: Ord + Hash, V: HasParents<K>>(
 // The table of the indexes of the parents of each key.
 fn table_of<K: Ord + Hash, V: HasParents<K>>(
     alloc: Global,
-    keys: &[K],
+    keys: &IndexSet<K>,
     parents: &HashMap<K, V>,
 ) -> Result<Vec<Vec<usize>>, AllocError>
-    requires { IsStrictlySortedBy K.cmp keys.now }
-    ensures { IfOk result
-        (λ table. IsTableOf K.cmp V.parents_of keys.now parents.now.entries table.items) }
+    ensures distinct { OnOk result (IsDistinct K.eq keys.now.keys) }
+    ensures rows { IfOk result (λ table.
+        IsTableOf K.cmp V.parents_of keys.now.keys parents.now.entries table.items) }
 {
     let mut table = Vec::new(alloc);
-    for key in keys {
+    for key in keys.as_slice() {
         let row = row_for(alloc, keys, parents, key)?;
         table.push(row)?;
     }
     Ok(table)
+}
+
+// What is above the index of each key.
+fn reach_of<K: Ord + Hash, V: HasParents<K>>(
+    alloc: Global,
+    keys: &IndexSet<K>,
+    parents: &HashMap<K, V>,
+    most: usize,
+) -> Result<Reach, Cyclic<usize>>
+    requires { AreKnown K.cmp V.parents_of keys.now.keys parents.now.entries }
+    ensures distinct { OnOk result (IsDistinct K.eq keys.now.keys) }
+    ensures hierarchy { IfOk result (λ reach.
+        IsHierarchyOf K.cmp V.parents_of parents.now.entries (keys.now.keys, reach)) }
+    ensures acyclic { OnOk result (HasNoCycle K.cmp V.parents_of parents.now.entries) }
+    ensures refusal { IfErr result
+        (IsCyclicAmong K.cmp V.parents_of parents.now.entries keys.now.keys) }
+{
+    let table = table_of(alloc, keys, parents)?;
+    Reach::of(alloc, table, most)
+}
+
+// The key of an index.
+fn key_at<K: Ord + Hash + Drop>(mut keys: IndexSet<K>, index: usize) -> K
+    requires { index < length keys.keys }
+    ensures { IsAt K.cmp keys.keys result index }
+{
+    keys.swap_remove_index(index).unwrap()
 }
 
 /// Why there is no hierarchy.
@@ -92,44 +122,60 @@ impl<K> From<AllocError> for Cyclic<K> {
 
 /// Which keys are below which: each key with all its ancestors.
 #[derive(Drop)]
-pub struct Hierarchy<K: Ord> {
-    keys: Vec<K>,
+pub struct Hierarchy<K: Ord + Hash> {
+    keys: IndexSet<K>,
     reach: Reach,
 }
 
-impl<K: Ord> Model for Hierarchy<K> {
+impl<K: Ord + Hash> Model for Hierarchy<K> {
     ghost use Rattle.std.specs.Prelude.{List};
-    ghost use Rattle.std.specs.List.Sorted.{IsStrictlySortedBy};
+    ghost use Rattle.std.specs.List.{IsDistinct};
     ghost use Rattle.cedar_ancestors.specs.declared.reach.Reach.{Reach};
 
     ghost Value = { List K × Reach };
 
-    ghost view = { λ h. (h.keys.items, h.reach) };
+    ghost view = { λ h. (h.keys.keys, h.reach) };
 
-    ghost invariant = { λ h. IsStrictlySortedBy K.cmp h.keys.items };
+    ghost invariant = { λ h. IsDistinct K.eq h.keys.keys };
 }
 
 impl<K: Ord + Hash + Drop> Hierarchy<K> {
-    /// The hierarchy of keys of which some list their parents. The keys are all that occur, in any
-    /// order. The ancestors of each are kept if these are at most `most` together, else they are
-    /// walked for each question. It is refused if a key is its own ancestor, and the refusal names
-    /// one.
-    pub fn with_keys<V: HasParents<K>>(
+    // The hierarchy of keys of which some list their parents, refused as by `of`. The keys are all
+    // that occur, in any order.
+    pub(crate) fn with_keys<V: HasParents<K>>(
         alloc: Global,
-        keys: Vec<K>,
+        keys: IndexSet<K>,
         parents: &HashMap<K, V>,
         most: usize,
     ) -> Result<Hierarchy<K>, Cyclic<K>>
-        requires { AreKnown K.cmp V.parents_of keys.items parents.now.entries }
+        requires { AreKnown K.cmp V.parents_of keys.keys parents.now.entries }
         ensures hierarchy { IfOk result (IsHierarchyOf K.cmp V.parents_of parents.now.entries) }
         ensures acyclic { OnOk result (HasNoCycle K.cmp V.parents_of parents.now.entries) }
         ensures refusal { IfErr result (IsCyclicBy K.cmp V.parents_of parents.now.entries) }
     {
-        let mut keys = into_ascending(keys);
-        let table = table_of(alloc, &keys, parents)?;
-        match Reach::of(alloc, table, most) {
+        match reach_of(alloc, &keys, parents, most) {
             Ok(reach) => Ok(Hierarchy { keys, reach }),
-            Err(Cyclic::At(index)) => Err(Cyclic::At(keys.swap_remove(index))),
+            Err(Cyclic::At(_)) => Hierarchy::in_order(alloc, keys, parents, most),
+            Err(Cyclic::Memory) => Err(Cyclic::Memory),
+        }
+    }
+
+    // The same over the keys in ascending order: so the least key on a cycle is named.
+    fn in_order<V: HasParents<K>>(
+        alloc: Global,
+        mut keys: IndexSet<K>,
+        parents: &HashMap<K, V>,
+        most: usize,
+    ) -> Result<Hierarchy<K>, Cyclic<K>>
+        requires { AreKnown K.cmp V.parents_of keys.keys parents.now.entries }
+        ensures hierarchy { IfOk result (IsHierarchyOf K.cmp V.parents_of parents.now.entries) }
+        ensures acyclic { OnOk result (HasNoCycle K.cmp V.parents_of parents.now.entries) }
+        ensures refusal { IfErr result (IsCyclicBy K.cmp V.parents_of parents.now.entries) }
+    {
+        keys.sort()?;
+        match reach_of(alloc, &keys, parents, most) {
+            Ok(reach) => Ok(Hierarchy { keys, reach }),
+            Err(Cyclic::At(index)) => Err(Cyclic::At(key_at(keys, index))),
             Err(Cyclic::Memory) => Err(Cyclic::Memory),
         }
     }
@@ -150,8 +196,11 @@ impl<K: Ord + Hash + Drop> Hierarchy<K> {
 }
 
 impl<K: Clone + Ord + Hash> Hierarchy<K> {
-    /// The same without the keys. A key without an entry has no parents, and is an ancestor if it
-    /// is listed.
+    /// The hierarchy of keys of which some list their parents. A key without an entry has no
+    /// parents, and is an ancestor if it is listed. The ancestors of each are kept if these are at
+    /// most `most` together, else they are walked for each question.
+    ///
+    /// It is refused if a key is its own ancestor, and the refusal names the least one.
     pub fn of<V: HasParents<K>>(
         alloc: Global,
         parents: &HashMap<K, V>,

@@ -243,7 +243,7 @@ impl<K: Clone + Ord + Hash, V: HasKey<K> + Eq + Drop> Store<K, V> {
         ensures refusal { IfErr result (IsRefusedFor K.cmp V.parents_of map.entries) }
     {
         let keys = keys_of(alloc, &map)?;
-        if let Some(key) = first_missing(&map, &keys, needs) {
+        if let Some(key) = first_missing(&map, keys.as_slice(), needs) {
             return Err(StoreError::MissingParent(key.clone()?));
         }
         match Hierarchy::with_keys(alloc, keys, &map, most) {

@@ -11,17 +11,20 @@ ghost use Rattle.semantics_eval.specs.Outcomes.{settled, strict_two, truth};
 ghost use Rattle.cedar_evaluator.specs.Compact.{compact_meaning};
 ghost use Rattle.cedar_evaluator.specs.Outcomes.{meaning_of};
 
+use crate::fields::Fields;
 use crate::outcome::Outcome;
 use cedar_terms::{BinaryOp, Integer, Literal};
 use cedar_values::{NoExtension, Value};
 use semantics_eval::laws::longs_fit;
 use std::alloc::{AllocError, Global};
 
-// An outcome: Booleans and integers, which most are, in place; any other behind a pointer.
+// An outcome: Booleans and integers, which most are, in place; a record at no place by what it
+// shares; any other behind a pointer.
 #[derive(Drop)]
 pub(crate) enum CompactOutcome {
     Bool(bool),
     Long(Integer),
+    Record(Fields),
     Whole(Box<Outcome>),
 }
 
@@ -58,6 +61,20 @@ impl CompactOutcome {
         }
     }
 
+    // A well formed value. `copy_of` asks before whether it is a Boolean or an integer.
+    pub(crate) fn of_value(
+        alloc: Global,
+        value: Value<NoExtension>,
+    ) -> Result<CompactOutcome, AllocError>
+        requires { IsTrue (well_formed ⟦<NoExtension as Ord>⟧.cmp value) }
+        ensures { IfOk result (λ c. compact_meaning c ≡ Ok (bare_value value)) }
+    {
+        match Fields::of(value) {
+            Ok(fields) => Ok(CompactOutcome::Record(fields)),
+            Err(other) => CompactOutcome::whole(alloc, Outcome::of_value(other)),
+        }
+    }
+
     // A copy of a well formed value.
     pub(crate) fn copy_of(
         alloc: Global,
@@ -68,7 +85,7 @@ impl CompactOutcome {
     {
         match literal_at_no_place(value) {
             Some(compact) => Ok(compact),
-            None => CompactOutcome::whole(alloc, Outcome::of_value(value.clone(alloc)?)),
+            None => CompactOutcome::of_value(alloc, value.clone(alloc)?),
         }
     }
 
@@ -102,6 +119,7 @@ impl CompactOutcome {
         match self {
             CompactOutcome::Bool(truth) => Outcome::lit(Literal::Bool(truth)),
             CompactOutcome::Long(number) => Outcome::lit(Literal::Long(number)),
+            CompactOutcome::Record(fields) => Outcome::of_value(fields.into_value()),
             CompactOutcome::Whole(outcome) => Box::into_inner(outcome),
         }
     }

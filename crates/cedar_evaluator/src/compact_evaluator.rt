@@ -261,7 +261,10 @@ impl ExprBuilder for CompactEvaluator {
         ensures refuses { IfErr result (OnDuplicateKey (λ _. HasRepeat (keys_of pairs.items))) }
     {
         let pairs = pairs_of(alloc, pairs)?;
-        Ok(CompactOutcome::whole(alloc, self.whole().record(alloc, pairs)?)?)
+        match self.whole().record(alloc, pairs)?.into_result() {
+            Ok(value) => Ok(CompactOutcome::of_value(alloc, value)?),
+            Err(fault) => Ok(CompactOutcome::whole(alloc, Outcome::of_fault(fault))?),
+        }
     }
 }
 

@@ -7,6 +7,7 @@ mod compact_evaluator;
 mod evaluation;
 mod evaluator;
 mod fault;
+mod fields;
 mod kinds;
 pub mod laws;
 pub mod operations;

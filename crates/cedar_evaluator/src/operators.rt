@@ -111,7 +111,8 @@ fn is_less<X: Ord + Drop>(left: &Value<X>, right: &Value<X>) -> Result<Literal, 
 #[tactic(auto, using(crate::proofs::Comparisons::comparison_laws))]
 fn is_less_or_equal<X: Ord + Drop>(left: &Value<X>, right: &Value<X>) -> Result<Literal, EvalFault>
     ensures { literal_outcome (faulted result)
-        ≡ settled (apply_two X.cmp X.eq binary.LessEq (bare_value left.now) (bare_value right.now)) }
+        ≡ settled (apply_two X.cmp X.eq binary.LessEq
+        (bare_value left.now) (bare_value right.now)) }
 {
     match both_longs(left, right) {
         Some((m, n)) => Ok(Literal::Bool(m <= n)),

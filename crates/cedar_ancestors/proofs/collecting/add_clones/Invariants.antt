@@ -4,6 +4,6 @@ use Rattle.cedar_ancestors.proofs.collecting.add_clones.Given as goal
 
 abbrev pub invariant-loop-key : goal.invariant-loop-key
 invariant-loop-key g l = record {
-  kept : IsPartOf g.K.Ord.cmp l.initial.keys.items l.keys.items;
-  added : IsPartOf g.K.Ord.cmp (take l.key-index l.more) l.keys.items;
+  kept : IsPartOf g.K.Ord.cmp l.initial.keys.keys l.keys.keys;
+  added : IsPartOf g.K.Ord.cmp (take l.key-index l.more) l.keys.keys;
 }

@@ -6,5 +6,5 @@ use Rattle.cedar_ancestors.proofs.keyed.table_of.Given as goal
 abbrev pub invariant-loop-key : goal.invariant-loop-key
 invariant-loop-key g l = record {
   many : length l.table.items ≡ l.key-index;
-  rows : (i : ℕ) → i < l.key-index → (d : g.row.K.Denot) → IsRowBy (lists g.K.Ord.cmp g.V.HasParents.parents_of l.parents.entries (get_or l.keys i d)) l.keys (row_at l.table.items i);
+  rows : (i : ℕ) → i < l.key-index → (d : g.row.K.Denot) → IsRowBy (lists g.K.Ord.cmp g.V.HasParents.parents_of l.parents.entries (get_or l.keys.keys i d)) l.keys.keys (row_at l.table.items i);
 }

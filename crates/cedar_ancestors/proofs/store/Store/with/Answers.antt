@@ -1,4 +1,4 @@
-use Rattle.std.proofs.Common.{◌≡◌, [], Err, IfErr, sym, subst, rules}
+use Rattle.std.proofs.Common.{◌≡◌, Err, IfErr, sym, subst, rules}
 use Rattle.cedar_ancestors.specs.Hierarchies.{HasNoCycle}
 use Rattle.cedar_ancestors.specs.Stores.{HasMore, IsRefusalOfAll, IsRefusedStore, KnowsAllParents}
 use Rattle.cedar_ancestors.proofs.Storing.{refused_all, refused_made, if_err_map, on_ok_map}
