@@ -31,8 +31,8 @@ pub enum PartialResponse {
     /// It is denied, whatever else comes to be known.
     Deny,
     /// It may still come to be either. The residual policies have the response of all the policies
-    /// wherever more is known: those whose conditions are false are left out, those whose conditions
-    /// are true have the condition `true`, and the others are as they were.
+    /// wherever more is known: those whose conditions are false are left out, those whose
+    /// conditions are true have the condition `true`, and the others are as they were.
     Residual(Vec<Policy>),
 }
 

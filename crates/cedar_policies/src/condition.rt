@@ -30,7 +30,7 @@ use std::rc::Rc;
 
 impl Template {
     /// The condition: what the scope says of principal, action and resource, and then each clause,
-    /// with `&&` between; `unless` is negated. It shares the expressions of the clauses. Slots stay.
+    /// with `&&` between; `unless` is negated. It shares the clauses' expressions. Slots stay.
     ///
     /// `permit(principal == User::"ann", action, resource) unless { resource.private };` has the
     /// condition `principal == User::"ann" && true && true && !resource.private`.

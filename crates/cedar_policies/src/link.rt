@@ -72,7 +72,7 @@ impl Template {
     }
 
     /// The policy that the template is with these entities in place of its slots. It is refused if
-    /// it has no slot, if a slot is left, or if an entity is given for a slot that it does not have.
+    /// it has no slot, if a slot is left, or if an entity is given for a slot that it lacks.
     #[tactic(auto, using(crate::proofs::Linked::linked, crate::proofs::Linked::whole, crate::proofs::Linked::principal_refused, crate::proofs::Linked::resource_refused))]
     pub fn link(&self, alloc: Global, values: &SlotValues) -> Result<Template, LinkError>
         ensures linked { IfOk result (λ p. bare_policy p

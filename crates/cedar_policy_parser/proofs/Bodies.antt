@@ -1,7 +1,6 @@
 -- The bodies of clauses, and the texts of annotations.
-use Rattle.std.proofs.Common.{◌≡◌, ℕ, true, List, [], ◌∷◌, ◌++◌, refl, sym, ◌∙◌, ap, subst}
+use Rattle.std.proofs.Common.{◌≡◌, true, [], ◌∷◌, ◌++◌, refl, sym, ◌∙◌, ap, subst}
 use Rattle.std.specs.Prelude.{codes}
-use Rattle.std.specs.Rc.{rc_str_bytes}
 use Rattle.cedar_builders.specs.BareExpr.{Text, BareExpr}
 use Rattle.cedar_lexer.specs.declared.parse_failure.ParseFailure.{ParseFailure}
 use Rattle.cedar_lexer.specs.declared.token.Token.{Token}
@@ -9,7 +8,7 @@ use Rattle.cedar_lexer.specs.declared.token.TokenKind.{TokenKind}
 use Rattle.cedar_lexer.specs.declared.token.TokenKind.TheVariants as kinds
 use Rattle.cedar_lexer.specs.declared.token_stream.TokenStream.{TokenStream}
 use Rattle.semantics_grammar.specs.Grammar.{Stands}
-use Rattle.semantics_grammar.specs.Lexemes.{Lexeme, lexeme}
+use Rattle.semantics_grammar.specs.Lexemes.{lexeme}
 use Rattle.semantics_grammar.specs.Written.{IsTextOf}
 use Rattle.cedar_parser.specs.Meant.{here}
 use Rattle.cedar_parser.specs.Refused.{IsWithin, stop_of}
@@ -112,3 +111,9 @@ effect_parsed w t t0 t1 e h = record {
   rest = h.rest;
   fewer = h.fewer;
 }
+
+-- ---- what the functions cite
+
+pub ruleset body_rules = (copy_sound, copy_refused, body_refused, close_refused, body_parsed)
+
+pub ruleset annotation_rules = (behind_at, behind_at_alone, within_rest)

@@ -1,5 +1,5 @@
 -- What scopes say, part by part.
-use Rattle.std.proofs.Common.{◌≡◌, ℕ, true, List, [], ◌∷◌, ◌++◌, map, Result, Ok, Err, refl, sym, ◌∙◌, ap, subst}
+use Rattle.std.proofs.Common.{◌≡◌, ℕ, true, List, [], ◌∷◌, map, Result, Ok, Err, refl, sym, ◌∙◌, ap, subst}
 use Rattle.std.specs.Global.{Global}
 use Rattle.std.specs.List.{list_all}
 use Rattle.std.specs.declared.rc.Rc.{Rc}
@@ -24,6 +24,7 @@ use Rattle.semantics_policies.specs.Grammar.{EndsScope, closed, comma_closed, Is
 use Rattle.semantics_policies.specs.Policies.{EntityOrSlot, ScopeConstraint, any, equals, is_in, is_of, is_of_in, ActionConstraint, any_action, action_equals, action_in, action_in_set}
 use Rattle.cedar_policy_parser.specs.Scopes.{BeginsWithAction, IsActionBehindIn, IsScopeBehindIs}
 use Rattle.cedar_policy_parser.specs.Streams.{BeginsWithExpr, IsRest, IsTokenTaken, Parses}
+use Rattle.cedar_policy_parser.proofs.EntityTrees.{entity_found, slot_is}
 use Rattle.cedar_policy_parser.proofs.Taken.{rest_rest, within_rest}
 
 -- two tokens in front
@@ -157,7 +158,7 @@ pub one_action_parsed : (u : BareEntityUID) (e : BareExpr) (t0 t1 : TokenStream)
 one_action_parsed u e t0 t1 is a b = (one_action_said u (here t0) (here t1) (action_found u e t0 t1 is a b).0, b.1)
 
 -- a map of a map
-both_maps : {A B C : Type 0} (g : B → C) (f : A → B) (xs : List A) → map (λ x. g (f x)) xs ≡ map g (map f xs)
+pub both_maps : {A B C : Type 0} (g : B → C) (f : A → B) (xs : List A) → map (λ x. g (f x)) xs ≡ map g (map f xs)
 both_maps g f [] = refl
 both_maps g f (x ∷ xs) = ap (λ l. g (f x) ∷ l) (both_maps g f xs)
 
@@ -192,3 +193,19 @@ comma_closed_parsed m c t0 t1 t2 h i = (
 pub operand_parsed : (e tree : BareExpr) (t0 t1 : TokenStream) → e ≡ tree → BeginsWithExpr (here t0) e (here t1) × IsRest t0 t1
     → BeginsWithExpr (here t0) tree (here t1) × IsRest t0 t1
 operand_parsed e tree t0 t1 is b = (subst (λ x. BeginsWithExpr (here t0) x (here t1)) is b.0, b.1)
+
+-- ---- what the functions of the scope cite
+
+pub ruleset close_rules = (closed_parsed, comma_closed_parsed, within_rest)
+
+pub ruleset constraint_rules = (any_parsed, equal_parsed, in_parsed, is_parsed, within_rest)
+
+pub ruleset type_rules = (type_parsed, type_in_parsed, within_rest)
+
+pub ruleset operand_rules = (operand_parsed, entity_found, slot_is)
+
+pub ruleset action_constraint_rules = (any_action_parsed, action_parsed, actions_parsed, within_rest)
+
+pub ruleset action_rules = (action_found, entity_found)
+
+pub ruleset actions_rules = (one_action_parsed, more_actions_parsed, entity_found)

@@ -1,18 +1,18 @@
 -- Groups of tokens that are taken from a sound stream.
-use Rattle.std.proofs.Common.{◌≡◌, ◌≤◌, ◌+◌, ℕ, List, [], ◌∷◌, ◌++◌, length, length-append, map, refl, sym, ◌∙◌, ap, subst, arith}
+use Rattle.std.proofs.Common.{◌≡◌, ◌≤◌, ◌+◌, List, [], ◌∷◌, ◌++◌, length, length-append, IfErr, IfOk, MatchResult, Result, Ok, Err, refl, sym, ◌∙◌, ap, subst, arith}
 use Rattle.cedar_lexer.specs.TokenStreams.{end_of, first_or, next_of, rest_of, tokens_left}
 use Rattle.cedar_lexer.specs.declared.token.Span.{Span}
 use Rattle.cedar_lexer.specs.declared.token.Token.{Token}
 use Rattle.cedar_lexer.specs.declared.token.TokenKind.TheVariants as kinds
 use Rattle.cedar_lexer.specs.declared.token_stream.TokenStream.{TokenStream}
-use Rattle.cedar_lexer.specs.Grammar.{IsTokenText}
 use Rattle.semantics_grammar.specs.Lexemes.{Lexeme, lexeme_of, lexemes_of}
-use Rattle.cedar_parser.specs.Meant.{AreLexemes, HasEnd, here}
-use Rattle.cedar_parser.specs.Refused.{AreInOrder, IsBefore, stop_of}
+use Rattle.cedar_parser.specs.Meant.{AreLexemes, here}
+use Rattle.cedar_parser.specs.Refused.{AreInOrder, stop_of}
 use Rattle.cedar_parser.proofs.InOrder.{before}
 use Rattle.cedar_parser.proofs.TakenSteps.{end_kept}
 use Rattle.cedar_builders.specs.BareExpr.{BareExpr}
 use Rattle.cedar_lexer.specs.declared.parse_failure.ParseFailure.{ParseFailure}
+use Rattle.cedar_lexer.specs.declared.parse_failure.ParseFailure.TheVariants as failure
 use Rattle.semantics_grammar.specs.Grammar.{Stands}
 use Rattle.cedar_parser.specs.Refused.{IsWithin}
 use Rattle.cedar_policy_parser.specs.Streams.{BeginsWithExpr, IsGroupTaken, IsRest, IsSound}
@@ -78,3 +78,13 @@ group_refused group old new e g w = within_more (stop_of group) (stop_of old) e 
 pub group_place : (group old new : TokenStream) → IsGroupTaken group old new
     → ((next_of group).span.start ≤ (next_of group).span.stop) × ((next_of group).span.stop ≤ stop_of old)
 group_place group old new g = (g.sound.order.piece, omega (arith, g.sound.order.fits, g.ends))
+
+-- the tree is the only one
+pub tree_given : {A : Type 0} (f : A → BareExpr) (ts : List Lexeme) (tree : BareExpr) (r : Result A ParseFailure)
+    → ((ts : List Lexeme) (a b : BareExpr) → Stands ts a → Stands ts b → a ≡ b) → IfOk r (λ x. Stands ts (f x))
+    → IfErr r (λ e. (t : BareExpr) → Stands ts t → e ≡ failure.Memory) → Stands ts tree
+    → MatchResult r (λ x. f x ≡ tree) (λ e. e ≡ failure.Memory)
+tree_given f ts tree (Ok x) one p c h = one ts (f x) tree p h
+tree_given f ts tree (Err e) one p c h = c tree h
+
+pub ruleset expression_rules = (expression_parsed, group_refused, group_place)

@@ -1,5 +1,5 @@
 -- Keys of which no two are the same.
-use Rattle.std.proofs.Common.{◌≡◌, List, [], ◌∷◌, ◌++◌, Bool, true, false, not, ◌&&◌, ◌||◌, nat_eq, refl, ap, sym, ◌∙◌}
+use Rattle.std.proofs.Common.{◌≡◌, List, [], ◌∷◌, ◌++◌, Bool, true, false, not, ◌&&◌, ◌||◌, nat_eq, refl, sym, ◌∙◌}
 use Rattle.std.specs.Cmp.Lexicographic.{pointwise, nat_list_eq_equiv}
 use Rattle.std.proofs.lemmas.Bool.{false≢true}
 use Rattle.std.proofs.lemmas.List.Folds.{list_any-append}
@@ -10,11 +10,11 @@ both_false : (a b : Bool) → (a || b) ≡ false → (a ≡ false) × (b ≡ fal
 both_false true b h = absurd (false≢true (sym h))
 both_false false b h = (refl, h)
 
-both_true : (a b : Bool) → (a && b) ≡ true → (a ≡ true) × (b ≡ true)
+pub both_true : (a b : Bool) → (a && b) ≡ true → (a ≡ true) × (b ≡ true)
 both_true true b h = (refl, h)
 both_true false b h = absurd (false≢true h)
 
-not_true : (a : Bool) → not a ≡ true → a ≡ false
+pub not_true : (a : Bool) → not a ≡ true → a ≡ false
 not_true true h = absurd (false≢true h)
 not_true false h = refl
 
@@ -28,3 +28,12 @@ distinct_more (x ∷ ks) k d h =
     let out : is_among x (ks ++ (k ∷ [])) ≡ false =
     list_any-append (pointwise nat_eq x) ks (k ∷ []) ∙ rw (not_true (is_among x ks) t.0, here) refl in
     rw (out, distinct_more ks k t.1 f.1) refl
+
+-- a key that stands behind others is none of them
+pub apart : (ks : List Text) (k : Text) (more : List Text) → are_distinct (ks ++ (k ∷ more)) ≡ true → is_among k ks ≡ false
+apart [] k more d = refl
+apart (x ∷ ks) k more d =
+    let t = both_true (not (is_among x (ks ++ (k ∷ more)))) (are_distinct (ks ++ (k ∷ more))) d in
+    let f = both_false (is_among x ks) (is_among x (k ∷ more)) (sym (list_any-append (pointwise nat_eq x) ks (k ∷ more)) ∙ not_true (is_among x (ks ++ (k ∷ more))) t.0) in
+    let g = both_false (pointwise nat_eq x k) (is_among x more) f.1 in
+    rw (nat_list_eq_equiv.symm k x ∙ g.0, apart ks k more t.1) refl

@@ -1,5 +1,5 @@
 -- Annotations, clauses and policies, one behind the other.
-use Rattle.std.proofs.Common.{◌≡◌, ◌+◌, ℕ, suc, Bool, true, false, not, List, [], ◌∷◌, ◌++◌, length, map, append_assoc, append-nil, refl, sym, ◌∙◌, ap, subst, arith}
+use Rattle.std.proofs.Common.{◌≡◌, ◌+◌, ℕ, suc, Bool, true, false, not, List, [], ◌∷◌, ◌++◌, length, map, append-nil, refl, sym, ◌∙◌, ap, subst, arith}
 use Rattle.std.specs.Rc.{rc_str_bytes}
 use Rattle.std.proofs.lemmas.Bool.{false≢true}
 use Rattle.cedar_builders.specs.BareExpr.{Text}
@@ -17,7 +17,7 @@ use Rattle.cedar_policies.specs.PolicySets.{AreNamed, bare_policies, ids_of}
 use Rattle.cedar_policies.specs.declared.policy.Annotation.{Annotation}
 use Rattle.cedar_policies.specs.declared.policy.Clause.{Clause}
 use Rattle.cedar_policies.specs.declared.policy_set.Policy.{Policy}
-use Rattle.cedar_policy_parser.specs.Annotations.{AreAnnotationsOf, IsBehindAt, keys_of}
+use Rattle.cedar_policy_parser.specs.Annotations.{IsBehindAt, keys_of}
 use Rattle.cedar_policy_parser.specs.Seen.{HasSeen}
 use Rattle.cedar_policy_parser.specs.Streams.{IsTokenTaken}
 use Rattle.cedar_policy_parser.specs.declared.seen.SeenTexts.{SeenTexts}
@@ -130,7 +130,7 @@ ids_snoc n [] p = ap (λ m. policy_id m p ∷ []) (omega arith)
 ids_snoc n (q ∷ ps) p =
     ap (λ l. policy_id n q ∷ l) (ids_snoc (suc n) ps p ∙ ap (λ m. policy_ids (suc n) ps ++ (policy_id m p ∷ [])) (omega arith))
 
-map_length : {A B : Type 0} (f : A → B) (xs : List A) → length (map f xs) ≡ length xs
+pub map_length : {A B : Type 0} (f : A → B) (xs : List A) → length (map f xs) ≡ length xs
 map_length f [] = refl
 map_length f (x ∷ xs) = ap suc (map_length f xs)
 

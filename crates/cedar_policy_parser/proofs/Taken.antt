@@ -1,15 +1,15 @@
 -- Tokens that are taken from a sound stream.
-use Rattle.std.proofs.Common.{◌≡◌, ◌≤◌, ◌<◌, ℕ, suc, List, [], ◌∷◌, ◌++◌, length, IfErr, IfOk, MatchOption, MatchResult, Option, Some, None, Result, Ok, Err, refl, sym, ◌∙◌, ap, subst, arith}
+use Rattle.std.proofs.Common.{◌≡◌, ◌≤◌, ℕ, suc, List, ◌∷◌, length, IfErr, IfOk, MatchOption, MatchResult, Option, Some, None, Result, Ok, Err, refl, sym, ◌∙◌, ap, subst, arith}
 use Rattle.cedar_lexer.specs.Told.{IsProblem}
-use Rattle.cedar_lexer.specs.TokenStreams.{IsTaken, IsUntouched, end_of, next_of, rest_of, tokens_left}
+use Rattle.cedar_lexer.specs.TokenStreams.{IsTaken, IsUntouched, next_of, tokens_left}
 use Rattle.cedar_lexer.specs.declared.parse_failure.ParseFailure.{ParseFailure}
 use Rattle.cedar_lexer.specs.declared.parse_failure.ParseFailure.TheVariants as failure
 use Rattle.cedar_lexer.specs.declared.token.Token.{Token}
 use Rattle.cedar_lexer.specs.declared.token.TokenKind.{TokenKind}
 use Rattle.cedar_lexer.specs.declared.token_stream.TokenStream.{TokenStream}
-use Rattle.semantics_grammar.specs.Lexemes.{Lexeme, lexeme}
-use Rattle.cedar_parser.specs.Meant.{AreLexemes, HasEnd, here}
-use Rattle.cedar_parser.specs.Refused.{IsBefore, IsLeft, IsWithin, stop_of}
+use Rattle.semantics_grammar.specs.Lexemes.{lexeme}
+use Rattle.cedar_parser.specs.Meant.{AreLexemes, here}
+use Rattle.cedar_parser.specs.Refused.{IsWithin, stop_of}
 use Rattle.cedar_parser.proofs.InOrder.{earlier, taken, untouched, wanted}
 use Rattle.cedar_parser.proofs.TakenSteps.{end_kept, taken_is, untouched_here}
 use Rattle.cedar_policy_parser.specs.Streams.{IsRest, IsSound, IsTokenTaken}

@@ -1,5 +1,5 @@
 -- Whole scopes, policies and texts.
-use Rattle.std.proofs.Common.{◌≡◌, ◌<◌, ℕ, true, List, [], ◌∷◌, ◌++◌, map, length, Result, Ok, Err, IfOk, refl, sym, ◌∙◌, ap, subst, arith}
+use Rattle.std.proofs.Common.{◌≡◌, ◌<◌, ℕ, List, [], ◌∷◌, map, length, refl, ◌∙◌, ap, subst, arith}
 use Rattle.std.specs.Rc.{rc_str_bytes}
 use Rattle.cedar_builders.specs.Keys.{are_distinct}
 use Rattle.cedar_names.specs.declared.slot.SlotId.TheVariants as slots
@@ -10,7 +10,7 @@ use Rattle.cedar_lexer.specs.declared.parse_failure.ParseFailure.{ParseFailure}
 use Rattle.cedar_lexer.specs.declared.token.Token.{Token}
 use Rattle.cedar_lexer.specs.declared.token.TokenKind.TheVariants as kinds
 use Rattle.cedar_lexer.specs.declared.token_stream.TokenStream.{TokenStream}
-use Rattle.semantics_grammar.specs.Lexemes.{Lexeme, lexeme, lexemes_of}
+use Rattle.semantics_grammar.specs.Lexemes.{lexeme, lexemes_of}
 use Rattle.cedar_parser.specs.Meant.{here}
 use Rattle.cedar_parser.specs.Refused.{IsWithin, stop_of}
 use Rattle.cedar_parser.proofs.Tokenized.{all_before, stopped_within}
@@ -21,7 +21,7 @@ use Rattle.cedar_policies.specs.Policies.{bare_annotation}
 use Rattle.cedar_policies.specs.declared.policy.Annotation.{Annotation}
 use Rattle.cedar_policy_parser.specs.Annotations.{AreAnnotationsOf, keys_of}
 use Rattle.cedar_policy_parser.specs.Streams.{ArePoliciesOf, IsEffectTaken, IsRest, IsSound, IsTokenTaken}
-use Rattle.cedar_policy_parser.proofs.Taken.{rest_rest}
+use Rattle.cedar_policy_parser.proofs.Taken.{rest_rest, within_rest}
 
 pub scope_parsed : (p : bare.ScopeConstraint) (a : bare.ActionConstraint) (r : bare.ScopeConstraint) (c d : Token) (t0 t1 t2 t3 t4 t5 t6 : TokenStream)
     → IsScope variables.Principal slots.Principal (here t0) p (here t1) × IsRest t0 t1 → IsTokenTaken kinds.Comma c t1 t2
@@ -94,3 +94,5 @@ none_here (t ∷ ts) e = absurd (omega (arith, e))
 -- nothing is left
 pub nothing_here : (t : TokenStream) → tokens_left t ≡ 0 → here t ≡ []
 nothing_here t e = none_here (rest_of t) e
+
+pub ruleset policy_rules = (policy_parsed, policy_fewer, within_rest)

@@ -49,3 +49,9 @@ IsActionBehindIn ts c rest =
 -- what a whole scope says, and then the rest
 abbrev pub IsWholeScopeOf : List Lexeme → Scope → List Lexeme → Type 0
 IsWholeScopeOf ts s rest = IsWholeScope ts (bare_scope s.principal) (bare_action s.action) (bare_scope s.resource) rest
+
+-- it says this of the principal, the action and the resource
+pub record IsScopeOf (s : Scope) (p : ScopeConstraint) (a : ActionConstraint) (r : ScopeConstraint) : Type 0 where
+  pub principal : bare_scope s.principal ≡ p
+  pub action : bare_action s.action ≡ a
+  pub resource : bare_scope s.resource ≡ r

@@ -1,7 +1,6 @@
 -- Parts of policies, as they are taken from a stream of tokens.
 use Rattle.std.specs.Prelude.{◌≡◌, ◌<◌, ◌≤◌, ℕ, not, List, ◌∷◌, ◌++◌, MatchResult, Result, IsTrue}
 use Rattle.std.specs.List.{list_all}
-use Rattle.cedar_names.specs.declared.slot.SlotId.{SlotId}
 use Rattle.cedar_builders.specs.BareExpr.{BareExpr}
 use Rattle.cedar_lexer.specs.Grammar.{IsTokenText}
 use Rattle.cedar_lexer.specs.TokenPlaces.{AreTokens}

@@ -1,7 +1,10 @@
 //! The annotations of a policy.
-ghost use Rattle.std.specs.Prelude.{◌≡◌, MatchResult};
+ghost use Rattle.std.specs.Prelude.{◌≡◌, ◌∷◌, ℕ, IsOk, List, MatchResult, map, true};
+ghost use Rattle.cedar_lexer.specs.declared.token.TokenKind.{TokenKind as Kind};
+ghost use Rattle.cedar_parser.specs.Meant.{here};
 ghost use Rattle.cedar_parser.specs.Refused.{IsWithin, stop_of};
 ghost use Rattle.std.specs.Rc.{rc_str_bytes};
+ghost use Rattle.semantics_grammar.specs.Lexemes.{Lexeme, lexeme};
 ghost use Rattle.semantics_policies.specs.Grammar.{is_word_kind};
 ghost use Rattle.cedar_policy_parser.specs.Annotations.{
   AreAnnotationsOf,
@@ -10,6 +13,11 @@ ghost use Rattle.cedar_policy_parser.specs.Annotations.{
   IsKeyTaken,
 };
 ghost use Rattle.cedar_policies.specs.Policies.{bare_annotation};
+ghost use Rattle.cedar_policy_parser.specs.Complete.{
+  AreAnnotationsUpTo,
+  Completes,
+  IsAnnotationUpTo,
+};
 ghost use Rattle.cedar_policy_parser.specs.Streams.{IsSound, Parses};
 
 use crate::seen::SeenTexts;
@@ -26,7 +34,9 @@ pub(crate) fn annotations(
     tokens: &mut TokenStream<'_>,
 ) -> Result<Vec<Annotation>, ParseFailure>
     requires { IsSound tokens.old }
-    ensures { Parses (λ ts found rest. AreAnnotationsOf ts found.items rest)
+    ensures parses { Parses (λ ts found rest. AreAnnotationsOf ts found.items rest)
+        tokens.old tokens.new result }
+    ensures complete { Completes (λ found. map bare_annotation found.items) AreAnnotationsUpTo
         tokens.old tokens.new result }
 {
     let mut keys = SeenTexts::new(source.alloc);
@@ -43,11 +53,12 @@ pub(crate) fn annotations(
 }
 
 // Parses an annotation behind its `@`.
-#[tactic(auto, using(crate::proofs::Bodies::behind_at, crate::proofs::Bodies::behind_at_alone, crate::proofs::Taken::within_rest))]
+#[tactic(auto, using(crate::proofs::Bodies::annotation_rules))]
 fn annotation(source: &Source, tokens: &mut TokenStream<'_>) -> Result<Annotation, ParseFailure>
     requires { IsSound tokens.old }
-    ensures { Parses (λ ts a rest. IsBehindAt ts (bare_annotation a) rest)
+    ensures parses { Parses (λ ts a rest. IsBehindAt ts (bare_annotation a) rest)
         tokens.old tokens.new result }
+    ensures complete { Completes bare_annotation IsAnnotationUpTo tokens.old tokens.new result }
 {
     let name = key(tokens)?;
     let key = RcStr::from_str(source.alloc, name.text)?;
@@ -68,8 +79,9 @@ fn annotation(source: &Source, tokens: &mut TokenStream<'_>) -> Result<Annotatio
 #[tactic(auto, using(crate::proofs::Bodies::closed_text, crate::proofs::Taken::within_rest))]
 fn value(source: &Source, tokens: &mut TokenStream<'_>) -> Result<RcStr, ParseFailure>
     requires { IsSound tokens.old }
-    ensures { Parses (λ ts t rest. IsClosedText ts (rc_str_bytes t) rest)
+    ensures parses { Parses (λ ts t rest. IsClosedText ts (rc_str_bytes t) rest)
         tokens.old tokens.new result }
+    ensures complete { Completes rc_str_bytes IsClosedText tokens.old tokens.new result }
 {
     let quoted = wanted(tokens, TokenKind::Quoted, "a text in quotes is wanted here")?;
     let value = text_of(source.alloc, quoted)?;
@@ -81,9 +93,11 @@ fn value(source: &Source, tokens: &mut TokenStream<'_>) -> Result<RcStr, ParseFa
 #[tactic(auto, using(crate::proofs::Bodies::key_taken))]
 fn key<'a>(tokens: &mut TokenStream<'a>) -> Result<Token<'a>, ParseFailure>
     requires { IsSound tokens.old }
-    ensures { MatchResult result
+    ensures taken { MatchResult result
         (λ t. IsKeyTaken t tokens.old tokens.new)
         (IsWithin (stop_of tokens.old)) }
+    ensures present { (kind : Kind) (word : List ℕ) (rest : List Lexeme) →
+        is_word_kind kind ≡ true → here tokens.old ≡ lexeme kind word ∷ rest → IsOk result }
 {
     let first = tokens.first();
     if is_word(first.kind) {

@@ -1,5 +1,5 @@
 //! The clauses of a policy.
-ghost use Rattle.std.specs.Prelude.{◌≡◌, ◌∷◌, ◌≤◌, MatchResult, map};
+ghost use Rattle.std.specs.Prelude.{◌≡◌, ◌∷◌, ◌≤◌, IsOk, MatchResult, map};
 ghost use Rattle.cedar_exprs.specs.BareExpr.{bare_expr};
 ghost use Rattle.cedar_lexer.specs.declared.token.TokenKind.TheVariants as kinds;
 ghost use Rattle.semantics_grammar.specs.Lexemes.{lexeme};
@@ -7,6 +7,7 @@ ghost use Rattle.cedar_parser.specs.Meant.{here};
 ghost use Rattle.cedar_parser.specs.Refused.{IsWithin, stop_of};
 ghost use Rattle.semantics_policies.specs.Grammar.{AreClauses, IsClause, is_slot_token};
 ghost use Rattle.cedar_policies.specs.Policies.{bare_clause};
+ghost use Rattle.cedar_policy_parser.specs.Complete.{AreClausesUpTo, Completes};
 ghost use Rattle.cedar_policy_parser.specs.Streams.{HasNoSlot, IsBody, IsSound, Parses};
 
 use crate::stream::{Source, group, maybe, parse_group, wanted};
@@ -21,7 +22,9 @@ pub(crate) fn clauses(
     tokens: &mut TokenStream<'_>,
 ) -> Result<Vec<Clause>, ParseFailure>
     requires { IsSound tokens.old }
-    ensures { Parses (λ ts cs rest. AreClauses ts (map bare_clause cs.items) rest)
+    ensures parses { Parses (λ ts cs rest. AreClauses ts (map bare_clause cs.items) rest)
+        tokens.old tokens.new result }
+    ensures complete { Completes (λ cs. map bare_clause cs.items) AreClausesUpTo
         tokens.old tokens.new result }
 {
     let mut clauses = Vec::new(source.alloc);
@@ -41,8 +44,11 @@ fn clause(
     requires sound { IsSound tokens.old }
     requires begins { word.span.start ≤ word.span.stop }
     requires ends { word.span.stop ≤ stop_of tokens.old }
-    ensures { Parses (λ ts c rest.
+    ensures parses { Parses (λ ts c rest.
         IsClause (lexeme kinds.Word word.entry.text.now ∷ ts) (bare_clause c) rest)
+        tokens.old tokens.new result }
+    ensures complete { Completes bare_clause
+        (λ ts c rest. IsClause (lexeme kinds.Word word.entry.text.now ∷ ts) c rest)
         tokens.old tokens.new result }
 {
     match word.text {
@@ -53,10 +59,12 @@ fn clause(
 }
 
 // Parses an expression in curly brackets, without slots.
-#[tactic(auto, using(crate::proofs::Bodies::copy_sound, crate::proofs::Bodies::copy_refused, crate::proofs::Bodies::body_refused, crate::proofs::Bodies::close_refused, crate::proofs::Bodies::body_parsed))]
+#[tactic(auto, using(crate::proofs::Bodies::body_rules))]
 fn body(source: &Source, tokens: &mut TokenStream<'_>) -> Result<Expr, ParseFailure>
     requires { IsSound tokens.old }
-    ensures { Parses (λ ts e rest. IsBody ts (bare_expr e) rest) tokens.old tokens.new result }
+    ensures parses { Parses (λ ts e rest. IsBody ts (bare_expr e) rest)
+        tokens.old tokens.new result }
+    ensures complete { Completes bare_expr IsBody tokens.old tokens.new result }
 {
     wanted(tokens, TokenKind::OpenCurly, "`{` is wanted here")?;
     let inside = group(tokens, false);
@@ -69,9 +77,10 @@ fn body(source: &Source, tokens: &mut TokenStream<'_>) -> Result<Expr, ParseFail
 // Refuses tokens with a slot among them.
 fn refuse_slots(tokens: TokenStream<'_>) -> Result<(), ParseFailure>
     requires { IsSound tokens }
-    ensures { MatchResult result
+    ensures none { MatchResult result
         (λ _. HasNoSlot (here tokens.entry))
         (IsWithin (stop_of tokens.entry)) }
+    ensures complete { HasNoSlot (here tokens.entry) → IsOk result }
 {
     let mut left = tokens;
     'tokens: while let Some(token) = left.next() {

@@ -1,10 +1,10 @@
 //! Entities and slots that expressions are.
-ghost use Rattle.std.specs.Prelude.{◌≡◌, IfOk, IfSome, MatchOption, map, ⊤};
+ghost use Rattle.std.specs.Prelude.{◌≡◌, IfOk, IfSome, IsSome, List, MatchOption, map, ⊤};
 ghost use Rattle.std.specs.List.{list_all};
 ghost use Rattle.std.specs.Option.{option_map};
-ghost use Rattle.cedar_terms.specs.Entities.{bare_entity_uid};
+ghost use Rattle.cedar_terms.specs.Entities.{BareEntityUID, bare_entity_uid};
 ghost use Rattle.cedar_terms.specs.Literals.{bare_literal};
-ghost use Rattle.cedar_builders.specs.BareExpr.{Set};
+ghost use Rattle.cedar_builders.specs.BareExpr.{BareExprs, Set};
 ghost use Rattle.cedar_exprs.specs.BareExpr.{bare_expr, bare_exprs};
 ghost use Rattle.semantics_policies.specs.Conditions.{entity_tree};
 ghost use Rattle.semantics_policies.specs.Grammar.{is_action};
@@ -30,8 +30,8 @@ pub(crate) fn entity_in(expr: &Expr) -> Result<Option<Rc<EntityUID>>, AllocError
 
 // The entity that a literal is.
 fn entity_in_literal(literal: &Literal) -> Result<Option<Rc<EntityUID>>, AllocError>
-    ensures { IfOk result (λ found.
-        option_map (λ u. bare_entity_uid u.value) found ≡ literal_entity (bare_literal literal.now)) }
+    ensures { IfOk result (λ found. option_map (λ u. bare_entity_uid u.value) found
+        ≡ literal_entity (bare_literal literal.now)) }
 {
     match literal {
         Literal::EntityUID(uid) => Ok(Some(uid.clone()?)),
@@ -51,8 +51,9 @@ pub(crate) fn slot_in(expr: &Expr) -> Option<SlotId>
 
 /// The members of the set that an expression is.
 pub(crate) fn members_in(expr: &Expr) -> Option<&[Expr]>
-    ensures { MatchOption result ⊤ (λ members.
+    ensures members { MatchOption result ⊤ (λ members.
         bare_expr expr.now ≡ Set (bare_exprs members.now)) }
+    ensures present { (es : BareExprs) → bare_expr expr.now ≡ Set es → IsSome result }
 {
     match expr.expr_kind() {
         ExprKind::Set(members) => Some(members),
@@ -65,8 +66,10 @@ pub(crate) fn entities_in(
     alloc: Global,
     exprs: &[Expr],
 ) -> Result<Option<Vec<Rc<EntityUID>>>, AllocError>
-    ensures { IfOk result (λ found. IfSome found (λ uids.
+    ensures entities { IfOk result (λ found. IfSome found (λ uids.
         map bare_expr exprs.now ≡ map (λ u. entity_tree (bare_entity_uid u.value)) uids.items)) }
+    ensures present { IfOk result (λ found. (us : List BareEntityUID) →
+        map bare_expr exprs.now ≡ map entity_tree us → IsSome found) }
 {
     let mut uids = Vec::with_capacity(alloc, exprs.len())?;
     for expr in exprs {

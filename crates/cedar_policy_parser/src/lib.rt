@@ -1,4 +1,4 @@
-//! The parser of policies: from texts in Cedar's syntax to sets of policies and templates.
+//! The parser of sets of policies and templates.
 #![tactic(auto)]
 
 mod annotations;

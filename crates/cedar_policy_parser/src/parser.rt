@@ -1,14 +1,30 @@
 //! From texts to policies.
-ghost use Rattle.std.specs.Prelude.{◌≡◌, ◌<◌, IfErr, IfOk, IsTrue, MatchResult, length};
+ghost use Rattle.std.specs.Prelude.{
+  ◌≡◌,
+  ◌∷◌,
+  ◌<◌,
+  IfErr,
+  IfOk,
+  IsTrue,
+  List,
+  MatchResult,
+  length,
+};
 ghost use Rattle.std.specs.Rc.{rc_str_bytes};
 ghost use Rattle.cedar_builders.specs.Keys.{are_distinct};
 ghost use Rattle.cedar_lexer.specs.TokenStreams.{tokens_left};
+ghost use Rattle.cedar_lexer.specs.declared.error.ParseError.TheVariants.{Memory as NoMemory};
+ghost use Rattle.cedar_lexer.specs.declared.parse_failure.ParseFailure.TheVariants.{Memory};
+ghost use Rattle.cedar_lexer.specs.declared.token.TokenKind.TheVariants as kinds;
+ghost use Rattle.semantics_grammar.specs.Lexemes.{Lexeme, lexeme};
 ghost use Rattle.cedar_parser.specs.Meant.{here};
 ghost use Rattle.cedar_parser.specs.Refused.{IsToldIn, IsWithin, stop_of};
 ghost use Rattle.semantics_policies.specs.Grammar.{ArePolicies, IsPolicy, effect_text};
 ghost use Rattle.semantics_policies.specs.Identifiers.{policy_id, policy_ids};
 ghost use Rattle.cedar_policies.specs.Policies.{bare_effect, bare_policy};
 ghost use Rattle.cedar_policies.specs.PolicySets.{AreNamed, bare_policies, ids_of, policies_of};
+ghost use Rattle.semantics_policies.specs.Policies.{BarePolicy, Effect as BareEffect};
+ghost use Rattle.cedar_policy_parser.specs.Complete.{Completes};
 ghost use Rattle.cedar_policy_parser.specs.Streams.{ArePoliciesOf, IsEffectTaken, IsSound, Parses};
 
 use crate::annotations::annotations;
@@ -16,6 +32,7 @@ use crate::clauses::clauses;
 use crate::scope::parse_scope;
 use crate::seen::SeenTexts;
 use crate::stream::{Source, wanted};
+use cedar_lexer::laws::tokens_are_unique;
 use cedar_lexer::{ParseError, ParseFailure, TokenKind, TokenStream, tokenize};
 use cedar_policies::{Effect, Policy, PolicySet, Template};
 use std::alloc::{AllocError, Global};
@@ -36,6 +53,9 @@ pub fn parse_policies(alloc: Global, text: &str) -> Result<PolicySet, ParseError
         ≡ policy_ids 0 (bare_policies (policies_of s))) }
     ensures distinct { IfOk result (λ s. IsTrue (are_distinct (ids_of (policies_of s)))) }
     ensures told { IfErr result (IsToldIn text.now) }
+    ensures complete { (ps : List BarePolicy) → ArePoliciesOf text.now ps →
+        IsTrue (are_distinct (policy_ids 0 ps)) →
+        MatchResult result (λ s. bare_policies (policies_of s) ≡ ps) (λ e. e ≡ NoMemory) }
 {
     match parse(alloc, text) {
         Ok(policies) => Ok(PolicySet::new(policies)),
@@ -47,7 +67,11 @@ fn parse(alloc: Global, text: &str) -> Result<Vec<Policy>, ParseFailure>
     ensures parses { IfOk result (λ ps. ArePoliciesOf text.now (bare_policies ps.items)) }
     ensures named { IfOk result (λ ps. AreNamed ps.items) }
     ensures refused { IfErr result (IsWithin (length text.now)) }
+    ensures complete { (ps : List BarePolicy) → ArePoliciesOf text.now ps →
+        IsTrue (are_distinct (policy_ids 0 ps)) →
+        MatchResult result (λ found. bare_policies found.items ≡ ps) (λ e. e ≡ Memory) }
 {
+    tokens_are_unique();
     let found = tokenize(alloc, text)?;
     let source = Source {
         alloc,
@@ -62,6 +86,9 @@ fn policies(source: &Source, tokens: TokenStream<'_>) -> Result<Vec<Policy>, Par
     ensures parses { IfOk result (λ ps. ArePolicies (here tokens.entry) (bare_policies ps.items)) }
     ensures named { IfOk result (λ ps. AreNamed ps.items) }
     ensures refused { IfErr result (IsWithin (stop_of tokens.entry)) }
+    ensures complete { (ps : List BarePolicy) → ArePolicies (here tokens.entry) ps →
+        IsTrue (are_distinct (policy_ids 0 ps)) →
+        MatchResult result (λ found. bare_policies found.items ≡ ps) (λ e. e ≡ Memory) }
 {
     let mut left = tokens;
     let mut ids = SeenTexts::new(source.alloc);
@@ -90,6 +117,8 @@ fn numbered(
     ensures fewer { IfOk result (λ _. tokens_left tokens.new < tokens_left tokens.old) }
     ensures named { IfOk result (λ p.
         rc_str_bytes p.id ≡ policy_id number (bare_policy p.template)) }
+    ensures complete { Completes (λ p. bare_policy p.template) IsPolicy
+        tokens.old tokens.new result }
 {
     let template = policy(source, tokens)?;
     let id = id_of(source.alloc, number, &template)?;
@@ -107,12 +136,13 @@ fn id_of(alloc: Global, number: usize, template: &Template) -> Result<RcStr, All
 }
 
 // Parses a policy, up to and with its semicolon.
-#[tactic(auto, using(crate::proofs::Wholes::policy_parsed, crate::proofs::Wholes::policy_fewer, crate::proofs::Taken::within_rest))]
+#[tactic(auto, using(crate::proofs::Wholes::policy_rules))]
 fn policy(source: &Source, tokens: &mut TokenStream<'_>) -> Result<Template, ParseFailure>
     requires { IsSound tokens.old }
     ensures parses { Parses (λ ts p rest. IsPolicy ts (bare_policy p) rest)
         tokens.old tokens.new result }
     ensures fewer { IfOk result (λ _. tokens_left tokens.new < tokens_left tokens.old) }
+    ensures complete { Completes bare_policy IsPolicy tokens.old tokens.new result }
 {
     let annotations = annotations(source, tokens)?;
     let effect = effect(tokens)?;
@@ -138,9 +168,12 @@ fn policy(source: &Source, tokens: &mut TokenStream<'_>) -> Result<Template, Par
 #[tactic(auto, using(crate::proofs::Bodies::effect_parsed))]
 fn effect(tokens: &mut TokenStream<'_>) -> Result<Effect, ParseFailure>
     requires { IsSound tokens.old }
-    ensures { MatchResult result
+    ensures taken { MatchResult result
         (λ e. IsEffectTaken (effect_text (bare_effect e)) tokens.old tokens.new)
         (IsWithin (stop_of tokens.old)) }
+    ensures complete { (e : BareEffect) (rest : List Lexeme) →
+        here tokens.old ≡ lexeme kinds.Word (effect_text e) ∷ rest →
+        MatchResult result (λ found. bare_effect found ≡ e) (λ _. ⊥) }
 {
     let word = wanted(
         tokens,

@@ -1,4 +1,3 @@
-use Rattle.std.proofs.Common.{◌≡◌}
 use Rattle.cedar_lexer.specs.TokenStreams.{tokens_left}
 use Rattle.cedar_parser.specs.Meant.{here}
 use Rattle.cedar_policy_parser.specs.Streams.{HasNoSlot, IsRest}
@@ -9,6 +8,7 @@ abbrev pub invariant-tokens : goal.invariant-tokens
 invariant-tokens l = record {
   rest : IsRest l.initial.left l.left;
   none : HasNoSlot (here l.left) → HasNoSlot (here l.initial.left);
+  behind : HasNoSlot (here l.initial.left) → HasNoSlot (here l.left);
 }
 
 abbrev pub decreases-tokens : goal.decreases-tokens

@@ -1,7 +1,7 @@
-use Rattle.std.proofs.Common.{◌≡◌, ◌∙◌, Err, subst, sym, rules}
+use Rattle.std.proofs.Common.{◌≡◌, ◌∙◌, Err, subst, rules}
 use Rattle.cedar_lexer.specs.TokenStreams.{IsEndBehind, end_of}
-use Rattle.cedar_parser.specs.Refused.{IsWithin}
 use Rattle.cedar_parser.proofs.Tokenized.{stuck_within}
+use Rattle.cedar_policy_parser.proofs.CompletePolicies.{text_policies_there}
 use Rattle.cedar_policy_parser.proofs.Texts.{parsed_text, refused_text}
 use Rattle.cedar_policy_parser.proofs.Wholes.{text_sound}
 use Rattle.cedar_policies.specs.PolicySets.{bare_policies}
@@ -31,3 +31,16 @@ returns-clause-refused c =
     let tokens = c.new.result in
     refused_text c.args.text.now c.in_ok-found.found.items tokens c.policies.result c.in_ok-found.ensures
     (subst (λ ts. IsEndBehind ts (end_of tokens)) c.deref.ensures.value c.new.ensures.end) c.policies.ensures.refused
+
+pub returns-in_err-found-clause-complete : goal.returns-in_err-found-clause-complete
+returns-in_err-found-clause-complete c ps p d =
+    let e = c.in_err-found.field-0.0 in
+    let same : c.from_residual.result ≡ Err e = search rules in
+    rw same (c.tokens_are_unique.ensures.accepted c.args.text.now p.0 e p.1 c.in_err-found.ensures)
+
+pub returns-clause-complete : goal.returns-clause-complete
+returns-clause-complete c ps p d =
+    let all = c.new.ensures.all ∙ c.deref.ensures.value in
+    let there =
+    text_policies_there c.args.text.now c.in_ok-found.found.items c.new.result ps c.tokens_are_unique.ensures.same c.in_ok-found.ensures all p in
+    c.policies.ensures.complete ps there d

@@ -1,7 +1,12 @@
+use Rattle.std.proofs.Common.{List}
 use Rattle.cedar_lexer.specs.TokenStreams.{tokens_left}
-use Rattle.cedar_policies.specs.PolicySets.{AreNamed, ids_of}
+use Rattle.cedar_parser.specs.Meant.{here}
+use Rattle.semantics_policies.specs.Grammar.{ArePolicies}
+use Rattle.semantics_policies.specs.Policies.{BarePolicy}
+use Rattle.cedar_policies.specs.PolicySets.{AreNamed, bare_policies, ids_of}
 use Rattle.cedar_policy_parser.specs.Seen.{HasSeen}
 use Rattle.cedar_policy_parser.specs.Streams.{IsRest}
+use Rattle.cedar_policy_parser.proofs.CompletePolicies.{ArePoliciesLeft}
 use Rattle.cedar_policy_parser.proofs.Loops.{PoliciesSoFar}
 use Rattle.cedar_policy_parser.proofs.parser.policies.Given as goal
 
@@ -12,6 +17,9 @@ invariant-policies l = record {
   named : AreNamed l.policies.items;
   seen : HasSeen (ids_of l.policies.items) l.ids;
   parses : PoliciesSoFar l.initial.left l.left l.policies.items;
+  left :
+      (found : List BarePolicy) → ArePolicies (here l.initial.left) found
+      → ArePoliciesLeft (bare_policies l.policies.items) found (here l.left);
 }
 
 abbrev pub decreases-policies : goal.decreases-policies
