@@ -1,4 +1,4 @@
-//! Conditions in Cedar's own syntax: what they evaluate to, as far as their parts are known.
+//! Conditions in Cedar's own syntax, and their answers.
 #![tactic(auto)]
 
 mod answer;

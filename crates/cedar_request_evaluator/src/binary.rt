@@ -44,8 +44,8 @@ pub(crate) fn apply_to_outcomes<X: Ord + Drop, S: EntityStore<X>, T: CallableFun
     }
 }
 
-/// What an operator makes of two well formed values: a store answers `in`, `getTag` and `hasTag`, and
-/// a table compares extension values. A fault has the place.
+/// What an operator makes of two well formed values: a store answers `in`, `getTag` and `hasTag`,
+/// and a table compares extension values. A fault has the place.
 pub fn apply_to_values<X: Ord + Drop, S: EntityStore<X>, T: CallableFunctions<X>>(
     alloc: Global,
     entities: &S,

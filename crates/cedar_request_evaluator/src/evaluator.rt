@@ -30,9 +30,9 @@ use std::rc::RcStr;
 /// a table of functions.
 ///
 /// What is not known is the fault `Open`, where it decides. An attribute or a tag of an entity that
-/// is not in the store is the fault `Store`; `has` is false of it, and it is in itself alone. A call
-/// of a function that is not in the table is refused. Two extension values compare as the table
-/// says. All else is as in `cedar_evaluator`.
+/// is not in the store is the fault `Store`; `has` is false of it, and it is in itself alone. A
+/// call of a function that is not in the table is refused. Two extension values compare as the
+/// table says. All else is as in `cedar_evaluator`.
 ///
 /// ```rust
 /// let evaluator = RequestEvaluator::new(&request, &entities, &NoFunctions, &values);

@@ -1,5 +1,5 @@
-//! The nodes that need nothing of what is known, each put in the place of what its children gave: as
-//! the closed evaluator makes them.
+//! The nodes that need nothing of what is known, each put in the place of what its children gave:
+//! as the closed evaluator makes them.
 ghost use Rattle.std.specs.Prelude.{◌≡◌, ◌≤◌, IfOk, Ok, Err, length, map, vec_len};
 ghost use Rattle.cedar_terms.specs.Entities.{bare_entity_type};
 ghost use Rattle.cedar_terms.specs.Literals.{bare_literal};

@@ -1,4 +1,5 @@
 pub mod Nodes
+pub mod ValueCalls
 pub mod RecordNodes
 pub mod Operands
 pub mod Made

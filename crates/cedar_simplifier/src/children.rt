@@ -4,14 +4,13 @@ ghost use Rattle.std.specs.List.{filter_map, list_all};
 ghost use Rattle.cedar_builders.specs.BareExpr as bare;
 ghost use Rattle.cedar_builders.specs.Keys.{keys_of, meant_pairs};
 ghost use Rattle.cedar_exprs.specs.BareExpr.{bare_expr, bare_exprs};
-ghost use Rattle.cedar_values.specs.Holders.{held_call};
 ghost use Rattle.semantics_simplify.specs.Asks.{holds_no_call};
 ghost use Rattle.semantics_simplify.specs.Simplified as meant;
 ghost use Rattle.cedar_simplifier.specs.Simplified.{held_pair, held_value, is_known, meaning_of};
 
 use crate::simplified::Simplified;
 use cedar_exprs::Expr;
-use cedar_values::{NoExtension, Value};
+use cedar_values::{ExtensionValue, Value};
 use std::alloc::{AllocError, Global};
 use std::rc::RcStr;
 
@@ -32,17 +31,17 @@ pub(crate) struct Fields {
 }
 
 // Whether each child is a known value.
-pub(crate) fn are_known(children: &[Simplified]) -> bool
+pub(crate) fn are_known<X: Ord + Drop>(children: &[Simplified<X>]) -> bool
     ensures { result ≡ list_all (λ p. is_known (meaning_of p)) children.now }
 {
     children.iter().all(|child| child.is_known())
 }
 
 // The values of the children that are known.
-pub(crate) fn values_of(
+pub(crate) fn values_of<X: Ord + Drop>(
     alloc: Global,
-    children: Vec<Simplified>,
-) -> Result<Vec<Value<NoExtension>>, AllocError>
+    children: Vec<Simplified<X>>,
+) -> Result<Vec<Value<X>>, AllocError>
     ensures { IfOk result (λ vs. vs.items ≡ filter_map held_value children.items) }
 {
     children
@@ -52,9 +51,12 @@ pub(crate) fn values_of(
 }
 
 // The expressions of children.
-pub(crate) fn children_of(alloc: Global, children: Vec<Simplified>) -> Result<Children, AllocError>
+pub(crate) fn children_of<X: ExtensionValue + Ord>(
+    alloc: Global,
+    children: Vec<Simplified<X>>,
+) -> Result<Children, AllocError>
     ensures { IfOk result (λ c.
-        bare_exprs c.exprs.items ≡ meant.child_trees held_call (map meaning_of children.items)) }
+        bare_exprs c.exprs.items ≡ meant.child_trees X.canonical (map meaning_of children.items)) }
 {
     let mut exprs = Vec::with_capacity(alloc, children.len())?;
     let mut calls_nothing = true;
@@ -70,17 +72,17 @@ pub(crate) fn children_of(alloc: Global, children: Vec<Simplified>) -> Result<Ch
 }
 
 // Whether each value of a record is known.
-pub(crate) fn have_known(pairs: &[(RcStr, Simplified)]) -> bool
+pub(crate) fn have_known<X: Ord + Drop>(pairs: &[(RcStr, Simplified<X>)]) -> bool
     ensures { result ≡ list_all (λ p. is_known (meaning_of p.1)) pairs.now }
 {
     pairs.iter().all(|pair| pair.1.is_known())
 }
 
 // The values of a record that are known, by their keys.
-pub(crate) fn values_by_key(
+pub(crate) fn values_by_key<X: Ord + Drop>(
     alloc: Global,
-    pairs: Vec<(RcStr, Simplified)>,
-) -> Result<Vec<(RcStr, Value<NoExtension>)>, AllocError>
+    pairs: Vec<(RcStr, Simplified<X>)>,
+) -> Result<Vec<(RcStr, Value<X>)>, AllocError>
     ensures { IfOk result (λ vs. vs.items ≡ filter_map held_pair pairs.items) }
 {
     pairs
@@ -90,7 +92,7 @@ pub(crate) fn values_by_key(
 }
 
 // A value that is known, with its key.
-fn value_by_key(pair: (RcStr, Simplified)) -> Option<(RcStr, Value<NoExtension>)>
+fn value_by_key<X: Ord + Drop>(pair: (RcStr, Simplified<X>)) -> Option<(RcStr, Value<X>)>
     ensures { result ≡ held_pair pair }
 {
     let (key, child) = pair;
@@ -101,13 +103,13 @@ fn value_by_key(pair: (RcStr, Simplified)) -> Option<(RcStr, Value<NoExtension>)
 }
 
 // The expressions of a record's values, by their keys.
-pub(crate) fn fields_of(
+pub(crate) fn fields_of<X: ExtensionValue + Ord>(
     alloc: Global,
-    pairs: Vec<(RcStr, Simplified)>,
+    pairs: Vec<(RcStr, Simplified<X>)>,
 ) -> Result<Fields, AllocError>
     ensures keys { IfOk result (λ f. keys_of f.pairs.items ≡ keys_of pairs.items) }
     ensures trees { IfOk result (λ f. bare.fields_of (meant_pairs bare_expr f.pairs.items)
-        ≡ meant.child_fields held_call (meant_pairs meaning_of pairs.items)) }
+        ≡ meant.child_fields X.canonical (meant_pairs meaning_of pairs.items)) }
 {
     let mut fields = Vec::with_capacity(alloc, pairs.len())?;
     let mut calls_nothing = true;

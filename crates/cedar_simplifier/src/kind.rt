@@ -1,10 +1,10 @@
 //! The two kinds of what is simplified.
 use crate::tree::Tree;
-use cedar_values::{NoExtension, Value};
+use cedar_values::Value;
 
 // A known value, or a residual.
 #[derive(Debug, Drop)]
-pub(crate) enum Kind {
-    Known(Value<NoExtension>),
+pub(crate) enum Kind<X> {
+    Known(Value<X>),
     Residual(Tree),
 }

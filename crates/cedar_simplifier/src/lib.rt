@@ -4,6 +4,7 @@
 
 mod boolean;
 mod children;
+mod extensions;
 mod kind;
 mod operations;
 mod residual;
@@ -11,9 +12,12 @@ mod shared_value;
 mod simplification;
 mod simplified;
 mod simplifier;
+mod simplifier_of;
 mod tree;
 
+pub use extensions::holds_extension;
 pub use shared_value::SharedValue;
 pub use simplification::{simplify, simplify_shared};
 pub use simplified::Simplified;
 pub use simplifier::Simplifier;
+pub use simplifier_of::SimplifierOf;

@@ -11,23 +11,25 @@ ghost use Rattle.cedar_builders.specs.BareExpr.{
   Is,
   Like,
   Or,
+  Set,
   UnaryApp,
 };
-ghost use Rattle.cedar_values.specs.Holders.{held_call};
-ghost use Rattle.semantics_simplify.specs.Simplified.{Residual, tree_of};
+ghost use Rattle.semantics_simplify.specs.Simplified.{Residual, child_trees, tree_of};
 ghost use Rattle.cedar_simplifier.specs.Simplified.{bare_tree, meaning_of};
 
+use crate::children::children_of;
 use crate::simplified::Simplified;
-use crate::simplifier::Simplifier;
+use crate::simplifier_of::SimplifierOf;
 use crate::tree::Tree;
 use cedar_names::NonEmpty;
 use cedar_terms::{BinaryOp, EntityType, Pattern, UnaryOp};
+use cedar_values::ExtensionValue;
 use std::alloc::{AllocError, Global};
 use std::rc::RcStr;
 
-impl Simplifier {
+impl<X: ExtensionValue + Ord> SimplifierOf<X> {
     // A tree, which gets the place of the builder.
-    pub(crate) fn residual(self, tree: Tree) -> Simplified
+    pub(crate) fn residual(self, tree: Tree) -> Simplified<X>
         ensures { meaning_of result ≡ Residual (bare_tree tree) }
     {
         Simplified::residual(tree.at(self.place))
@@ -37,14 +39,14 @@ impl Simplifier {
     pub(crate) fn residual_if(
         self,
         alloc: Global,
-        test: Simplified,
-        then: Simplified,
-        other: Simplified,
-    ) -> Result<Simplified, AllocError>
+        test: Simplified<X>,
+        then: Simplified<X>,
+        other: Simplified<X>,
+    ) -> Result<Simplified<X>, AllocError>
         ensures { IfOk result (λ p. meaning_of p
-            ≡ Residual (If (tree_of held_call (meaning_of test))
-            (tree_of held_call (meaning_of then))
-            (tree_of held_call (meaning_of other)))) }
+            ≡ Residual (If (tree_of X.canonical (meaning_of test))
+            (tree_of X.canonical (meaning_of then))
+            (tree_of X.canonical (meaning_of other)))) }
     {
         let test = test.into_tree(alloc)?;
         let then = then.into_tree(alloc)?;
@@ -56,12 +58,12 @@ impl Simplifier {
     pub(crate) fn residual_and(
         self,
         alloc: Global,
-        left: Simplified,
-        right: Simplified,
-    ) -> Result<Simplified, AllocError>
+        left: Simplified<X>,
+        right: Simplified<X>,
+    ) -> Result<Simplified<X>, AllocError>
         ensures { IfOk result (λ p. meaning_of p
-            ≡ Residual (And (tree_of held_call (meaning_of left))
-            (tree_of held_call (meaning_of right)))) }
+            ≡ Residual (And (tree_of X.canonical (meaning_of left))
+            (tree_of X.canonical (meaning_of right)))) }
     {
         let left = left.into_tree(alloc)?;
         let right = right.into_tree(alloc)?;
@@ -72,12 +74,12 @@ impl Simplifier {
     pub(crate) fn residual_or(
         self,
         alloc: Global,
-        left: Simplified,
-        right: Simplified,
-    ) -> Result<Simplified, AllocError>
+        left: Simplified<X>,
+        right: Simplified<X>,
+    ) -> Result<Simplified<X>, AllocError>
         ensures { IfOk result (λ p. meaning_of p
-            ≡ Residual (Or (tree_of held_call (meaning_of left))
-            (tree_of held_call (meaning_of right)))) }
+            ≡ Residual (Or (tree_of X.canonical (meaning_of left))
+            (tree_of X.canonical (meaning_of right)))) }
     {
         let left = left.into_tree(alloc)?;
         let right = right.into_tree(alloc)?;
@@ -89,55 +91,56 @@ impl Simplifier {
         self,
         alloc: Global,
         op: UnaryOp,
-        arg: Simplified,
-    ) -> Result<Simplified, AllocError>
+        arg: Simplified<X>,
+    ) -> Result<Simplified<X>, AllocError>
         ensures { IfOk result (λ p. meaning_of p
-            ≡ Residual (UnaryApp op (tree_of held_call (meaning_of arg)))) }
+            ≡ Residual (UnaryApp op (tree_of X.canonical (meaning_of arg)))) }
     {
         let arg = arg.into_tree(alloc)?;
         Ok(self.residual(Tree::unary(alloc, op, arg)?))
     }
 
-    // An operator on two arguments.
-    pub(crate) fn residual_binary(
+    /// An operator on two arguments, as a residual with the builder's place, whatever is known of them.
+    pub fn residual_binary(
         self,
         alloc: Global,
         op: BinaryOp,
-        left: Simplified,
-        right: Simplified,
-    ) -> Result<Simplified, AllocError>
+        left: Simplified<X>,
+        right: Simplified<X>,
+    ) -> Result<Simplified<X>, AllocError>
         ensures { IfOk result (λ p. meaning_of p
-            ≡ Residual (BinaryApp op (tree_of held_call (meaning_of left))
-            (tree_of held_call (meaning_of right)))) }
+            ≡ Residual (BinaryApp op (tree_of X.canonical (meaning_of left))
+            (tree_of X.canonical (meaning_of right)))) }
     {
         let left = left.into_tree(alloc)?;
         let right = right.into_tree(alloc)?;
         Ok(self.residual(Tree::binary(alloc, op, left, right)?))
     }
 
-    // An attribute.
-    pub(crate) fn residual_get(
+    /// An attribute, as a residual with the builder's place, whatever is known of its operand.
+    pub fn residual_get(
         self,
         alloc: Global,
-        arg: Simplified,
+        arg: Simplified<X>,
         attr: RcStr,
-    ) -> Result<Simplified, AllocError>
+    ) -> Result<Simplified<X>, AllocError>
         ensures { IfOk result (λ p. meaning_of p
-            ≡ Residual (GetAttr (tree_of held_call (meaning_of arg)) (rc_str_bytes attr))) }
+            ≡ Residual (GetAttr (tree_of X.canonical (meaning_of arg)) (rc_str_bytes attr))) }
     {
         let arg = arg.into_tree(alloc)?;
         Ok(self.residual(Tree::get(alloc, arg, attr)?))
     }
 
-    // Whether each attribute is there in turn.
-    pub(crate) fn residual_has(
+    /// Whether each attribute is there in turn, as a residual with the builder's place, whatever is
+    /// known of its operand.
+    pub fn residual_has(
         self,
         alloc: Global,
-        arg: Simplified,
+        arg: Simplified<X>,
         attrs: NonEmpty<RcStr>,
-    ) -> Result<Simplified, AllocError>
+    ) -> Result<Simplified<X>, AllocError>
         ensures { IfOk result (λ p. meaning_of p
-            ≡ Residual (HasAttr (tree_of held_call (meaning_of arg)) (rc_str_bytes attrs.head)
+            ≡ Residual (HasAttr (tree_of X.canonical (meaning_of arg)) (rc_str_bytes attrs.head)
             (map rc_str_bytes attrs.tail.items))) }
     {
         let arg = arg.into_tree(alloc)?;
@@ -148,11 +151,11 @@ impl Simplifier {
     pub(crate) fn residual_like(
         self,
         alloc: Global,
-        arg: Simplified,
+        arg: Simplified<X>,
         pattern: Pattern,
-    ) -> Result<Simplified, AllocError>
+    ) -> Result<Simplified<X>, AllocError>
         ensures { IfOk result (λ p. meaning_of p
-            ≡ Residual (Like (tree_of held_call (meaning_of arg)) pattern)) }
+            ≡ Residual (Like (tree_of X.canonical (meaning_of arg)) pattern)) }
     {
         let arg = arg.into_tree(alloc)?;
         Ok(self.residual(Tree::like(alloc, arg, pattern)?))
@@ -162,13 +165,26 @@ impl Simplifier {
     pub(crate) fn residual_is(
         self,
         alloc: Global,
-        arg: Simplified,
+        arg: Simplified<X>,
         ty: EntityType,
-    ) -> Result<Simplified, AllocError>
+    ) -> Result<Simplified<X>, AllocError>
         ensures { IfOk result (λ p. meaning_of p
-            ≡ Residual (Is (tree_of held_call (meaning_of arg)) (bare_entity_type ty))) }
+            ≡ Residual (Is (tree_of X.canonical (meaning_of arg)) (bare_entity_type ty))) }
     {
         let arg = arg.into_tree(alloc)?;
         Ok(self.residual(Tree::is_of_type(alloc, arg, ty)?))
+    }
+
+    // A set.
+    pub(crate) fn residual_set(
+        self,
+        alloc: Global,
+        members: Vec<Simplified<X>>,
+    ) -> Result<Simplified<X>, AllocError>
+        ensures { IfOk result (λ p. meaning_of p
+            ≡ Residual (Set (child_trees X.canonical (map meaning_of members.items)))) }
+    {
+        let children = children_of(alloc, members)?;
+        Ok(self.residual(Tree::set(alloc, children)?))
     }
 }

@@ -10,7 +10,7 @@ use crate::tree::Tree;
 use cedar_evaluator::operations::{as_bool, literal_value};
 use cedar_exprs::Expr;
 use cedar_terms::Literal;
-use cedar_values::{NoExtension, Value};
+use cedar_values::{ExtensionValue, NoExtension, Value};
 use std::alloc::{AllocError, Global};
 
 /// What an expression is simplified to: a well formed value that is known, whatever unknowns are
@@ -25,15 +25,14 @@ use std::alloc::{AllocError, Global};
 /// }
 /// ```
 #[derive(Debug, Drop)]
-pub struct Simplified {
-    kind: Kind,
-    ghost kept: { IsTrue (is_kept ⟦<NoExtension as Ord>⟧.cmp kind) },
+pub struct Simplified<X: Ord = NoExtension> {
+    kind: Kind<X>,
+    ghost kept: { IsTrue (is_kept X.cmp kind) },
 }
 
-impl Simplified {
-    ghost use Rattle.std.specs.Prelude.{IfOk, IfSome, option_map};
+impl<X: Ord + Drop> Simplified<X> {
+    ghost use Rattle.std.specs.Prelude.{IfSome, option_map};
     ghost use Rattle.cedar_values.specs.BareValues.{bare_value};
-    ghost use Rattle.cedar_values.specs.Holders.{held_call};
     ghost use Rattle.cedar_values.specs.WellFormed.{well_formed};
     ghost use Rattle.semantics_values.specs.BareValue.{LitValue};
     ghost use Rattle.semantics_simplify.specs.Simplified as meant;
@@ -44,12 +43,30 @@ impl Simplified {
       meaning_of,
     };
 
+    /// A well formed value, which is known.
+    pub fn known(value: Value<X>) -> Simplified<X>
+        requires { IsTrue (well_formed X.cmp value) }
+        ensures { meaning_of result ≡ meant.Known (bare_value value) }
+    {
+        Simplified {
+            kind: Kind::Known(value),
+        }
+    }
+
+    /// A literal, which is known.
+    pub fn lit(literal: Literal) -> Simplified<X>
+        ensures { meaning_of result ≡ meant.Known (LitValue (bare_literal literal)) }
+    {
+        Simplified {
+            kind: Kind::Known(literal_value(literal)),
+        }
+    }
+
     /// The value, if it is known.
-    pub fn as_value(&self) -> Option<&Value<NoExtension>>
+    pub fn as_value(&self) -> Option<&Value<X>>
         ensures value { option_map (λ v. bare_value v.now) result
             ≡ known_value (meaning_of self.now) }
-        ensures well_formed { IfSome result
-            (λ v. IsTrue (well_formed ⟦<NoExtension as Ord>⟧.cmp v.now)) }
+        ensures well_formed { IfSome result (λ v. IsTrue (well_formed X.cmp v.now)) }
     {
         match &self.kind {
             Kind::Known(value) => Some(value),
@@ -58,11 +75,10 @@ impl Simplified {
     }
 
     /// The value, if it is known, of what is consumed.
-    pub fn into_value(self) -> Option<Value<NoExtension>>
+    pub fn into_value(self) -> Option<Value<X>>
         ensures same { result ≡ held_value self }
         ensures value { option_map bare_value result ≡ known_value (meaning_of self) }
-        ensures well_formed { IfSome result
-            (λ v. IsTrue (well_formed ⟦<NoExtension as Ord>⟧.cmp v)) }
+        ensures well_formed { IfSome result (λ v. IsTrue (well_formed X.cmp v)) }
     {
         let kind = self.kind;
         match kind {
@@ -81,45 +97,8 @@ impl Simplified {
         }
     }
 
-    /// The residual, or the expression of the known value.
-    pub fn into_expr(self, alloc: Global) -> Result<Expr, AllocError>
-        ensures { IfOk result (λ e. bare_expr e ≡ meant.tree_of held_call (meaning_of self)) }
-    {
-        Ok(self.into_tree(alloc)?.into_expr())
-    }
-
-    // The same, with whether it holds a call.
-    pub(crate) fn into_tree(self, alloc: Global) -> Result<Tree, AllocError>
-        ensures { IfOk result (λ t. bare_tree t ≡ meant.tree_of held_call (meaning_of self)) }
-    {
-        let kind = self.kind;
-        match kind {
-            Kind::Known(value) => Tree::of_value(alloc, &value),
-            Kind::Residual(tree) => Ok(tree),
-        }
-    }
-
-    // A well formed value.
-    pub(crate) fn known(value: Value<NoExtension>) -> Simplified
-        requires { IsTrue (well_formed ⟦<NoExtension as Ord>⟧.cmp value) }
-        ensures { meaning_of result ≡ meant.Known (bare_value value) }
-    {
-        Simplified {
-            kind: Kind::Known(value),
-        }
-    }
-
-    // A literal.
-    pub(crate) fn lit(literal: Literal) -> Simplified
-        ensures { meaning_of result ≡ meant.Known (LitValue (bare_literal literal)) }
-    {
-        Simplified {
-            kind: Kind::Known(literal_value(literal)),
-        }
-    }
-
     // A residual.
-    pub(crate) fn residual(tree: Tree) -> Simplified
+    pub(crate) fn residual(tree: Tree) -> Simplified<X>
         ensures { meaning_of result ≡ meant.Residual (bare_tree tree) }
     {
         Simplified {
@@ -154,6 +133,30 @@ impl Simplified {
         match &self.kind {
             Kind::Known(value) => as_bool(value).is_some(),
             Kind::Residual(tree) => is_boolean_kind(tree.expr()),
+        }
+    }
+}
+
+impl<X: ExtensionValue + Ord> Simplified<X> {
+    ghost use Rattle.std.specs.Prelude.{IfOk};
+    ghost use Rattle.semantics_simplify.specs.Simplified.{tree_of};
+    ghost use Rattle.cedar_simplifier.specs.Simplified.{bare_tree, meaning_of};
+
+    /// The residual, or the expression of the known value.
+    pub fn into_expr(self, alloc: Global) -> Result<Expr, AllocError>
+        ensures { IfOk result (λ e. bare_expr e ≡ tree_of X.canonical (meaning_of self)) }
+    {
+        Ok(self.into_tree(alloc)?.into_expr())
+    }
+
+    // The same, with whether it holds a call.
+    pub(crate) fn into_tree(self, alloc: Global) -> Result<Tree, AllocError>
+        ensures { IfOk result (λ t. bare_tree t ≡ tree_of X.canonical (meaning_of self)) }
+    {
+        let kind = self.kind;
+        match kind {
+            Kind::Known(value) => Tree::of_value(alloc, &value),
+            Kind::Residual(tree) => Ok(tree),
         }
     }
 }

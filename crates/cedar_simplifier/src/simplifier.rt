@@ -10,15 +10,14 @@ ghost use Rattle.semantics_simplify.specs.Simplified as meant;
 ghost use Rattle.semantics_simplify.specs.Simplifier.{simplifier_lawful, simplifier_ops};
 ghost use Rattle.cedar_simplifier.specs.Simplified.{meaning_of};
 
-use crate::children::{are_known, children_of, fields_of, have_known, values_by_key, values_of};
-use crate::operations::{apply_one, apply_two, get, has, is_of_type, like};
+use crate::children::{are_known, values_of};
 use crate::simplified::Simplified;
-use crate::tree::Tree;
+use crate::simplifier_of::SimplifierOf;
 use cedar_builders::{
     BuildFault, ExprBuilder, ExprBuilderInfallibleBuild, ExpressionConstructionError,
     LawfulExprBuilder,
 };
-use cedar_evaluator::operations::{plain_set_of, record_of};
+use cedar_evaluator::operations::plain_set_of;
 use cedar_names::{Loc, Name, NonEmpty, SlotId};
 use cedar_terms::{BinaryOp, EntityType, Literal, Pattern, UnaryOp, Unknown, Var};
 use cedar_values::NoExtension;
@@ -45,7 +44,14 @@ use std::rc::RcStr;
 /// ```
 #[derive(Debug, Drop)]
 pub struct Simplifier {
-    pub(crate) place: Option<Loc>,
+    place: Option<Loc>,
+}
+
+impl Simplifier {
+    // The builder with this place, which knows of extension values, of which there are none here.
+    fn general(self) -> SimplifierOf<NoExtension> {
+        SimplifierOf::at(self.place)
+    }
 }
 
 impl ExprBuilder for Simplifier {
@@ -92,23 +98,22 @@ impl ExprBuilder for Simplifier {
         Simplifier { place: source_loc }
     }
 
-    fn val(self, _alloc: Global, literal: Literal) -> Result<Simplified, AllocError> {
-        Ok(Simplified::lit(literal))
+    fn val(self, alloc: Global, literal: Literal) -> Result<Simplified, AllocError> {
+        self.general().val(alloc, literal)
     }
 
-    fn var(self, _alloc: Global, var: Var) -> Result<Simplified, AllocError> {
-        Ok(self.residual(Tree::var(var)))
+    fn var(self, alloc: Global, var: Var) -> Result<Simplified, AllocError> {
+        self.general().var(alloc, var)
     }
 
-    fn slot(self, _alloc: Global, slot: SlotId) -> Result<Simplified, AllocError> {
-        Ok(self.residual(Tree::slot(slot)))
+    fn slot(self, alloc: Global, slot: SlotId) -> Result<Simplified, AllocError> {
+        self.general().slot(alloc, slot)
     }
 
-    fn unknown(self, _alloc: Global, unknown: Unknown) -> Result<Simplified, AllocError> {
-        Ok(self.residual(Tree::unknown(unknown)))
+    fn unknown(self, alloc: Global, unknown: Unknown) -> Result<Simplified, AllocError> {
+        self.general().unknown(alloc, unknown)
     }
 
-    #[tactic(auto, using(crate::proofs::Branches::first_of, crate::proofs::Branches::second_of))]
     fn ite(
         self,
         alloc: Global,
@@ -116,55 +121,36 @@ impl ExprBuilder for Simplifier {
         then_expr: Simplified,
         else_expr: Simplified,
     ) -> Result<Simplified, AllocError> {
-        match test_expr.truth() {
-            Some(true) if else_expr.calls_nothing() => Ok(then_expr),
-            Some(false) if then_expr.calls_nothing() => Ok(else_expr),
-            _ => self.residual_if(alloc, test_expr, then_expr, else_expr),
-        }
+        self.general().ite(alloc, test_expr, then_expr, else_expr)
     }
 
-    #[tactic(auto, using(crate::proofs::Branches::first_of, crate::proofs::Branches::second_of))]
     fn and(
         self,
         alloc: Global,
         left: Simplified,
         right: Simplified,
     ) -> Result<Simplified, AllocError> {
-        match left.truth() {
-            Some(true) if right.is_boolean() => Ok(right),
-            Some(false) if right.calls_nothing() => Ok(Simplified::lit(Literal::Bool(false))),
-            _ => self.residual_and(alloc, left, right),
-        }
+        self.general().and(alloc, left, right)
     }
 
-    #[tactic(auto, using(crate::proofs::Branches::first_of, crate::proofs::Branches::second_of))]
     fn or(
         self,
         alloc: Global,
         left: Simplified,
         right: Simplified,
     ) -> Result<Simplified, AllocError> {
-        match left.truth() {
-            Some(true) if right.calls_nothing() => Ok(Simplified::lit(Literal::Bool(true))),
-            Some(false) if right.is_boolean() => Ok(right),
-            _ => self.residual_or(alloc, left, right),
-        }
+        self.general().or(alloc, left, right)
     }
 
-    #[tactic(auto, using(crate::proofs::Made::known, crate::proofs::Made::residual))]
     fn unary_app(
         self,
         alloc: Global,
         op: UnaryOp,
         arg: Simplified,
     ) -> Result<Simplified, AllocError> {
-        match apply_one(op, &arg) {
-            Some(literal) => Ok(Simplified::lit(literal)),
-            None => self.residual_unary(alloc, op, arg),
-        }
+        self.general().unary_app(alloc, op, arg)
     }
 
-    #[tactic(auto, using(crate::proofs::Made::known, crate::proofs::Made::residual))]
     fn binary_app(
         self,
         alloc: Global,
@@ -172,10 +158,7 @@ impl ExprBuilder for Simplifier {
         arg1: Simplified,
         arg2: Simplified,
     ) -> Result<Simplified, AllocError> {
-        match apply_two(op, &arg1, &arg2) {
-            Some(literal) => Ok(Simplified::lit(literal)),
-            None => self.residual_binary(alloc, op, arg1, arg2),
-        }
+        self.general().binary_app(alloc, op, arg1, arg2)
     }
 
     fn call_extension_fn(
@@ -188,60 +171,43 @@ impl ExprBuilder for Simplifier {
             (⟦<Simplifier as ExprBuilder>⟧.ops.call_of (bare_name fn_name)
             (map meaning_of args.items)) result }
     {
-        let children = children_of(alloc, args)?;
-        Ok(self.residual(Tree::call(alloc, fn_name, children)?))
+        self.general().call_extension_fn(alloc, fn_name, args)
     }
 
-    #[tactic(auto, using(crate::proofs::Made::known, crate::proofs::Made::residual))]
     fn get_attr(
         self,
         alloc: Global,
         expr: Simplified,
         attr: RcStr,
     ) -> Result<Simplified, AllocError> {
-        match get(alloc, &expr, &attr)? {
-            Some(value) => Ok(Simplified::known(value)),
-            None => self.residual_get(alloc, expr, attr),
-        }
+        self.general().get_attr(alloc, expr, attr)
     }
 
-    #[tactic(auto, using(crate::proofs::Made::known, crate::proofs::Made::residual))]
     fn extended_has_attr(
         self,
         alloc: Global,
         expr: Simplified,
         attrs: NonEmpty<RcStr>,
     ) -> Result<Simplified, AllocError> {
-        match has(&expr, &attrs) {
-            Some(literal) => Ok(Simplified::lit(literal)),
-            None => self.residual_has(alloc, expr, attrs),
-        }
+        self.general().extended_has_attr(alloc, expr, attrs)
     }
 
-    #[tactic(auto, using(crate::proofs::Made::known, crate::proofs::Made::residual))]
     fn like(
         self,
         alloc: Global,
         expr: Simplified,
         pattern: Pattern,
     ) -> Result<Simplified, AllocError> {
-        match like(&expr, &pattern) {
-            Some(literal) => Ok(Simplified::lit(literal)),
-            None => self.residual_like(alloc, expr, pattern),
-        }
+        self.general().like(alloc, expr, pattern)
     }
 
-    #[tactic(auto, using(crate::proofs::Made::known, crate::proofs::Made::residual))]
     fn is_entity_type(
         self,
         alloc: Global,
         expr: Simplified,
         entity_type: EntityType,
     ) -> Result<Simplified, AllocError> {
-        match is_of_type(&expr, &entity_type) {
-            Some(literal) => Ok(Simplified::lit(literal)),
-            None => self.residual_is(alloc, expr, entity_type),
-        }
+        self.general().is_entity_type(alloc, expr, entity_type)
     }
 
     fn set(self, alloc: Global, members: Vec<Simplified>) -> Result<Simplified, AllocError>
@@ -252,8 +218,8 @@ impl ExprBuilder for Simplifier {
             let values = values_of(alloc, members)?;
             return Ok(Simplified::known(plain_set_of(alloc, values)?));
         }
-        let children = children_of(alloc, members)?;
-        Ok(self.residual(Tree::set(alloc, children)?))
+        let residual = self.general().residual_set(alloc, members)?;
+        Ok(residual)
     }
 
     fn record(
@@ -268,12 +234,7 @@ impl ExprBuilder for Simplifier {
         ensures accepts { IsAscending (keys_of pairs.items) → IfErr result (λ e. e ≡ error.Memory) }
         ensures refuses { IfErr result (OnDuplicateKey (λ _. HasRepeat (keys_of pairs.items))) }
     {
-        if have_known(&pairs) {
-            let values = values_by_key(alloc, pairs)?;
-            return Ok(Simplified::known(record_of(alloc, values)?));
-        }
-        let fields = fields_of(alloc, pairs)?;
-        Ok(self.residual(Tree::record(alloc, fields)?))
+        self.general().record(alloc, pairs)
     }
 }
 

@@ -6,14 +6,14 @@ ghost use Rattle.cedar_exprs.specs.BareExpr.{bare_expr};
 ghost use Rattle.semantics_simplify.specs.Asks.{holds_no_call};
 
 use crate::children::{Children, Fields};
+use crate::extensions::holds_extension;
 use cedar_builders::laws::pairs_in_key_order;
 use cedar_builders::{ExprBuilder as _, ExpressionConstructionError};
 use cedar_exprs::{Expr, ExprBuilder, ExprKind};
 use cedar_names::{Loc, Name, NonEmpty, SlotId};
 use cedar_terms::{BinaryOp, EntityType, Pattern, UnaryOp, Unknown, Var};
-use cedar_values::laws::no_extension_values;
-use cedar_values::{NoExtension, Value};
-use semantics_simplify::laws::{asks_by_children, values_ask_nothing};
+use cedar_values::{ExtensionValue, Value};
+use semantics_simplify::laws::asks_by_children;
 use std::alloc::{AllocError, Global};
 use std::rc::{Rc, RcStr};
 
@@ -54,7 +54,6 @@ impl Tree {
     ghost use Rattle.cedar_builders.specs.declared.expression_construction_errors.ExpressionConstructionError.TheVariants as error;
     ghost use Rattle.cedar_exprs.specs.BareExpr.{bare_exprs};
     ghost use Rattle.cedar_values.specs.BareValues.{bare_value};
-    ghost use Rattle.cedar_values.specs.Holders.{held_call};
     ghost use Rattle.semantics_values.specs.ValueExpr.{value_expr};
     ghost use Rattle.cedar_simplifier.specs.Simplified.{bare_tree};
 
@@ -120,16 +119,18 @@ impl Tree {
         }
     }
 
-    // The expression of a value.
-    pub(crate) fn of_value(alloc: Global, value: &Value<NoExtension>) -> Result<Tree, AllocError>
-        ensures { IfOk result (λ t. bare_tree t ≡ value_expr held_call (bare_value value.now)) }
+    // The expression of a value: it holds a call where an extension value is inside.
+    pub(crate) fn of_value<X: ExtensionValue + Ord>(
+        alloc: Global,
+        value: &Value<X>,
+    ) -> Result<Tree, AllocError>
+        ensures { IfOk result (λ t. bare_tree t ≡ value_expr X.canonical (bare_value value.now)) }
     {
-        no_extension_values();
-        values_ask_nothing::<NoExtension>();
+        asks_by_children();
         let expr = value.to_expr(alloc)?;
         Ok(Tree {
             expr,
-            calls_nothing: true,
+            calls_nothing: !holds_extension(value),
         })
     }
 

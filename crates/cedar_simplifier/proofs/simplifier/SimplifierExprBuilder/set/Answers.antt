@@ -1,8 +1,6 @@
 use Rattle.std.proofs.Common.{ap, sym, ◌∙◌}
 use Rattle.std.specs.List.{list_all}
-use Rattle.cedar_builders.specs.BareExpr.{Set}
 use Rattle.cedar_values.specs.WellFormed.{well_formed}
-use Rattle.semantics_simplify.specs.Simplified.{Residual}
 use Rattle.cedar_simplifier.proofs.KnownChildren.{are_known, known_set, set_residual, values_kept}
 use Rattle.cedar_simplifier.proofs.simplifier.SimplifierExprBuilder.set.Goals as goal
 
@@ -21,6 +19,6 @@ returns-then-are_known c =
 
 pub returns : goal.returns
 returns c =
-    c.residual.ensures ∙ ap Residual (c.in_ok-set.ensures ∙ ap Set c.in_ok-children.ensures)
+    c.in_ok-residual.ensures
     ∙ set_residual _ _ c.args.members.items
     (ap are_known (sym c.deref.ensures.value) ∙ sym c.are_known.ensures ∙ c.if-are_known.false)
