@@ -89,8 +89,8 @@ fn print_error(
 }
 
 /// Prints the same as a JSON object:
-/// `{"decision": "allow", "reasons": [ID, ..], "errors": [{"policy": ID, "text": ..}, ..]}`, where an
-/// error has the members `line` and `column` too if its place is known.
+/// `{"decision": "allow", "reasons": [ID, ..], "errors": [{"policy": ID, "text": ..}, ..]}`, where
+/// an error has the members `line` and `column` too if its place is known.
 pub fn print_json(
     rt: &HostRuntime,
     policies: &Source<'_>,

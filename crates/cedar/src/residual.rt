@@ -13,8 +13,8 @@ use std::alloc::{AllocError, Global};
 use std::collections::HashMap;
 use std::rc::RcStr;
 
-/// Prints ALLOW or DENY; or UNKNOWN and the residual policies, which give the answer of all policies
-/// wherever more is known.
+/// Prints ALLOW or DENY; or UNKNOWN and the residual policies, which give the answer of all
+/// policies wherever more is known.
 pub fn authorize(
     rt: &HostRuntime,
     policies: &Source<'_>,

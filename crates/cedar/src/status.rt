@@ -5,8 +5,8 @@
 pub enum Status {
     /// What was asked for was done; a request is allowed.
     Success,
-    /// It can't be done: wrong options, a file that can't be read or has the wrong form, a condition
-    /// without a value.
+    /// It can't be done: wrong options, a file that can't be read or has the wrong form, a
+    /// condition without a value.
     Failure,
     /// A request is denied.
     Deny,

@@ -43,8 +43,8 @@ pub struct EntityJson {
 /// The entities that an array of JSON stands for, each an object with the members `uid`, `attrs`,
 /// `parents` and maybe `tags`.
 ///
-/// Entities are written `{"type": "User", "id": "alice"}`, with or without `{"__entity": ..}` around
-/// it. A member that is missing, or that has another name, is refused.
+/// Entities are written `{"type": "User", "id": "alice"}`, with or without `{"__entity": ..}`
+/// around it. A member that is missing, or that has another name, is refused.
 pub fn entities_of(alloc: Global, json: &Value) -> Result<Vec<EntityJson>, NoValue>
     ensures { IfOk result (λ es. (ds : Items)
         × (as_array (view json.now) ≡ Some ds) × AreEntities ds (map parts_of es.items)) }

@@ -46,8 +46,12 @@ impl<T: Drop> From<AllocFailed<T>> for JsonError {
 }
 
 impl JsonError {
+    ghost use Rattle.cedar_json.specs.Refusals.{IsErrorIn};
+
     /// What is wrong with a part of what `start` names.
-    pub fn of_part(alloc: Global, start: &str, failure: NoValue) -> JsonError {
+    pub fn of_part(alloc: Global, start: &str, failure: NoValue) -> JsonError
+        ensures { IsErrorIn start.now failure result }
+    {
         match failure {
             NoValue::Because { path, problem } => match format!(in alloc; "{start}{path}") {
                 Ok(path) => JsonError::NoValue { path, problem },
@@ -57,17 +61,40 @@ impl JsonError {
         }
     }
 
-    // What is told of an error of the reader of JSON.
-    fn of_json(alloc: Global, error: serde_json::Error) -> JsonError {
+    // What is told of an error that the reader of JSON met in a text.
+    fn of_json(text: &str, error: serde_json::Error) -> JsonError {
         if error.is_memory() {
-            return JsonError::Memory;
-        }
-        match error.to_string(alloc) {
-            Ok(text) if text.starts_with("recursion limit") => JsonError::TooDeep(error),
-            Ok(_) => JsonError::Json(error),
-            Err(_) => JsonError::Memory,
+            JsonError::Memory
+        } else if is_too_deep(text) {
+            JsonError::TooDeep(error)
+        } else {
+            JsonError::Json(error)
         }
     }
+}
+
+// How deep objects and arrays nest at most.
+const DEEPEST: usize = 127;
+
+// Whether objects and arrays of a text nest deeper.
+fn is_too_deep(text: &str) -> bool {
+    let mut depth: usize = 0;
+    let mut is_quoted = false;
+    let mut is_escaped = false;
+    for byte in text.bytes() {
+        match byte {
+            _ if is_escaped => is_escaped = false,
+            b'\\' if is_quoted => is_escaped = true,
+            b'"' => is_quoted = !is_quoted,
+            b'[' | b'{' if !is_quoted => depth = depth.saturating_add(1),
+            b']' | b'}' if !is_quoted => depth = depth.saturating_sub(1),
+            _ => {}
+        }
+        if depth > DEEPEST {
+            return true;
+        }
+    }
+    false
 }
 
 /// The JSON that a text is.
@@ -76,6 +103,6 @@ pub fn parse_json(alloc: Global, text: &str) -> Result<Value, JsonError>
 {
     match Value::from_str(alloc, text) {
         Ok(json) => Ok(json),
-        Err(error) => Err(JsonError::of_json(alloc, error)),
+        Err(error) => Err(JsonError::of_json(text, error)),
     }
 }

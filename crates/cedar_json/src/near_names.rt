@@ -1,4 +1,7 @@
 //! The known name that is nearest to a wanted one.
+ghost use Rattle.std.specs.Prelude.{IfOk, IfSome};
+ghost use Rattle.std.specs.List.{Contains};
+
 use std::alloc::{AllocError, Global};
 use strsim::levenshtein;
 
@@ -10,7 +13,9 @@ pub fn nearest<'a>(
     alloc: Global,
     wanted: &str,
     known: &[&'a str],
-) -> Result<Option<&'a str>, AllocError> {
+) -> Result<Option<&'a str>, AllocError>
+    ensures { IfOk result (λ found. IfSome found (λ name. Contains known.now name)) }
+{
     let mut found = None;
     let mut fewest = most_edits(wanted).saturating_add(1);
     for name in known {

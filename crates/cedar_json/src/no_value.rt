@@ -1,5 +1,5 @@
 //! Why a piece of JSON stands for no value.
-ghost use Rattle.std.specs.Prelude.{◌≡◌};
+ghost use Rattle.std.specs.Prelude.{◌≡◌, ◌++◌, IfOk, string_bytes};
 ghost use Rattle.cedar_json.specs.declared.no_value.NoValue.TheVariants.{Memory};
 
 use std::alloc::{AllocError, AllocFailed, Global};
@@ -15,8 +15,14 @@ pub enum NoValue {
 }
 
 impl NoValue {
+    ghost use Rattle.std.specs.Prelude.{[]};
+    ghost use Rattle.cedar_builders.specs.BareExpr.{Text};
+    ghost use Rattle.cedar_json.specs.Refusals.{IsBecause};
+
     /// The problem with the piece itself.
-    pub fn because(alloc: Global, problem: &str) -> NoValue {
+    pub fn because(alloc: Global, problem: &str) -> NoValue
+        ensures { IsBecause [] problem.now result }
+    {
         match String::from_str(alloc, problem) {
             Ok(problem) => NoValue::Because {
                 path: String::new(alloc),
@@ -27,7 +33,10 @@ impl NoValue {
     }
 
     // The same of a piece around it, from which this step leads.
-    pub(crate) fn behind(self, step: String) -> NoValue {
+    pub(crate) fn behind(self, step: String) -> NoValue
+        ensures { (path problem : Text) → IsBecause path problem self
+            → IsBecause (string_bytes step ++ path) problem result }
+    {
         match self {
             NoValue::Because { path, problem } => match joined(step, &path) {
                 Ok(path) => NoValue::Because { path, problem },
@@ -38,7 +47,10 @@ impl NoValue {
     }
 }
 
-fn joined(mut path: String, rest: &str) -> Result<String, AllocError> {
+// A path, and behind it another.
+fn joined(mut path: String, rest: &str) -> Result<String, AllocError>
+    ensures { IfOk result (λ made. string_bytes made ≡ string_bytes path ++ rest.now) }
+{
     path.push_str(rest)?;
     Ok(path)
 }
