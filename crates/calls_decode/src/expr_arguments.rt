@@ -3,7 +3,7 @@ use calls_syntax::{
     CallError, Sexpr, literal, loc, name, pattern, shared_text, term_type, word_literal,
 };
 use cedar_builders::{ExprBuilder as _, ExpressionConstructionError};
-use cedar_exprs::{Expr, ExprBuilder, ExprKind};
+use cedar_exprs::{Expr, ExprBuilder, ExprKind, RestrictedExpr, RestrictedExprError};
 use cedar_names::{Loc, Name, NonEmpty, SlotId};
 use cedar_terms::{BinaryOp, EntityType, Pattern, UnaryOp, Unknown, Var};
 use std::alloc::Global;
@@ -227,6 +227,15 @@ pub fn exprs(alloc: Global, sexprs: &[Sexpr]) -> Result<Vec<Expr>, CallError> {
         exprs.push(expr(alloc, sexpr)?)?;
     }
     Ok(exprs)
+}
+
+/// The restricted expression, where it is one.
+pub fn restricted_expr(alloc: Global, e: Expr) -> Result<RestrictedExpr, CallError> {
+    match RestrictedExpr::new(alloc, e) {
+        Ok(e) => Ok(e),
+        Err(RestrictedExprError::NotRestricted { .. }) => Err(CallError::BadArguments),
+        Err(RestrictedExprError::Memory) => Err(CallError::Memory),
+    }
 }
 
 // The pairs `("key" E)` that arguments stand for.

@@ -1,7 +1,7 @@
 //! Trees with data: what constructors give no data, by the struct `ExprBuilder`.
 use crate::arguments::Data;
-use crate::building::rebuilt;
 use crate::constructors::constructed;
+use crate::rebuilding::rebuilt;
 use crate::shapes::shape_hash;
 use crate::struct_calls::made_by;
 use calls_decode::sketch;

@@ -2,25 +2,27 @@
 #![tactic(auto)]
 
 mod arguments;
-mod building;
-mod chosen;
 mod constructors;
 mod copies;
 mod data;
 mod errors;
 mod queries;
+mod rebuilding;
 mod recorder;
 mod restricted;
 mod shapes;
 mod struct_calls;
-mod substitution;
 mod walks;
 
+pub use crate::errors::{substitution_text, validation_text};
+pub use crate::rebuilding::rebuilt;
 use calls_decode::{expr, placed, sketch};
 use calls_syntax::{CallError, Sexpr};
 use std::alloc::Global;
 
 /// The answer to a call on expressions, by its name and its arguments.
+///
+/// `CallError::UnknownCall` where it is none of these calls.
 pub fn answer(alloc: Global, call: &str, args: &[Sexpr]) -> Result<String, CallError> {
     match call {
         "make" => constructors::make(alloc, args),
@@ -36,7 +38,6 @@ pub fn answer(alloc: Global, call: &str, args: &[Sexpr]) -> Result<String, CallE
             [] => of_nothing(alloc, call),
             [e] => of_one(alloc, call, e),
             [a, b] => of_two(alloc, call, a, b),
-            [names, e, env] => of_three(alloc, call, names, e, env),
             _ => Err(CallError::UnknownCall),
         },
     }
@@ -58,11 +59,10 @@ fn of_one(alloc: Global, call: &str, e: &Sexpr) -> Result<String, CallError> {
         "slots" => walks::slots(alloc, &expr(alloc, e)?),
         "unknowns" => walks::unknowns(alloc, &expr(alloc, e)?),
         "queries" => queries::queries(alloc, &expr(alloc, e)?),
-        "trytype" => queries::known_type(alloc, &expr(alloc, e)?),
         "copy" => copies::copy(alloc, &expr(alloc, e)?),
         "feed" => shapes::feed(alloc, &expr(alloc, e)?),
-        "rebuild" => building::rebuild(alloc, &expr(alloc, e)?),
-        "rebuild-placed" => building::rebuild_placed(alloc, &expr(alloc, e)?),
+        "rebuild" => rebuilding::rebuild(alloc, &expr(alloc, e)?),
+        "rebuild-placed" => rebuilding::rebuild_placed(alloc, &expr(alloc, e)?),
         _ => of_taken(alloc, call, e),
     }
 }
@@ -70,7 +70,6 @@ fn of_one(alloc: Global, call: &str, e: &Sexpr) -> Result<String, CallError> {
 // The calls that take their expression.
 fn of_taken(alloc: Global, call: &str, e: &Sexpr) -> Result<String, CallError> {
     match call {
-        "validate" => queries::validate(alloc, expr(alloc, e)?),
         "restricted" => restricted::restricted(alloc, expr(alloc, e)?),
         "restricted-placed" => restricted::restricted_placed(alloc, expr(alloc, e)?),
         _ => Err(CallError::UnknownCall),
@@ -81,25 +80,6 @@ fn of_two(alloc: Global, call: &str, a: &Sexpr, b: &Sexpr) -> Result<String, Cal
     match call {
         "put" => copies::put_at(alloc, a, expr(alloc, b)?),
         "cmpshape" => shapes::compare(alloc, &expr(alloc, a)?, &expr(alloc, b)?),
-        "subst" => substitution::subst(alloc, &expr(alloc, a)?, b),
-        "subst-placed" => substitution::subst_placed(alloc, &expr(alloc, a)?, b),
-        "typed" => substitution::typed(alloc, &expr(alloc, a)?, b),
-        "clash" => substitution::clash(alloc, &expr(alloc, a)?, b),
-        "build" => building::build(alloc, a.list()?, &expr(alloc, b)?),
-        _ => Err(CallError::UnknownCall),
-    }
-}
-
-fn of_three(
-    alloc: Global,
-    call: &str,
-    names: &Sexpr,
-    e: &Sexpr,
-    env: &Sexpr,
-) -> Result<String, CallError> {
-    match call {
-        "substbuild" => building::subst_build(alloc, names, &expr(alloc, e)?, env),
-        "typedbuild" => building::typed_build(alloc, names, &expr(alloc, e)?, env),
         _ => Err(CallError::UnknownCall),
     }
 }

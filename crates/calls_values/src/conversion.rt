@@ -1,6 +1,7 @@
 //! Values as expressions and back.
 use crate::copies::placed_value;
-use calls_decode::{Keyed, KeyedValue, expr, placed, sketch, value};
+use calls_decode::{expr, placed, sketch};
+use calls_decode_values::{Keyed, KeyedValue, value};
 use calls_syntax::{Answer, CallError, Sexpr, holds, maybe_place, ok, place};
 use cedar_exprs::{Expr, SubstituteValue};
 use cedar_values::{NotValue, ValueKind};

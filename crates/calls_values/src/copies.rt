@@ -1,6 +1,6 @@
 //! Places of values, and copies.
 use crate::values::called;
-use calls_decode::{Keyed, KeyedValue, value};
+use calls_decode_values::{Keyed, KeyedValue, value};
 use calls_syntax::{CallError, Sexpr, holds, place};
 use cedar_names::Loc;
 use cedar_terms::{Escaped, Literal};

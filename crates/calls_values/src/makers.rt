@@ -1,6 +1,6 @@
 //! The constructors of values and of kinds, which have to make the same.
 use crate::copies::{is_same, placed_value};
-use calls_decode::{Keyed, KeyedValue, literals, value_pairs, values};
+use calls_decode_values::{Keyed, KeyedValue, literals, value_pairs, values};
 use calls_syntax::{CallError, Sexpr, holds, maybe_place};
 use cedar_names::Loc;
 use cedar_terms::Literal;

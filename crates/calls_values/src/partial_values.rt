@@ -1,5 +1,6 @@
 //! Partial values.
-use calls_decode::{Keyed, KeyedValue, expr, placed, sketch, value};
+use calls_decode::{expr, placed, sketch};
+use calls_decode_values::{Keyed, KeyedValue, value};
 use calls_syntax::{Answer, CallError, Sexpr, boolean, holds, maybe_place, ok, place};
 use cedar_exprs::Expr;
 use cedar_names::Loc;

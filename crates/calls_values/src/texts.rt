@@ -1,5 +1,5 @@
 //! Texts of values, whole and with a bound on the members that they show.
-use calls_decode::{KeyedValue, value};
+use calls_decode_values::{KeyedValue, value};
 use calls_syntax::{CallError, Sexpr, count, holds};
 use cedar_values::{BoundedDisplay, BoundedToString};
 use std::alloc::Global;

@@ -1,6 +1,7 @@
 //! Comparisons of values, what is inside them, and what they say of themselves.
 use crate::copies::is_same;
-use calls_decode::{Keyed, KeyedValue, sketch, value};
+use calls_decode::sketch;
+use calls_decode_values::{Keyed, KeyedValue, value};
 use calls_syntax::{Answer, CallError, Sexpr, boolean, holds, join, sign};
 use cedar_exprs::SubstituteValue;
 use cedar_terms::{EntityUID, StaticallyTyped};

@@ -1,5 +1,4 @@
-//! The term layer of Cedar's policy language in one crate: what the module `ast` of the crate
-//! `cedar-policy-core` has, under its names there.
+//! What the module `ast` of the crate `cedar-policy-core` has, under its names there.
 //!
 //! Its `specs` pass on the words that contracts of users need.
 #![tactic(auto)]

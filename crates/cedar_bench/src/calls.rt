@@ -1,8 +1,8 @@
 //! The cases of `cedar_calls`, and of validation by the functions of an extension.
 use crate::count::{Count, Total, total_name};
 use crate::fault::CaseFault;
-use crate::stopwatch::Stopwatch;
 use crate::trees::{Leaves, sums};
+use cedar_bench_runner::Stopwatch;
 use cedar_calls::{CallStyle, Extension, ExtensionFunction, Extensions};
 use cedar_terms::SchemaType;
 use cedar_values::{PartialValue, Value};

@@ -3,12 +3,10 @@ use crate::evaluator::Rule;
 use crate::expressions::Input::{self, Balanced, Deep, Records, Unbound, Wide};
 use crate::fault::CaseFault;
 use crate::patterns::Wild;
-use crate::scripts::Script;
 use crate::sets::Members::{self, Few, Longs, Nested, Strings};
 use crate::simplifier::Rest;
-use crate::{
-    calls, context, evaluator, expressions, names, patterns, scripts, sets, simplifier, values,
-};
+use crate::{calls, context, evaluator, expressions, names, patterns, sets, simplifier, values};
+use cedar_bench_runner::{Case, Entry};
 use std::time::Duration;
 
 /// What a case times.
@@ -50,12 +48,12 @@ pub enum Call {
     EvaluatePolicies,
     Simplify(Rest),
     SimplifyContext,
-    RunScript(Script),
 }
 
-impl Call {
-    /// The time of one call over an input of this size.
-    pub fn time(self, rt: &HostRuntime, size: usize) -> Result<Duration, CaseFault> {
+impl Case for Call {
+    type Fault = CaseFault;
+
+    fn time(self, rt: &HostRuntime, size: usize) -> Result<Duration, CaseFault> {
         match self {
             Call::ReadNames => names::time_read(rt, size),
             Call::RefuseNames => names::time_refuse(rt, size),
@@ -93,7 +91,6 @@ impl Call {
             Call::EvaluatePolicies => context::time_policies(rt, size),
             Call::Simplify(rest) => simplifier::time_simplify(rt, rest, size),
             Call::SimplifyContext => context::time_simplify(rt, size),
-            Call::RunScript(script) => scripts::time_run(rt, script, size),
         }
     }
 }
@@ -137,11 +134,8 @@ const SETS: [usize; 3] = [10, 100, 1_000];
 // Numbers of calls.
 const CALLS: [usize; 3] = [1_000, 10_000, 100_000];
 
-// Numbers of lines.
-const LINES: [usize; 3] = [1_000, 10_000, 100_000];
-
 /// The name of each case, its sizes from the least up, and its call.
-pub static CASES: [(&str, &[usize], Call); 78] = [
+pub static CASES: [Entry<Call>; 72] = [
     ("names-read", &NAMES, Call::ReadNames),
     ("names-refuse", &NAMES, Call::RefuseNames),
     ("names-sort", &NAMES, Call::SortNames),
@@ -214,10 +208,4 @@ pub static CASES: [(&str, &[usize], Call); 78] = [
     ("simplify-closed", &FULL, Call::Simplify(Rest::Closed)),
     ("simplify-open", &FULL, Call::Simplify(Rest::Open)),
     ("simplify-context", &CONTEXT, Call::SimplifyContext),
-    ("script-flat", &LINES, Call::RunScript(Script::Flat)),
-    ("script-deep-and", &LINES, Call::RunScript(Script::DeepAnd)),
-    ("script-bind", &LINES, Call::RunScript(Script::Bind)),
-    ("script-records", &LINES, Call::RunScript(Script::Records)),
-    ("script-show", &LINES, Call::RunScript(Script::Show)),
-    ("script-like", &LINES, Call::RunScript(Script::Like)),
 ];

@@ -1,7 +1,7 @@
 //! The cases of conditions that read attributes of a bound record.
 use crate::fault::{CaseFault, expect};
-use crate::stopwatch::Stopwatch;
 use crate::trees::{attribute_sums, bound_to, key, unknown};
+use cedar_bench_runner::Stopwatch;
 use cedar_evaluator::{Outcome, evaluate_shared};
 use cedar_exprs::Expr;
 use cedar_simplifier::{Simplified, simplify_shared};

@@ -1,8 +1,8 @@
 //! The cases of the evaluator.
 use crate::fault::{CaseFault, expect};
 use crate::sets::literals;
-use crate::stopwatch::Stopwatch;
 use crate::trees::{additions, bound_to, comparisons, questions, unknown};
+use cedar_bench_runner::Stopwatch;
 use cedar_evaluator::{Outcome, evaluate};
 use cedar_exprs::Expr;
 use cedar_values::Value;

@@ -5,8 +5,8 @@ ghost use Rattle.cedar_builders.specs.Trees.{tree_ops};
 ghost use Rattle.cedar_exprs.specs.BareExpr.{bare_expr};
 
 use crate::fault::{CaseFault, expect};
-use crate::stopwatch::Stopwatch;
 use crate::trees::{Leaves, bound_to, negations, records, set, sums};
+use cedar_bench_runner::Stopwatch;
 use cedar_exprs::laws::struct_makes_trees;
 use cedar_exprs::{Expr, ExprBuilder};
 use cedar_sketch::Sketch;
@@ -50,7 +50,7 @@ pub fn time_substitute_typed(rt: &HostRuntime, nodes: usize) -> Result<Duration,
 pub fn time_drop(rt: &HostRuntime, input: Input, nodes: usize) -> Result<Duration, CaseFault> {
     let expr = input.expr(rt.alloc(), nodes)?;
     let watch = Stopwatch::start(rt);
-    watch.stop::<(), CaseFault>(Ok(drop(expr)))
+    watch.stop::<(), CaseFault, CaseFault>(Ok(drop(expr)))
 }
 
 /// Builds a tree of so many nodes again.

@@ -1,14 +1,12 @@
 //! Why there is no figure.
+use cedar_bench_runner::NoClock;
 use cedar_builders::{BuildFault, ExpressionConstructionError};
 use cedar_calls::EvaluationError;
 use cedar_evaluator::CallRefused;
 use cedar_exprs::{ExprValidationError, SubstitutionError};
 use cedar_names::ParseErrors;
-use cedar_script::{RunFault, StreamFault};
 use cedar_values::NotValue;
 use std::alloc::{AllocError, AllocFailed};
-use std::io;
-use std::rc::RcStr;
 use thiserror::Error;
 
 /// Why a case has no figure.
@@ -21,30 +19,8 @@ pub enum CaseFault {
     #[error("not the answer that was expected")]
     Answer,
     /// The clock can't be read.
-    #[error("the clock can't be read")]
-    Clock,
-}
-
-/// Why the program ends before its end.
-#[derive(Debug, Drop, Error)]
-pub enum BenchFault {
-    /// No case has a name with this beginning.
-    #[error("no case begins with {word}")]
-    Unknown {
-        word: RcStr,
-    },
-    /// A case has no figure.
-    #[error("{name}: {fault}")]
-    Case {
-        name: &'static str,
-        fault: CaseFault,
-    },
-    /// The arguments can't be read, or a line can't be written.
-    #[error("input or output fault")]
-    Io,
-    /// Memory was wanted for something else than a case.
-    #[error("no memory")]
-    Memory,
+    #[error(transparent)]
+    Clock(#[from] NoClock),
 }
 
 /// Refuses an answer that does not hold.
@@ -130,32 +106,5 @@ impl From<BuildFault<CallRefused>> for CaseFault {
             BuildFault::Memory => CaseFault::Memory,
             BuildFault::Build(_) => CaseFault::Answer,
         }
-    }
-}
-
-impl From<RunFault> for CaseFault {
-    fn from(fault: RunFault) -> CaseFault {
-        match fault {
-            RunFault::Stream(StreamFault::Memory) => CaseFault::Memory,
-            RunFault::Line { .. } | RunFault::Stream(_) => CaseFault::Answer,
-        }
-    }
-}
-
-impl From<AllocError> for BenchFault {
-    fn from(_: AllocError) -> BenchFault {
-        BenchFault::Memory
-    }
-}
-
-impl<T: Drop> From<AllocFailed<T>> for BenchFault {
-    fn from(_: AllocFailed<T>) -> BenchFault {
-        BenchFault::Memory
-    }
-}
-
-impl From<io::Error> for BenchFault {
-    fn from(_: io::Error) -> BenchFault {
-        BenchFault::Io
     }
 }

@@ -1,6 +1,6 @@
 //! The cases of `cedar_names`.
 use crate::fault::CaseFault;
-use crate::stopwatch::Stopwatch;
+use cedar_bench_runner::Stopwatch;
 use cedar_names::{FromNormalizedStr, InternalName, Name, ParseErrors};
 use std::alloc::{AllocError, Global};
 use std::time::Duration;

@@ -1,6 +1,6 @@
 //! The cases of patterns.
 use crate::fault::{CaseFault, expect};
-use crate::stopwatch::Stopwatch;
+use cedar_bench_runner::Stopwatch;
 use cedar_terms::{Pattern, PatternElem};
 use std::alloc::{AllocError, Global};
 use std::time::Duration;

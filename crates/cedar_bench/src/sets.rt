@@ -1,6 +1,6 @@
 //! The cases of sets of values.
 use crate::fault::{CaseFault, expect};
-use crate::stopwatch::Stopwatch;
+use cedar_bench_runner::Stopwatch;
 use cedar_terms::Literal;
 use cedar_values::{NoExtension, Set, Value};
 use std::alloc::{AllocError, Global};
@@ -31,7 +31,7 @@ pub fn time_new(rt: &HostRuntime, members: Members, count: usize) -> Result<Dura
 pub fn time_drop(rt: &HostRuntime, members: Members, count: usize) -> Result<Duration, CaseFault> {
     let set = Set::new(rt.alloc(), members.values(rt.alloc(), count)?)?;
     let watch = Stopwatch::start(rt);
-    watch.stop::<(), CaseFault>(Ok(drop(set)))
+    watch.stop::<(), CaseFault, CaseFault>(Ok(drop(set)))
 }
 
 /// Looks for so many values in the set of every other one.

@@ -1,7 +1,7 @@
 //! The cases of the simplifier.
 use crate::fault::{CaseFault, expect};
-use crate::stopwatch::Stopwatch;
 use crate::trees::{Leaves, bound_to, comparisons, sums};
+use cedar_bench_runner::Stopwatch;
 use cedar_exprs::Expr;
 use cedar_simplifier::{Simplified, simplify};
 use cedar_values::Value;

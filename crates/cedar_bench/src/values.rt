@@ -1,8 +1,8 @@
 //! The cases of values as expressions, of their texts, and of values put for unknowns.
 use crate::fault::CaseFault;
 use crate::sets::literals;
-use crate::stopwatch::Stopwatch;
 use crate::trees::{bound_to, unknown};
+use cedar_bench_runner::Stopwatch;
 use cedar_exprs::Expr;
 use cedar_terms::Literal;
 use cedar_values::{BoundedToString as _, NotValue, Value};

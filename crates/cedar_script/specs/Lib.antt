@@ -1,4 +1,3 @@
-pub mod StreamFaults
 pub mod CommandErrors
 pub mod RunFaults
 pub mod Words

@@ -4,7 +4,7 @@ use Rattle.cedar_script.specs.declared.command_error.CommandError.{CommandError}
 use Rattle.cedar_script.specs.declared.command_error.CommandError.TheVariants.{Memory as no_memory}
 use Rattle.cedar_script.specs.declared.script.RunFault.{RunFault}
 use Rattle.cedar_script.specs.declared.script.RunFault.TheVariants.{Line, Stream}
-use Rattle.cedar_script.specs.declared.streams.StreamFault.TheVariants.{Memory}
+use Rattle.cedar_streams.specs.declared.streams.StreamFault.TheVariants.{Memory}
 
 -- 1 where the script is at fault, 2 where its surroundings are
 abbrev pub status_of : RunFault → ℕ

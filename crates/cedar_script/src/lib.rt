@@ -1,13 +1,11 @@
-//! The language of scripts: lines that make, bind, substitute, simplify, evaluate and show
-//! expressions.
+//! The language of scripts.
 #![tactic(auto)]
 
 mod command_error;
 mod line;
 mod pattern;
 mod script;
-mod streams;
 mod work;
 
+pub use cedar_streams::StreamFault;
 pub use script::{RunFault, run};
-pub use streams::{StreamFault, read_input};

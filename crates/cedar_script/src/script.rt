@@ -5,8 +5,8 @@ ghost use Rattle.cedar_script.specs.RunFaults.{status_of, IsFaultAt};
 
 use crate::command_error::CommandError;
 use crate::line::Command;
-use crate::streams::{StreamFault, read_input};
 use crate::work::State;
+use cedar_streams::{StreamFault, read_input};
 use std::alloc::Global;
 use std::io::{self, Read, Write};
 use std::rc::RcStr;

@@ -1,7 +1,7 @@
 //! Reads recorded calls, and answers each with a line. `docs/CALLS.md` describes the language.
 use crate::{outcomes, simplified};
 use calls_syntax::{CallError, Sexpr, sexprs};
-use cedar_script::{StreamFault, read_input};
+use cedar_streams::{StreamFault, read_input};
 use std::alloc::Global;
 use std::io::{Read, Write};
 use std::str;
@@ -70,6 +70,10 @@ fn answer_call(alloc: Global, call: &str, args: &[Sexpr]) -> Result<String, Call
 
 fn on_expressions(alloc: Global, call: &str, args: &[Sexpr]) -> Result<String, CallError> {
     match calls_exprs::answer(alloc, call, args) {
+        Err(CallError::UnknownCall) => {}
+        answered => return answered,
+    }
+    match calls_substitution::answer(alloc, call, args) {
         Err(CallError::UnknownCall) => on_values(alloc, call, args),
         answered => answered,
     }
@@ -77,6 +81,14 @@ fn on_expressions(alloc: Global, call: &str, args: &[Sexpr]) -> Result<String, C
 
 fn on_values(alloc: Global, call: &str, args: &[Sexpr]) -> Result<String, CallError> {
     match calls_values::answer(alloc, call, args) {
+        Err(CallError::UnknownCall) => {}
+        answered => return answered,
+    }
+    match calls_sets::answer(alloc, call, args) {
+        Err(CallError::UnknownCall) => {}
+        answered => return answered,
+    }
+    match calls_functions::answer(alloc, call, args) {
         Err(CallError::UnknownCall) => calls_terms::answer(alloc, call, args),
         answered => answered,
     }

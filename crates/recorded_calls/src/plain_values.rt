@@ -1,5 +1,5 @@
 //! The plain values that arguments stand for: those without extension values.
-use calls_decode::{KeyedValue, value_pairs};
+use calls_decode_values::{KeyedValue, value_pairs};
 use calls_syntax::{CallError, Sexpr};
 use cedar_exprs::Expr;
 use cedar_values::{NoExtension, NotValue, Value};

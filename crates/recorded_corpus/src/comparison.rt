@@ -4,7 +4,8 @@ ghost use Rattle.std.specs.Io.KnownBytes.{IsAtEnd};
 ghost use Rattle.recorded_corpus.specs.Comparisons.{AreAlike, status_of};
 
 use crate::corpus::{Corpus, Malformed, Outcome, Record};
-use cedar_script::{RunFault, StreamFault, read_input, run};
+use cedar_script::{RunFault, run};
+use cedar_streams::{StreamFault, read_input};
 use std::alloc::{AllocError, Global};
 use std::io::{Read, Write};
 use thiserror::Error;

@@ -1,9 +1,8 @@
 //! The values that arguments stand for.
-use crate::expr_arguments::expr;
 use crate::keyed::Keyed;
-use crate::sketched::sketch;
+use calls_decode::{expr, restricted_expr, sketch};
 use calls_syntax::{CallError, Sexpr, count, literal, loc, name, shared_text, text};
-use cedar_exprs::{Expr, ExprKind, RestrictedExpr, RestrictedExprError};
+use cedar_exprs::{Expr, ExprKind, RestrictedExpr};
 use cedar_names::{Loc, Name};
 use cedar_terms::Literal;
 use cedar_values::{RepresentableExtensionValue, Set, Value, ValueKind};
@@ -44,18 +43,24 @@ pub fn value(alloc: Global, sexpr: &Sexpr) -> Result<KeyedValue, CallError> {
             [head, args @ ..] => compound(alloc, head.word()?, args),
             [] => Err(CallError::BadArguments),
         },
-        _ => Ok(Value::from(given_literal(alloc, sexpr)?)),
+        _ => of_literal(given_literal(alloc, sexpr)),
     }
+}
+
+// The functions below take what was made of the arguments, or why it was not: so the cycle has
+// little to drop.
+fn of_literal(literal: Result<Literal, CallError>) -> Result<KeyedValue, CallError> {
+    Ok(Value::from(literal?))
 }
 
 // What a list stands for, by its word and what follows.
 #[cycle(values)]
 fn compound(alloc: Global, head: &str, args: &[Sexpr]) -> Result<KeyedValue, CallError> {
     match head {
-        "set" => sorted(alloc, values(alloc, args)?),
-        "setfrom" => set_from(alloc, values(alloc, args)?),
-        "setlits" => set_of_lits(alloc, literals(alloc, args)?),
-        "record" => record(alloc, value_pairs(alloc, args)?),
+        "set" => sorted(alloc, values(alloc, args)),
+        "setfrom" => set_from(alloc, values(alloc, args)),
+        "setlits" => set_of_lits(alloc, literals(alloc, args)),
+        "record" => record(alloc, value_pairs(alloc, args)),
         _ => of_few(alloc, head, args),
     }
 }
@@ -65,56 +70,88 @@ fn compound(alloc: Global, head: &str, args: &[Sexpr]) -> Result<KeyedValue, Cal
 fn of_few(alloc: Global, head: &str, args: &[Sexpr]) -> Result<KeyedValue, CallError> {
     match args {
         [a, b] => match head {
-            "ext" => given(alloc, number(alloc, a)?, text(alloc, b)?),
-            "lazy" => lazy(alloc, number(alloc, a)?),
-            "extas" => called(alloc, number(alloc, a)?, &expr(alloc, b)?),
-            "within" => within(alloc, count(a)?, value(alloc, b)?),
-            "@" => at_no_place(a, value(alloc, b)?),
+            "ext" => noted(alloc, number(alloc, a), text(alloc, b)),
+            "lazy" => lazy(alloc, number(alloc, a)),
+            "extas" => called_as(alloc, number(alloc, a), expr(alloc, b)),
+            "within" => within(alloc, count(a), value(alloc, b)),
+            "@" => at_no_place(a, value(alloc, b)),
             _ => Err(CallError::BadArguments),
         },
         [a, b, c] => match head {
-            "@" => at_place(loc(alloc, a, b)?, value(alloc, c)?),
+            "@" => at_place(loc(alloc, a, b), value(alloc, c)),
             _ => Err(CallError::BadArguments),
         },
         _ => Err(CallError::BadArguments),
     }
 }
 
-fn at_place(place: Loc, inner: KeyedValue) -> Result<KeyedValue, CallError> {
-    Ok(inner.with_maybe_source_loc(Some(place)))
+fn at_place(
+    place: Result<Loc, CallError>,
+    inner: Result<KeyedValue, CallError>,
+) -> Result<KeyedValue, CallError> {
+    let place = place?;
+    Ok(inner?.with_maybe_source_loc(Some(place)))
 }
 
 // What stands in the place of a place has to be `-`.
-fn at_no_place(place: &Sexpr, inner: KeyedValue) -> Result<KeyedValue, CallError> {
+fn at_no_place(
+    place: &Sexpr,
+    inner: Result<KeyedValue, CallError>,
+) -> Result<KeyedValue, CallError> {
     match place.word()? {
-        "-" => Ok(inner.with_maybe_source_loc(None)),
+        "-" => Ok(inner?.with_maybe_source_loc(None)),
         _ => Err(CallError::BadArguments),
     }
 }
 
-fn within(alloc: Global, depth: usize, inner: KeyedValue) -> Result<KeyedValue, CallError> {
-    let mut value = inner;
+fn within(
+    alloc: Global,
+    depth: Result<usize, CallError>,
+    inner: Result<KeyedValue, CallError>,
+) -> Result<KeyedValue, CallError> {
+    let depth = depth?;
+    let mut value = inner?;
     for _ in 0..depth {
         value = Value::set(alloc, vec![in alloc; value]?, None)?;
     }
     Ok(value)
 }
 
-fn sorted(alloc: Global, values: Vec<KeyedValue>) -> Result<KeyedValue, CallError> {
-    Ok(Value::set(alloc, values, None)?)
+fn sorted(
+    alloc: Global,
+    values: Result<Vec<KeyedValue>, CallError>,
+) -> Result<KeyedValue, CallError> {
+    Ok(Value::set(alloc, values?, None)?)
 }
 
-fn set_from(alloc: Global, values: Vec<KeyedValue>) -> Result<KeyedValue, CallError> {
-    let set = Set::from_values(alloc, values)?;
+fn set_from(
+    alloc: Global,
+    values: Result<Vec<KeyedValue>, CallError>,
+) -> Result<KeyedValue, CallError> {
+    let set = Set::from_values(alloc, values?)?;
     Ok(Value::new(ValueKind::Set(set), None))
 }
 
-fn set_of_lits(alloc: Global, literals: Vec<Literal>) -> Result<KeyedValue, CallError> {
-    Ok(Value::set_of_lits(alloc, literals, None)?)
+fn set_of_lits(
+    alloc: Global,
+    literals: Result<Vec<Literal>, CallError>,
+) -> Result<KeyedValue, CallError> {
+    Ok(Value::set_of_lits(alloc, literals?, None)?)
 }
 
-fn record(alloc: Global, pairs: Vec<(RcStr, KeyedValue)>) -> Result<KeyedValue, CallError> {
-    Ok(Value::record(alloc, pairs, None)?)
+fn record(
+    alloc: Global,
+    pairs: Result<Vec<(RcStr, KeyedValue)>, CallError>,
+) -> Result<KeyedValue, CallError> {
+    Ok(Value::record(alloc, pairs?, None)?)
+}
+
+fn noted(
+    alloc: Global,
+    key: Result<i64, CallError>,
+    note: Result<String, CallError>,
+) -> Result<KeyedValue, CallError> {
+    given(alloc, key?, note?)
 }
 
 fn given(alloc: Global, key: i64, note: String) -> Result<KeyedValue, CallError> {
@@ -131,7 +168,8 @@ fn ext_call(alloc: Global, args: Vec<Expr>) -> Result<Expr, CallError> {
     Ok(Expr::call_extension_fn(alloc, name(alloc, "ext")?, args)?)
 }
 
-fn lazy(alloc: Global, key: i64) -> Result<KeyedValue, CallError> {
+fn lazy(alloc: Global, key: Result<i64, CallError>) -> Result<KeyedValue, CallError> {
+    let key = key?;
     let keyed = Keyed::new(key, format!(in alloc; "(call canon {key})")?);
     extension(alloc, RepresentableExtensionValue::new_lazy(keyed))
 }
@@ -141,7 +179,7 @@ fn lazy(alloc: Global, key: i64) -> Result<KeyedValue, CallError> {
 pub fn values(alloc: Global, sexprs: &[Sexpr]) -> Result<Vec<KeyedValue>, CallError> {
     let mut values = Vec::new(alloc);
     for sexpr in sexprs {
-        values.push(value(alloc, sexpr)?)?;
+        push(&mut values, value(alloc, sexpr))?;
     }
     Ok(values)
 }
@@ -151,23 +189,33 @@ pub fn values(alloc: Global, sexprs: &[Sexpr]) -> Result<Vec<KeyedValue>, CallEr
 pub fn value_pairs(alloc: Global, sexprs: &[Sexpr]) -> Result<Vec<(RcStr, KeyedValue)>, CallError> {
     let mut pairs = Vec::new(alloc);
     for sexpr in sexprs {
-        pairs.push(pair(alloc, sexpr)?)?;
+        push(&mut pairs, pair(alloc, sexpr))?;
     }
     Ok(pairs)
+}
+
+fn push<T: Drop>(items: &mut Vec<T>, made: Result<T, CallError>) -> Result<(), CallError> {
+    items.push(made?)?;
+    Ok(())
 }
 
 #[cycle(values)]
 fn pair(alloc: Global, sexpr: &Sexpr) -> Result<(RcStr, KeyedValue), CallError> {
     match sexpr {
         Sexpr::List(sexprs) => match sexprs.as_slice() {
-            [key, bound] => {
-                let key = shared_text(alloc, key)?;
-                Ok((key, value(alloc, bound)?))
-            }
+            [key, bound] => with_key(shared_text(alloc, key), value(alloc, bound)),
             _ => Err(CallError::BadArguments),
         },
         _ => Err(CallError::BadArguments),
     }
+}
+
+fn with_key(
+    key: Result<RcStr, CallError>,
+    bound: Result<KeyedValue, CallError>,
+) -> Result<(RcStr, KeyedValue), CallError> {
+    let key = key?;
+    Ok((key, bound?))
 }
 
 /// The literals that arguments stand for.
@@ -189,6 +237,14 @@ pub fn number(alloc: Global, sexpr: &Sexpr) -> Result<i64, CallError> {
         Some(Literal::Long(key)) => Ok(key),
         _ => Err(CallError::BadArguments),
     }
+}
+
+fn called_as(
+    alloc: Global,
+    key: Result<i64, CallError>,
+    call: Result<Expr, CallError>,
+) -> Result<KeyedValue, CallError> {
+    called(alloc, key?, &call?)
 }
 
 // The extension value that this call stands for.
@@ -223,15 +279,6 @@ fn restricted(alloc: Global, args: &[Expr]) -> Result<Vec<RestrictedExpr>, CallE
         restricted.push(restricted_expr(alloc, arg.clone(alloc)?)?)?;
     }
     Ok(restricted)
-}
-
-/// The restricted expression, where it is one.
-pub fn restricted_expr(alloc: Global, e: Expr) -> Result<RestrictedExpr, CallError> {
-    match RestrictedExpr::new(alloc, e) {
-        Ok(e) => Ok(e),
-        Err(RestrictedExprError::NotRestricted { .. }) => Err(CallError::BadArguments),
-        Err(RestrictedExprError::Memory) => Err(CallError::Memory),
-    }
 }
 
 fn extension(

@@ -1,15 +1,9 @@
 //! Sets of very many equal values, and records of very many keys.
-ghost use Rattle.std.specs.Prelude.{◌≡◌, IfOk, Ok};
-ghost use Rattle.cedar_builders.specs.Environment.{empty, fold};
-ghost use Rattle.cedar_builders.specs.Trees.{tree_ops};
-ghost use Rattle.cedar_exprs.specs.BareExpr.{bare_expr};
-
-use crate::copies::is_same;
-use calls_decode::{Keyed, KeyedValue, value};
+use calls_decode_values::{Keyed, KeyedValue, number, value};
+use calls_exprs::rebuilt;
 use calls_syntax::{Answer, CallError, Sexpr, count, holds};
 use cedar_builders::ExpressionConstructionError;
-use cedar_exprs::laws::struct_makes_trees;
-use cedar_exprs::{Expr, ExprBuilder};
+use cedar_exprs::Expr;
 use cedar_values::{NotValue, Set, Value, ValueKind};
 use std::alloc::{AllocError, Global};
 use std::collections::{BTreeMap, HashMap};
@@ -21,17 +15,13 @@ pub fn answer(alloc: Global, call: &str, args: &[Sexpr]) -> Result<String, CallE
         ("many", [times, v]) => many(alloc, count(times)?, &value(alloc, v)?),
         ("falling", [before, first, last, after]) => {
             let span = Span {
-                first: number(first)?,
-                last: number(last)?,
+                first: number(alloc, first)?,
+                last: number(alloc, last)?,
             };
             falling(alloc, before.list()?, span, after.list()?)
         }
         _ => Err(CallError::UnknownCall),
     }
-}
-
-fn number(sexpr: &Sexpr) -> Result<i64, CallError> {
-    sexpr.word()?.parse().map_err(|_| CallError::BadArguments)
 }
 
 fn many(alloc: Global, times: usize, v: &KeyedValue) -> Result<String, CallError> {
@@ -137,14 +127,14 @@ fn pairs(
 ) -> Result<Vec<(RcStr, KeyedValue)>, CallError> {
     let mut pairs = Vec::new(alloc);
     for key in before {
-        pairs.push(pair(alloc, number(key)?, 0)?)?;
+        pairs.push(pair(alloc, number(alloc, key)?, 0)?)?;
     }
     for step in 0..span.last.saturating_sub(span.first).saturating_add(1) {
         let number = span.last.saturating_sub(step);
         pairs.push(pair(alloc, number, number)?)?;
     }
     for key in after {
-        pairs.push(pair(alloc, number(key)?, 0)?)?;
+        pairs.push(pair(alloc, number(alloc, key)?, 0)?)?;
     }
     Ok(pairs)
 }
@@ -223,31 +213,32 @@ fn is_numbered(key: &str, v: &KeyedValue) -> bool {
 // value's.
 fn same(alloc: Global, v: &KeyedValue, record: Expr) -> Result<(), CallError> {
     stays(alloc, &record)?;
-    is_same(v.to_expr(alloc), &record, "a value and its expression")?;
+    is_record(v.to_expr(alloc), &record, "a value and its expression")?;
     holds(is_read(alloc, record, v)?, "an expression and its value")
 }
 
 fn stays(alloc: Global, record: &Expr) -> Result<(), CallError> {
-    is_same(record.clone(alloc), record, "a record and its copy")?;
-    is_same(
+    is_record(record.clone(alloc), record, "a record and its copy")?;
+    is_record(
         substituted(alloc, record),
         record,
         "a record and substitution",
     )?;
-    is_same(rebuilt(alloc, record), record, "a record and what is built")
+    is_record(rebuilt(alloc, record), record, "a record and what is built")
+}
+
+// Refuses what was made, where there was memory for it, and is not the record.
+fn is_record(
+    made: Result<Expr, AllocError>,
+    record: &Expr,
+    what: &'static str,
+) -> Result<(), CallError> {
+    holds(made? == *record, what)
 }
 
 fn substituted(alloc: Global, e: &Expr) -> Result<Expr, AllocError> {
     let nothing: HashMap<RcStr, KeyedValue> = HashMap::new(alloc);
     e.substitute(alloc, &nothing)
-}
-
-// The type of data is a parameter: at a concrete one the check of the call's bound takes long.
-fn rebuilt<T: Default + Copy>(alloc: Global, e: &Expr<T>) -> Result<Expr<T>, AllocError>
-    ensures { IfOk result (λ made. fold tree_ops empty (bare_expr e.now) ≡ Ok (bare_expr made)) }
-{
-    struct_makes_trees::<T>();
-    e.into_expr::<ExprBuilder<T>>(alloc)
 }
 
 fn is_read(alloc: Global, e: Expr, v: &KeyedValue) -> Result<bool, CallError> {

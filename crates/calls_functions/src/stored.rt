@@ -1,6 +1,6 @@
 //! The extension functions that recorded calls name, and the table that validation and types go
 //! by.
-use crate::keyed::{Echo, Keyed, NoValue, OneArgument, TwoArguments};
+use calls_decode_values::{Echo, Keyed, NoValue, OneArgument, TwoArguments};
 use calls_syntax::{CallError, name};
 use cedar_calls::{Extension, ExtensionFunction, Extensions};
 use cedar_exprs::CallStyle;

@@ -3,7 +3,7 @@
 ghost use Rattle.std.specs.Prelude.{◌≡◌, ◌==◌, not};
 ghost use Rattle.std.specs.Int.Bits.{bit_and};
 ghost use Rattle.cedar_names.specs.Names.{name_text};
-ghost use Rattle.calls_exprs.specs.Chosen.{bit_of};
+ghost use Rattle.calls_substitution.specs.Chosen.{bit_of};
 
 use cedar_names::Name;
 use std::alloc::{AllocError, Global};

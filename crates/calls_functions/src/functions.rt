@@ -1,5 +1,7 @@
 //! Calls of stored functions, and what these say of themselves.
-use calls_decode::{Keyed, KeyedValue, function, sketch, value, values};
+use crate::stored::function;
+use calls_decode::sketch;
+use calls_decode_values::{Keyed, KeyedValue, value, values};
 use calls_syntax::{Answer, CallError, Sexpr, join, place, shown};
 use cedar_calls::{CallStyle, EvaluationError, ExtensionFunction, ExtensionOutputValue};
 use cedar_names::Name;

@@ -2,8 +2,8 @@
 use Rattle.std.specs.Prelude.{⊤}
 use Rattle.std.specs.declared.io.ErrorKind.{ErrorKind}
 use Rattle.std.specs.declared.io.ErrorKind.TheVariants.{OutOfMemory}
-use Rattle.cedar_script.specs.declared.streams.StreamFault.{StreamFault}
-use Rattle.cedar_script.specs.declared.streams.StreamFault.TheVariants.{Input, Output, Memory}
+use Rattle.cedar_streams.specs.declared.streams.StreamFault.{StreamFault}
+use Rattle.cedar_streams.specs.declared.streams.StreamFault.TheVariants.{Input, Output, Memory}
 
 -- of a reader: want of memory as itself, else an input fault
 abbrev pub read_fault : ErrorKind → StreamFault

@@ -1,5 +1,5 @@
 //! Reads the clock.
-use crate::fault::CaseFault;
+use crate::fault::NoClock;
 use std::time::{Duration, Instant};
 
 /// Times one call.
@@ -20,24 +20,24 @@ impl<'r> Stopwatch<'r> {
     }
 
     /// The time since the start. The answer of the call is dropped after the clock was read.
-    pub fn stop<T, E>(self, answer: Result<T, E>) -> Result<Duration, CaseFault>
+    pub fn stop<T, E, F>(self, answer: Result<T, E>) -> Result<Duration, F>
     where
         T: Drop,
         E: Drop,
-        CaseFault: From<E>,
+        F: From<E> + From<NoClock>,
     {
         let time = self.time()?;
         drop(answer?);
         Ok(time)
     }
 
-    fn time(&self) -> Result<Duration, CaseFault> {
+    fn time(&self) -> Result<Duration, NoClock> {
         let Some(start) = self.start else {
-            return Err(CaseFault::Clock);
+            return Err(NoClock);
         };
         match start.elapsed(self.rt) {
             Ok(time) => Ok(time),
-            Err(_) => Err(CaseFault::Clock),
+            Err(_) => Err(NoClock),
         }
     }
 }

@@ -1,6 +1,6 @@
-//! The cases of `cedar_script`, each script read from a text in memory and written into a vector.
-use crate::fault::CaseFault;
-use crate::stopwatch::Stopwatch;
+//! The cases: each script is read from a text in memory, and written into a vector.
+use crate::fault::ScriptFault;
+use cedar_bench_runner::{Case, Entry, Stopwatch};
 use cedar_script::{RunFault, run};
 use std::alloc::{AllocError, Global};
 use std::time::Duration;
@@ -22,11 +22,28 @@ pub enum Script {
     Like,
 }
 
-/// The time of a script that does it so often.
-pub fn time_run(rt: &HostRuntime, script: Script, count: usize) -> Result<Duration, CaseFault> {
-    let text = script.text(rt.alloc(), count)?;
-    let watch = Stopwatch::start(rt);
-    watch.stop(shown(rt.alloc(), &text))
+// Numbers of lines.
+const LINES: [usize; 3] = [1_000, 10_000, 100_000];
+
+/// The name of each case, its sizes from the least up, and its script.
+pub static CASES: [Entry<Script>; 6] = [
+    ("script-flat", &LINES, Script::Flat),
+    ("script-deep-and", &LINES, Script::DeepAnd),
+    ("script-bind", &LINES, Script::Bind),
+    ("script-records", &LINES, Script::Records),
+    ("script-show", &LINES, Script::Show),
+    ("script-like", &LINES, Script::Like),
+];
+
+impl Case for Script {
+    type Fault = ScriptFault;
+
+    // The time of a script that does it so often.
+    fn time(self, rt: &HostRuntime, size: usize) -> Result<Duration, ScriptFault> {
+        let text = self.text(rt.alloc(), size)?;
+        let watch = Stopwatch::start(rt);
+        watch.stop(shown(rt.alloc(), &text))
+    }
 }
 
 fn shown(alloc: Global, script: &str) -> Result<Vec<u8>, RunFault> {

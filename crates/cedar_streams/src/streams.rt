@@ -2,8 +2,8 @@
 ghost use Rattle.std.specs.Prelude.{◌≡◌, IfErr, IfOk, IfSome, OnOk};
 ghost use Rattle.std.specs.Io.KnownBytes.{IsAtEnd};
 ghost use Rattle.std.specs.IoError.{error_kind};
-ghost use Rattle.cedar_script.specs.StreamFaults.{IsInputFault, read_fault, write_fault};
-ghost use Rattle.cedar_script.specs.declared.streams.StreamFault.TheVariants.{Memory};
+ghost use Rattle.cedar_streams.specs.StreamFaults.{IsInputFault, read_fault, write_fault};
+ghost use Rattle.cedar_streams.specs.declared.streams.StreamFault.TheVariants.{Memory};
 
 use std::alloc::{AllocError, Global};
 use std::io::{self, Read};

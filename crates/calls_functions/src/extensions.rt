@@ -1,6 +1,6 @@
 //! Extensions, and tables of them.
 use crate::functions::{named_function, names, returns, signature, style_text};
-use calls_decode::Keyed;
+use calls_decode_values::Keyed;
 use calls_syntax::{Answer, CallError, Sexpr, join, name};
 use cedar_calls::{Extension, ExtensionFunction, Extensions, FunctionTable};
 use cedar_names::Name;

@@ -1,6 +1,6 @@
 //! Sets of values that are ordered in reverse.
 use crate::flip::Flip;
-use calls_decode::number;
+use calls_decode_values::number;
 use calls_syntax::{Answer, CallError, Sexpr, boolean, holds, join};
 use cedar_values::{RepresentableExtensionValue, Set, Value, ValueKind};
 use std::alloc::Global;

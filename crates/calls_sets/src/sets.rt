@@ -1,5 +1,5 @@
 //! Sets of values, by what is in them.
-use calls_decode::{Keyed, KeyedValue, value, values};
+use calls_decode_values::{Keyed, KeyedValue, value, values};
 use calls_syntax::{CallError, Sexpr, boolean, holds};
 use cedar_values::{Set, ValueKind};
 use std::alloc::Global;

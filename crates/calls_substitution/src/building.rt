@@ -1,70 +1,76 @@
 //! What builders make of an expression, before substitution and after.
-ghost use Rattle.std.specs.Prelude.{◌≡◌, IfOk, Ok};
-ghost use Rattle.cedar_builders.specs.Environment.{empty, fold};
-ghost use Rattle.cedar_builders.specs.Trees.{tree_ops};
-ghost use Rattle.cedar_exprs.specs.BareExpr.{bare_expr};
-
 use crate::chosen::{Chosen, bit};
-use crate::substitution::{clash_text, refusal_of, substituted, substituted_typed};
-use calls_decode::{KeyedValue, bindings, placed, sketch};
+use crate::substitution::{clash_text, refusal_of};
+use calls_decode::{expr, sketch};
+use calls_decode_values::{KeyedValue, bindings};
 use calls_syntax::{CallError, Sexpr, holds, ok};
-use cedar_exprs::laws::struct_makes_trees;
-use cedar_exprs::{Expr, ExprBuilder, TypedBuildFault};
-use std::alloc::{AllocError, Global};
+use cedar_exprs::{Expr, TypedBuildFault};
+use std::alloc::Global;
 use std::collections::HashMap;
 use std::rc::RcStr;
 use test_support::{AsTheyStand, Refused, Refusing};
 
-/// The tree that the struct makes again.
-pub fn rebuild(alloc: Global, e: &Expr) -> Result<String, CallError> {
-    sketch(alloc, &rebuilt(alloc, e)?)
+type Values = HashMap<RcStr, KeyedValue>;
+
+/// The answer to a call of a builder, by itself or after substitution.
+pub fn answer(alloc: Global, call: &str, args: &[Sexpr]) -> Result<String, CallError> {
+    match args {
+        [names, e] => match call {
+            "build" => build(alloc, names.list()?, &expr(alloc, e)?),
+            _ => Err(CallError::UnknownCall),
+        },
+        [names, e, env] => after_substitution(
+            alloc,
+            call,
+            names.list()?,
+            &expr(alloc, e)?,
+            &bindings(alloc, env)?,
+        ),
+        _ => Err(CallError::UnknownCall),
+    }
 }
 
-/// Each position of what the struct makes again, with its place.
-pub fn rebuild_placed(alloc: Global, e: &Expr) -> Result<String, CallError> {
-    placed(alloc, &rebuilt(alloc, e)?)
-}
-
-/// What the struct makes again. The type of data is a parameter: at a concrete one the check of the
-/// call's bound does not come to its end.
-pub fn rebuilt<T: Default + Copy>(alloc: Global, e: &Expr<T>) -> Result<Expr<T>, AllocError>
-    ensures { IfOk result (λ made. fold tree_ops empty (bare_expr e.now) ≡ Ok (bare_expr made)) }
-{
-    struct_makes_trees::<T>();
-    e.into_expr::<ExprBuilder<T>>(alloc)
-}
-
-/// What a builder makes that refuses these functions, and makes each node as it stands.
-pub fn build(alloc: Global, names: &[Sexpr], e: &Expr) -> Result<String, CallError> {
-    answer(alloc, names, &Asked::Built(e))
-}
-
-/// What a lawful one makes after substitution: of the one call and of the two in turn. No `and` and
-/// no `or` of two Booleans stays then, so the other makes the same.
-pub fn subst_build(
+fn after_substitution(
     alloc: Global,
-    names: &Sexpr,
+    call: &str,
+    names: &[Sexpr],
     e: &Expr,
-    env: &Sexpr,
+    values: &Values,
 ) -> Result<String, CallError> {
-    let names = names.list()?;
-    let values = bindings(alloc, env)?;
-    let at_once = answer(alloc, names, &Asked::Substituted(e, &values))?;
-    let in_turn = build(alloc, names, &substituted(alloc, e, env)?)?;
+    match call {
+        "substbuild" => subst_build(alloc, names, e, values),
+        "typedbuild" => typed_build(alloc, names, e, values),
+        _ => Err(CallError::UnknownCall),
+    }
+}
+
+// What a builder makes that refuses these functions, and makes each node as it stands.
+fn build(alloc: Global, names: &[Sexpr], e: &Expr) -> Result<String, CallError> {
+    ask_builder(alloc, names, &Asked::Built(e))
+}
+
+// What a lawful one makes after substitution: of the one call and of the two in turn. No `and` and
+// no `or` of two Booleans stays then, so the other makes the same.
+fn subst_build(
+    alloc: Global,
+    names: &[Sexpr],
+    e: &Expr,
+    values: &Values,
+) -> Result<String, CallError> {
+    let at_once = ask_builder(alloc, names, &Asked::Substituted(e, values))?;
+    let in_turn = build(alloc, names, &e.substitute(alloc, values)?)?;
     agreed(at_once, in_turn.as_str())
 }
 
-/// What a lawful one makes after typed substitution: of the one call and of the two in turn.
-pub fn typed_build(
+// What a lawful one makes after typed substitution: of the one call and of the two in turn.
+fn typed_build(
     alloc: Global,
-    names: &Sexpr,
+    names: &[Sexpr],
     e: &Expr,
-    env: &Sexpr,
+    values: &Values,
 ) -> Result<String, CallError> {
-    let names = names.list()?;
-    let values = bindings(alloc, env)?;
-    let at_once = answer(alloc, names, &Asked::Typed(e, &values))?;
-    let in_turn = typed_in_turn(alloc, names, e, env)?;
+    let at_once = ask_builder(alloc, names, &Asked::Typed(e, values))?;
+    let in_turn = typed_in_turn(alloc, names, e, values)?;
     agreed(at_once, in_turn.as_str())
 }
 
@@ -72,9 +78,9 @@ fn typed_in_turn(
     alloc: Global,
     names: &[Sexpr],
     e: &Expr,
-    env: &Sexpr,
+    values: &Values,
 ) -> Result<String, CallError> {
-    match substituted_typed(alloc, e, env)? {
+    match e.substitute_typed(alloc, values) {
         Ok(e) => build(alloc, names, &e),
         Err(error) => refusal_of(alloc, &error),
     }
@@ -85,8 +91,6 @@ fn agreed(at_once: String, in_turn: &str) -> Result<String, CallError> {
     Ok(at_once)
 }
 
-type Values = HashMap<RcStr, KeyedValue>;
-
 // What is asked of a builder.
 #[derive(Drop)]
 enum Asked<'a> {
@@ -96,7 +100,7 @@ enum Asked<'a> {
 }
 
 // A type stands here for each choice of functions that recorded calls make.
-fn answer(alloc: Global, names: &[Sexpr], asked: &Asked<'_>) -> Result<String, CallError> {
+fn ask_builder(alloc: Global, names: &[Sexpr], asked: &Asked<'_>) -> Result<String, CallError> {
     match bits(names)? {
         0 => answered::<0>(alloc, asked),
         1 => answered::<1>(alloc, asked),

@@ -1,12 +1,16 @@
 //! What the arguments ask for.
 ghost use Rattle.std.specs.Prelude.{◌≡◌, IsTrue, false, take};
 
-const QUICK: &str = "--quick";
+/// Takes the two least sizes of a case alone.
+pub const QUICK: &str = "--quick";
 
-/// Whether the two least sizes of a case alone are wanted.
-pub fn is_quick(arguments: &[String]) -> bool {
+/// Runs each case once at its least size, and writes no times.
+pub const CHECK: &str = "--check";
+
+/// Whether an option is among the arguments.
+pub fn has_option(arguments: &[String], option: &str) -> bool {
     for argument in arguments {
-        if argument.as_str() == QUICK {
+        if argument.as_str() == option {
             return true;
         }
     }
@@ -29,7 +33,7 @@ pub fn is_wanted(arguments: &[String], name: &str) -> bool {
 
 /// The argument as the beginning of a name, if it is no option.
 pub fn beginning(argument: &str) -> Option<&str> {
-    if argument == QUICK {
+    if argument == QUICK || argument == CHECK {
         None
     } else {
         Some(argument)

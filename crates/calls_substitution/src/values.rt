@@ -1,5 +1,7 @@
 //! What a builder gets where values are put for unknowns.
-use calls_decode::{Keyed, KeyedValue, bindings, expr, placed, sketch};
+use crate::substitution::clash_text;
+use calls_decode::{expr, placed, sketch};
+use calls_decode_values::{Keyed, KeyedValue, bindings};
 use calls_syntax::{CallError, Sexpr, ok};
 use cedar_exprs::{Expr, ExprBuilder, TypedBuildFault};
 use cedar_values::{
@@ -76,7 +78,7 @@ fn typed_by_struct<T: Default + Copy>(
     match substitute_typed_values_into_expr::<ExprBuilder<T>, Keyed>(alloc, e, values) {
         Ok(made) => Ok(Ok(made)),
         Err(TypedBuildFault::TypeError { expected, actual }) => {
-            Ok(Err(format!(in alloc; "type-clash {expected} | {actual}")?))
+            Ok(Err(clash_text(alloc, &expected, &actual)?))
         }
         Err(TypedBuildFault::Build(never)) => match never {},
         Err(TypedBuildFault::Memory) => Err(CallError::Memory),
