@@ -89,7 +89,7 @@ fn main(rt: HostRuntime) -> Result<()> {
     Ok(())
 }
 
-// Friends may view, and bob; so may all a photo of more than three stars; but nobody who is blocked.
+// Friends may view, and bob; so may all a photo of more than three stars; but no blocked user.
 fn policies(alloc: Global) -> Result<Vec<Policy>> {
     let mut policies = Vec::new(alloc);
     policies.push(policy(
