@@ -28,4 +28,4 @@ pub use restricted_expr::{RestrictedExpr, RestrictedExprError, SubstituteValue};
 pub use shapes::expr_shape_only::ExprShapeOnly;
 pub use walks::expr_iterator::{ExprIterator, SlotRef, Slots, Unknowns};
 pub use walks::post_order::{PostOrder, PostOrderFault};
-pub use walks::results::{push_item, take_many, take_two};
+pub use walks::results::{keyed, push_item, take_many, take_two};

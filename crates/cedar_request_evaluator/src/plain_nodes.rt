@@ -18,7 +18,7 @@ ghost use Rattle.cedar_request_evaluator.specs.Refusals.{refused_name};
 
 use cedar_evaluator::operations::{record_of, set_of, split_pairs, split_row};
 use cedar_evaluator::{CallRefused, EvalFault, Outcome};
-use cedar_exprs::{Expr, PostOrderFault, push_item, take_many, take_two};
+use cedar_exprs::{Expr, PostOrderFault, keyed, push_item, take_many, take_two};
 use cedar_names::Loc;
 use cedar_terms::{EntityType, Literal, Pattern, UnaryOp};
 use std::alloc::{AllocError, Global};
@@ -241,26 +241,4 @@ fn record_of_outcomes<X: Ord + Drop>(
         Ok(values) => Ok(Outcome::of_value(record_of(alloc, values)?)),
         Err(fault) => Ok(Outcome::of_fault(fault)),
     }
-}
-
-// The keys of a map, each with one of as many values, in order.
-fn keyed<V: Drop>(
-    alloc: Global,
-    pairs: &BTreeMap<RcStr, Expr>,
-    values: Vec<V>,
-) -> Result<Vec<(RcStr, V)>, AllocError>
-    requires { length values.items ≡ length pairs.now.entries }
-    ensures keys { IfOk result (λ ps. keys_of ps.items ≡ keys_of pairs.now.entries) }
-    ensures values { IfOk result (λ ps. map (λ p. p.1) ps.items ≡ values.items) }
-    ensures ascending { IfOk result (λ ps. IsAscending (keys_of ps.items)) }
-{
-    let mut keyed = Vec::with_capacity(alloc, pairs.len())?;
-    let mut rest = values.into_iter();
-    for (key, _) in pairs.iter() {
-        match rest.next() {
-            Some(value) => keyed.push_reserved((key.clone()?, value)),
-            None => unreachable!(),
-        }
-    }
-    Ok(keyed)
 }

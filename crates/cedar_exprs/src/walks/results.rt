@@ -48,8 +48,8 @@ pub fn take_many<X: Drop>(done: &mut Vec<X>, count: usize) -> Result<Vec<X>, All
     done.split_off(done.len() - count)
 }
 
-// The keys of a map, each with one of as many values, in order.
-pub(crate) fn keyed<T, X: Drop>(
+/// The keys of a map, each with one of as many values, in order.
+pub fn keyed<T, X: Drop>(
     alloc: Global,
     pairs: &BTreeMap<RcStr, Expr<T>>,
     values: Vec<X>,
