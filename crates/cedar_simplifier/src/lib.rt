@@ -4,7 +4,6 @@
 
 mod boolean;
 mod children;
-mod extensions;
 mod kind;
 mod operations;
 mod residual;
@@ -15,7 +14,6 @@ mod simplifier;
 mod simplifier_of;
 mod tree;
 
-pub use extensions::holds_extension;
 pub use shared_value::SharedValue;
 pub use simplification::{simplify, simplify_shared};
 pub use simplified::Simplified;

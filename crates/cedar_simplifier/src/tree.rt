@@ -6,7 +6,6 @@ ghost use Rattle.cedar_exprs.specs.BareExpr.{bare_expr};
 ghost use Rattle.semantics_simplify.specs.Asks.{holds_no_call};
 
 use crate::children::{Children, Fields};
-use crate::extensions::holds_extension;
 use cedar_builders::laws::pairs_in_key_order;
 use cedar_builders::{ExprBuilder as _, ExpressionConstructionError};
 use cedar_exprs::{Expr, ExprBuilder, ExprKind};
@@ -128,9 +127,10 @@ impl Tree {
     {
         asks_by_children();
         let expr = value.to_expr(alloc)?;
+        let holds_call = value.holds_extension(alloc)?;
         Ok(Tree {
             expr,
-            calls_nothing: !holds_extension(value),
+            calls_nothing: !holds_call,
         })
     }
 

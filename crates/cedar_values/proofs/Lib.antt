@@ -23,6 +23,8 @@ pub mod WellFormedMaps
 pub mod Splits
 pub mod BoundedRests
 pub mod Displays
+pub mod WaitingValues
+pub mod HeldExtensions
 pub mod Uids
 pub mod PartialEquality
 pub mod PlainParts

@@ -1,8 +1,7 @@
 -- Entities that are put into a set, one by one.
-use Rattle.std.proofs.Common.{◌≡◌, ℕ, suc, ◌+◌, ◌<◌, Bool, true, false, ◌||◌, cond, List, [], ◌∷◌, ◌++◌, map, refl, sym, ap, ◌∙◌, arith, append-nil, Global, BTreeMap}
+use Rattle.std.proofs.Common.{◌≡◌, Bool, true, false, ◌||◌, cond, List, [], ◌∷◌, ◌++◌, map, refl, sym, ap, ◌∙◌, append-nil, Global, BTreeMap}
 use Rattle.std.proofs.Math.Bool.{or-false, or_assoc, or_comm}
 use Rattle.std.proofs.lemmas.Grind.{flat_map-append}
-use Rattle.std.proofs.lemmas.List.{map_push}
 use Rattle.std.specs.List.{flat_map}
 use Rattle.std.specs.declared.rc.Rc.{Rc}
 use Rattle.std.specs.declared.rc.RcStr.{RcStr}
@@ -13,7 +12,6 @@ use Rattle.cedar_exprs.specs.Walks.{referents}
 use Rattle.semantics_values.specs.BareValue.{RecordValue, values_of}
 use Rattle.cedar_values.specs.BareValues.{bare_value, bare_value_kind, kind_of}
 use Rattle.cedar_values.specs.Conversions.{bare_pairs}
-use Rattle.cedar_values.specs.Counts.{kind_nodes, nodes, nodes_of, pair_nodes}
 use Rattle.cedar_values.specs.LiteralUids.{Gains, HasJust, UidSet, has_uid, is_uid_of, literal_uids, members_uids, pairs_uids}
 use Rattle.cedar_values.specs.Sets.{members}
 use Rattle.cedar_values.specs.declared.set.Set as set_of
@@ -21,6 +19,7 @@ use Rattle.cedar_values.specs.declared.value.Value.{Value}
 use Rattle.cedar_values.specs.declared.value.ValueKind.{ValueKind}
 use Rattle.cedar_values.specs.declared.value.ValueKind.TheVariants as ValueOf
 use Rattle.cedar_values.proofs.Levels.{record_tree, set_tree, value_tree}
+use Rattle.cedar_values.proofs.WaitingValues.{referents_are}
 use denote.Ref.{Bor}
 
 any_append : (us vs : List BareEntityUID) (u : EntityUID) → is_uid_of (us ++ vs) u ≡ (is_uid_of us u || is_uid_of vs u)
@@ -56,62 +55,28 @@ module _ {X : Type 0} where
   abbrev pub uids_in : List (Bor (ValueKind X)) → List BareEntityUID
   uids_in ks = flat_map kind_uids (referents ks)
 
-  abbrev pub all_nodes : List (ValueKind X) → ℕ
-  all_nodes [] = 0
-  all_nodes (k ∷ ks) = kind_nodes k + all_nodes ks
-
-  all_nodes-append : (ks ls : List (ValueKind X)) → all_nodes (ks ++ ls) ≡ all_nodes ks + all_nodes ls
-  all_nodes-append [] ls = omega arith
-  all_nodes-append (k ∷ ks) ls = omega (arith, all_nodes-append ks ls)
-
-  abbrev pub nodes_in : List (Bor (ValueKind X)) → ℕ
-  nodes_in ks = all_nodes (referents ks)
-
   -- the last is taken off
   module _ (all ks : List (Bor (ValueKind X))) (k : Bor (ValueKind X)) (is : all ≡ ks ++ k ∷ []) where
-    referents_are : referents all ≡ referents ks ++ k.now ∷ []
-    referents_are = ap referents is ∙ map_push (λ x. x.now) ks k
-
     pub uids_taken : uids_in all ≡ uids_in ks ++ kind_uids k.now
-    uids_taken = ap (flat_map kind_uids) referents_are ∙ flat_map-append kind_uids (referents ks) (k.now ∷ []) ∙ ap (λ us. uids_in ks ++ us) (append-nil (kind_uids k.now))
-
-    pub nodes_taken : nodes_in all ≡ nodes_in ks + kind_nodes k.now
-    nodes_taken = ap all_nodes referents_are ∙ all_nodes-append (referents ks) (k.now ∷ []) ∙ omega arith
+    uids_taken = ap (flat_map kind_uids) (referents_are all ks k is) ∙ flat_map-append kind_uids (referents ks) (k.now ∷ []) ∙ ap (λ us. uids_in ks ++ us) (append-nil (kind_uids k.now))
 
     -- and these are put behind the others
     module _ (new : List (Bor (ValueKind X))) (more : List (ValueKind X)) (put : referents new ≡ referents ks ++ more) where
       pub uids_put : kind_uids k.now ≡ flat_map kind_uids more → uids_in all ≡ uids_in new
       uids_put h = uids_taken ∙ ap (λ us. uids_in ks ++ us) h ∙ sym (ap (flat_map kind_uids) put ∙ flat_map-append kind_uids (referents ks) more)
 
-      pub nodes_put : kind_nodes k.now ≡ suc (all_nodes more) → nodes_in new < nodes_in all
-      nodes_put h = let a = ap all_nodes put ∙ all_nodes-append (referents ks) more in omega (arith, a, h, nodes_taken)
-
   members_are : (vs : List (Value X)) → members_uids (values_of (map bare_value vs)) ≡ flat_map kind_uids (map kind_of vs)
   members_are [] = refl
   members_are (v ∷ vs) = λ i. literal_uids (value_tree v i) ++ members_are vs i
-
-  members_count : (vs : List (Value X)) → nodes_of vs ≡ all_nodes (map kind_of vs)
-  members_count [] = refl
-  members_count (v ∷ vs) = λ i. nodes (value_tree v i) + members_count vs i
 
   pairs_are : (es : List (RcStr Global × Value X)) → pairs_uids (bare_pairs es) ≡ flat_map kind_uids (map (λ e. kind_of e.1) es)
   pairs_are [] = refl
   pairs_are (e ∷ es) = λ i. literal_uids (value_tree e.1 i) ++ pairs_are es i
 
-  pairs_count : (es : List (RcStr Global × Value X)) → pair_nodes (bare_pairs es) ≡ all_nodes (map (λ e. kind_of e.1) es)
-  pairs_count [] = refl
-  pairs_count (e ∷ es) = λ i. nodes (value_tree e.1 i) + pairs_count es i
-
   module _ (k : ValueKind X) (s : set_of.Set X) (is : k ≡ ValueOf.Set s) where
     pub set_uids : kind_uids k ≡ flat_map kind_uids (map kind_of (members s))
     set_uids = ap kind_uids is ∙ ap literal_uids (set_tree s) ∙ members_are (members s)
 
-    pub set_count : kind_nodes k ≡ suc (all_nodes (map kind_of (members s)))
-    set_count = ap kind_nodes is ∙ ap nodes (set_tree s) ∙ ap suc (members_count (members s))
-
   module _ (k : ValueKind X) (m : Rc (BTreeMap (RcStr Global) (Value X)) Global) (is : k ≡ ValueOf.Record m) (es : List (RcStr Global × Value X)) (all : es ≡ m.value.entries) where
     pub record_uids : kind_uids k ≡ flat_map kind_uids (map (λ e. kind_of e.1) es)
     record_uids = ap kind_uids is ∙ ap literal_uids (record_tree m) ∙ ap (λ es. literal_uids (RecordValue (bare_pairs es))) (sym all) ∙ pairs_are es
-
-    pub record_count : kind_nodes k ≡ suc (all_nodes (map (λ e. kind_of e.1) es))
-    record_count = ap kind_nodes is ∙ ap nodes (record_tree m) ∙ ap (λ es. nodes (RecordValue (bare_pairs es))) (sym all) ∙ ap suc (pairs_count es)

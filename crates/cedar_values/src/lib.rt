@@ -6,6 +6,7 @@ mod dropping;
 mod extension_value;
 mod from_expr;
 mod hash_form;
+mod holds_extension;
 mod keys_ascend;
 pub mod laws;
 mod literal_uids;
@@ -19,6 +20,7 @@ mod set;
 mod substitution;
 mod to_expr;
 mod value;
+mod waiting;
 mod well_formed;
 
 pub use bounded_display::{BoundedDisplay, BoundedToString};

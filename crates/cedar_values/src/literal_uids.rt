@@ -1,18 +1,15 @@
 //! The entities inside a value (`value.rs`).
-ghost use Rattle.std.specs.Prelude.{◌≡◌, ◌∷◌, ◌++◌, [], IfOk, OnOk, map};
+ghost use Rattle.std.specs.Prelude.{◌∷◌, [], IfOk, OnOk};
 ghost use Rattle.cedar_terms.specs.Entities.{bare_entity_uid};
 ghost use Rattle.cedar_terms.specs.Literals.{bare_literal};
-ghost use Rattle.cedar_exprs.specs.Walks.{referents};
-ghost use Rattle.cedar_values.specs.BareValues.{bare_value, bare_value_kind, kind_of};
+ghost use Rattle.cedar_values.specs.BareValues.{bare_value, bare_value_kind};
 ghost use Rattle.cedar_values.specs.LiteralUids.{Gains, HasJust, literal_uid, literal_uids};
-ghost use Rattle.cedar_values.specs.Sets.{members};
 
-use crate::set::Set;
 use crate::value::{Value, ValueKind};
+use crate::waiting::{push_members, push_values};
 use cedar_terms::{EntityUID, Literal};
 use std::alloc::{AllocError, Global};
-use std::collections::{BTreeMap, HashSet};
-use std::rc::RcStr;
+use std::collections::HashSet;
 
 impl<X> Value<X> {
     /// The entities that are literals of the value, at any depth. What an extension value holds
@@ -45,35 +42,6 @@ impl<X> ValueKind<X> {
         }
         Ok(uids)
     }
-}
-
-// Puts the members of a set behind what waits.
-fn push_members<'a, X>(
-    waiting: &mut Vec<&'a ValueKind<X>>,
-    set: &'a Set<X>,
-) -> Result<(), AllocError>
-    ensures { OnOk result (referents waiting.new.items
-        ≡ referents waiting.old.items ++ map kind_of (members set.now)) }
-{
-    let members = set.authoritative();
-    for member in members {
-        waiting.push(member.value_kind())?;
-    }
-    Ok(())
-}
-
-// Puts the values of a record behind what waits.
-fn push_values<'a, X>(
-    waiting: &mut Vec<&'a ValueKind<X>>,
-    pairs: &'a BTreeMap<RcStr, Value<X>>,
-) -> Result<(), AllocError>
-    ensures { OnOk result (referents waiting.new.items
-        ≡ referents waiting.old.items ++ map (λ e. kind_of e.1) pairs.now.entries) }
-{
-    for (_, value) in pairs.iter() {
-        waiting.push(value.value_kind())?;
-    }
-    Ok(())
 }
 
 // Adds a literal, if it is an entity.

@@ -5,7 +5,8 @@ use Rattle.cedar_values.specs.LiteralUids.{Gains, literal_uid, literal_uids}
 use Rattle.cedar_values.specs.Sets.{members}
 use Rattle.cedar_values.specs.Counts.{kind_has_nodes}
 use Rattle.cedar_values.proofs.Levels.{extension_tree, kind_of_literal}
-use Rattle.cedar_values.proofs.Uids.{Owes, kind_uids, nodes_put, nodes_taken, put_in, record_count, record_uids, set_count, set_uids, uids_in, uids_put, uids_taken}
+use Rattle.cedar_values.proofs.Uids.{Owes, kind_uids, put_in, record_uids, set_uids, uids_in, uids_put, uids_taken}
+use Rattle.cedar_values.proofs.WaitingValues.{nodes_put, nodes_taken, record_count, set_count}
 use Rattle.cedar_values.proofs.value.ValueKind.all_literal_uids.Goals as goal
 
 pub walk-smaller-in-Continue-branch-2 : goal.walk-smaller-in-Continue-branch-2
@@ -28,7 +29,9 @@ pub walk-smaller-in-Continue-branch-3 : goal.walk-smaller-in-Continue-branch-3
 walk-smaller-in-Continue-branch-3 g c =
     let k = c.in-Some.kind in
     let s = c.in-Set.set in
-    nodes_put c.walk.waiting.items c.pop.new.self.items k c.in-Some.ensures.items c.push_members.new.waiting.items (map kind_of (members s)) c.in_ok-push_members-in-Set.ensures (set_count k.now s c.in-Set.is)
+    let ks = c.pop.new.self.items in
+    let put = nodes_put ks c.push_members.new.waiting.items (map kind_of (members s)) c.in_ok-push_members-in-Set.ensures in
+    omega (arith, put, set_count k.now s c.in-Set.is, nodes_taken c.walk.waiting.items ks k c.in-Some.ensures.items)
 
 pub walk-preserved-in-Continue-branch-3 : goal.walk-preserved-in-Continue-branch-3
 walk-preserved-in-Continue-branch-3 g c =
@@ -42,8 +45,10 @@ pub walk-smaller-in-Continue-branch-4 : goal.walk-smaller-in-Continue-branch-4
 walk-smaller-in-Continue-branch-4 g c =
     let k = c.in-Some.kind in
     let es = c.deref.result.now.entries in
-    nodes_put c.walk.waiting.items c.pop.new.self.items k c.in-Some.ensures.items c.push_values.new.waiting.items (map (λ e. kind_of e.1) es) c.in_ok-push_values-in-Record.ensures
-    (record_count k.now c.in-Record.pairs c.in-Record.is es (λ i. (c.deref.ensures i).entries))
+    let ks = c.pop.new.self.items in
+    let put = nodes_put ks c.push_values.new.waiting.items (map (λ e. kind_of e.1) es) c.in_ok-push_values-in-Record.ensures in
+    let count = record_count k.now c.in-Record.pairs c.in-Record.is es (λ i. (c.deref.ensures i).entries) in
+    omega (arith, put, count, nodes_taken c.walk.waiting.items ks k c.in-Some.ensures.items)
 
 pub walk-preserved-in-Continue-branch-4 : goal.walk-preserved-in-Continue-branch-4
 walk-preserved-in-Continue-branch-4 g c =

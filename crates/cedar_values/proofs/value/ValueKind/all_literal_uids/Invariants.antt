@@ -1,4 +1,5 @@
-use Rattle.cedar_values.proofs.Uids.{Owes, kind_uids, nodes_in, uids_in}
+use Rattle.cedar_values.proofs.Uids.{Owes, kind_uids, uids_in}
+use Rattle.cedar_values.proofs.WaitingValues.{nodes_in}
 use Rattle.cedar_values.proofs.value.ValueKind.all_literal_uids.Given as goal
 
 -- with those of what waits, all are there

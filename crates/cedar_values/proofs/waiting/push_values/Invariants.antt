@@ -1,7 +1,7 @@
 use Rattle.std.proofs.Common.{◌≡◌, ◌++◌, map}
 use Rattle.cedar_exprs.specs.Walks.{referents}
 use Rattle.cedar_values.specs.BareValues.{kind_of}
-use Rattle.cedar_values.proofs.literal_uids.push_values.Given as goal
+use Rattle.cedar_values.proofs.waiting.push_values.Given as goal
 
 -- with the values that are left, all are put
 abbrev pub invariant-loop-value : goal.invariant-loop-value

@@ -1,7 +1,7 @@
 use Rattle.std.proofs.Common.{◌≡◌, ◌++◌, map, take}
 use Rattle.cedar_exprs.specs.Walks.{referents}
 use Rattle.cedar_values.specs.BareValues.{kind_of}
-use Rattle.cedar_values.proofs.literal_uids.push_members.Given as goal
+use Rattle.cedar_values.proofs.waiting.push_members.Given as goal
 
 -- the members so far are put
 abbrev pub invariant-loop-member : goal.invariant-loop-member
