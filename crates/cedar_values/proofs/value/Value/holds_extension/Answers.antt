@@ -10,7 +10,7 @@ pub walk-smaller : goal.walk-smaller
 walk-smaller g c =
     let new = c.match-kind.waiting.items in
     let at : IsLookedAt c.walk.kind.now c.walk.waiting.items new = elim c.match-kind.branch [
-      in-Lit w ↦ literal_looked_at _ _ new w.in-Lit.field-0 w.in-Lit.is (ap (λ v. v.items) w.waiting-is)
+      | in-Lit w ↦ literal_looked_at _ _ new w.in-Lit.field-0 w.in-Lit.is (ap (λ v. v.items) w.waiting-is)
       | in-Set+in_ok-push_members-in-Set w ↦ set_looked_at _ _ new w.in-Set.set w.in-Set.is (ap (λ v. referents v.items) w.waiting-is ∙ w.in_ok-push_members-in-Set.ensures)
       | in-Record+in_ok-push_values-in-Record w ↦ record_looked_at _ _ new w.in-Record.pairs w.in-Record.is _ (λ i. (w.deref.ensures i).entries) (ap (λ v. referents v.items) w.waiting-is ∙ w.in_ok-push_values-in-Record.ensures)
     ] in
@@ -20,7 +20,7 @@ pub walk-preserved : goal.walk-preserved
 walk-preserved g c =
     let new = c.match-kind.waiting.items in
     let at : IsLookedAt c.walk.kind.now c.walk.waiting.items new = elim c.match-kind.branch [
-      in-Lit w ↦ literal_looked_at _ _ new w.in-Lit.field-0 w.in-Lit.is (ap (λ v. v.items) w.waiting-is)
+      | in-Lit w ↦ literal_looked_at _ _ new w.in-Lit.field-0 w.in-Lit.is (ap (λ v. v.items) w.waiting-is)
       | in-Set+in_ok-push_members-in-Set w ↦ set_looked_at _ _ new w.in-Set.set w.in-Set.is (ap (λ v. referents v.items) w.waiting-is ∙ w.in_ok-push_members-in-Set.ensures)
       | in-Record+in_ok-push_values-in-Record w ↦ record_looked_at _ _ new w.in-Record.pairs w.in-Record.is _ (λ i. (w.deref.ensures i).entries) (ap (λ v. referents v.items) w.waiting-is ∙ w.in_ok-push_values-in-Record.ensures)
     ] in
@@ -30,7 +30,7 @@ pub returns-in-None : goal.returns-in-None
 returns-in-None g c =
     let new = c.match-kind.waiting.items in
     let at : IsLookedAt c.walk.kind.now c.walk.waiting.items new = elim c.match-kind.branch [
-      in-Lit w ↦ literal_looked_at _ _ new w.in-Lit.field-0 w.in-Lit.is (ap (λ v. v.items) w.waiting-is)
+      | in-Lit w ↦ literal_looked_at _ _ new w.in-Lit.field-0 w.in-Lit.is (ap (λ v. v.items) w.waiting-is)
       | in-Set+in_ok-push_members-in-Set w ↦ set_looked_at _ _ new w.in-Set.set w.in-Set.is (ap (λ v. referents v.items) w.waiting-is ∙ w.in_ok-push_members-in-Set.ensures)
       | in-Record+in_ok-push_values-in-Record w ↦ record_looked_at _ _ new w.in-Record.pairs w.in-Record.is _ (λ i. (w.deref.ensures i).entries) (ap (λ v. referents v.items) w.waiting-is ∙ w.in_ok-push_values-in-Record.ensures)
     ] in
