@@ -191,9 +191,7 @@ impl<K: Clone + Ord + Hash, V: HasKey<K> + Eq + Drop> Store<K, V> {
         ensures refusal { IfErr result
             (IsRefusedStore K.cmp V.eq V.key_of V.parents_of [] entries.items) }
     {
-        let mut map = HashMap::new(alloc);
-        add_all(&mut map, entries)?;
-        Store::made(alloc, map, needs, most)
+        Store::grown(alloc, HashMap::new(alloc), entries, needs, most)
     }
 
     /// The store of its entries and of these, refused as by `of`.
@@ -212,9 +210,7 @@ impl<K: Clone + Ord + Hash, V: HasKey<K> + Eq + Drop> Store<K, V> {
         ensures refusal { IfErr result
             (IsRefusedStore K.cmp V.eq V.key_of V.parents_of self more.items) }
     {
-        let mut map = self.into_entries();
-        add_all(&mut map, more)?;
-        Store::made(alloc, map, needs, most)
+        Store::grown(alloc, self.into_entries(), more, needs, most)
     }
 
     fn into_entries(self) -> HashMap<K, V>
@@ -225,6 +221,28 @@ impl<K: Clone + Ord + Hash, V: HasKey<K> + Eq + Drop> Store<K, V> {
             hierarchy: _,
         } = self;
         entries
+    }
+
+    // The store of what a map has and of these.
+    fn grown(
+        alloc: Global,
+        map: HashMap<K, V>,
+        more: Vec<V>,
+        needs: bool,
+        most: usize,
+    ) -> Result<Store<K, V>, StoreError<K>>
+        requires { ClonesAreAlike K.cmp K.is_clone }
+        ensures added { IfOk result
+            (λ store. HasMore K.cmp V.eq V.key_of map.entries store more.items) }
+        ensures parents { IfOk result
+            (λ store. IsTrue needs → KnowsAllParents K.cmp V.parents_of store) }
+        ensures acyclic { IfOk result (HasNoCycle K.cmp V.parents_of) }
+        ensures refusal { IfErr result
+            (IsRefusedStore K.cmp V.eq V.key_of V.parents_of map.entries more.items) }
+    {
+        let mut map = map;
+        add_all(&mut map, more)?;
+        Store::made(alloc, map, needs, most)
     }
 
     // The store of what a map has.

@@ -1,8 +1,8 @@
-use Rattle.std.proofs.Common.{◌≡◌, [], Err, IfErr, sym, subst, rules}
+use Rattle.std.proofs.Common.{◌≡◌, Err, IfErr, sym, subst, rules}
 use Rattle.cedar_ancestors.specs.Hierarchies.{HasNoCycle}
-use Rattle.cedar_ancestors.specs.Stores.{HasMore, IsRefusalOfAll, IsRefusedStore, KnowsAllParents}
+use Rattle.cedar_ancestors.specs.Stores.{IsRefusedStore, KnowsAllParents}
 use Rattle.cedar_ancestors.proofs.Storing.{refused_all, refused_made, if_err_map, on_ok_map}
-use Rattle.cedar_ancestors.proofs.store.Store.of.Goals as goal
+use Rattle.cedar_ancestors.proofs.store.Store.grown.Goals as goal
 
 pub returns-in_err-add_all-clause-refusal : goal.returns-in_err-add_all-clause-refusal
 returns-in_err-add_all-clause-refusal g c =
@@ -12,9 +12,8 @@ returns-in_err-add_all-clause-refusal g c =
     let P = g.V.HasParents.parents_of in
     let error = c.in_err-add_all.field-0.0 in
     let same : c.from_residual.result ≡ Err error = search rules in
-    subst (λ r. IfErr r (IsRefusedStore R F key P [] c.args.entries.items)) (sym same)
-    (refused_all R F key P [] c.args.entries.items error
-    (subst (λ m. IsRefusalOfAll R F key m c.args.entries.items error) c.new-map.ensures.empty c.in_err-add_all.ensures.refusal))
+    subst (λ r. IfErr r (IsRefusedStore R F key P c.args.map.entries c.args.more.items)) (sym same)
+    (refused_all R F key P c.args.map.entries c.args.more.items error c.in_err-add_all.ensures.refusal)
 
 pub returns-clause-refusal : goal.returns-clause-refusal
 returns-clause-refusal g c =
@@ -23,8 +22,7 @@ returns-clause-refusal g c =
     let key = g.V.HasKey.key_of in
     let n = c.add_all.new.map.entries in
     if_err_map c.made.result
-    (refused_made R F key g.V.HasParents.parents_of [] n c.args.entries.items
-    (subst (λ m. HasMore R F key m n c.args.entries.items) c.new-map.ensures.empty c.in_ok-add_all.ensures.added))
+    (refused_made R F key g.V.HasParents.parents_of c.args.map.entries n c.args.more.items c.in_ok-add_all.ensures.added)
     c.made.ensures.refusal
 
 pub returns-clause-parents : goal.returns-clause-parents
