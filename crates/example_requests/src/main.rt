@@ -11,8 +11,10 @@ use cedar_authorizer::{
 use cedar_builders::BuildFault;
 use cedar_names::{FromNormalizedStr, Name};
 use cedar_parser::{ParseError, parse_expr};
+use cedar_printer::policy_text;
 use cedar_request::{Context, NoFunctions, Request};
 use cedar_request_evaluator::RequestEvaluator;
+use cedar_request_simplifier::simplify;
 use cedar_terms::{EntityType, EntityUID, Literal};
 use cedar_values::{NoExtension, Value, WellFormedValue};
 use std::alloc::Global;
@@ -69,6 +71,26 @@ fn main(rt: HostRuntime) -> Result<()> {
     show(&rt, &evaluator, "principal.getTag(\"team\")")?;
     show(&rt, &evaluator, "principal.hasTag(1)")?;
     show(&rt, &evaluator, "decimal(\"1.0\")")?;
+
+    // Residuals: what is known is put in, and what depends on the context stays.
+    show_residual(
+        &rt,
+        &evaluator,
+        "principal in Group::\"friends\" && context.age < 3",
+    )?;
+    show_residual(
+        &rt,
+        &evaluator,
+        "principal.getTag(\"team\") == context.team",
+    )?;
+    show_residual(
+        &rt,
+        &evaluator,
+        "if resource.owner == principal then context.mfa else false",
+    )?;
+    show_residual(&rt, &evaluator, "User::\"bob\" has age && context.mfa")?;
+    show_residual(&rt, &evaluator, "resource has owner.age || context.mfa")?;
+    show_residual(&rt, &evaluator, "resource has owner || context.mfa")?;
 
     // Decisions: while nothing is known of the context, with what is left of the policies, ..
     let policies = policies(alloc)?;
@@ -161,6 +183,19 @@ fn show(
         Err(ParseError::Syntax(error)) => println!(rt; "{error}\n{}", error.excerpt(text)),
         Err(ParseError::Memory) => println!(rt; "no memory"),
     }
+}
+
+// Prints a condition and what it is simplified to.
+fn show_residual(
+    rt: &HostRuntime,
+    evaluator: &RequestEvaluator<'_, NoExtension, Photos, NoFunctions>,
+    text: &str,
+) -> Result<()> {
+    let alloc = rt.alloc();
+    let condition = parse_expr(alloc, text)?;
+    let residual = simplify(alloc, evaluator, &condition)?.into_expr(alloc)?;
+    println!(rt; "{text} => {}", policy_text(alloc, &residual)?.text)?;
+    Ok(())
 }
 
 fn entity(alloc: Global, ty: &str, eid: &str) -> Result<Rc<EntityUID>> {
