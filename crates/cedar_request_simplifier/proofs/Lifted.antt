@@ -1,7 +1,7 @@
 -- Values without extension values are values of any type of these, with the same expression.
-use Rattle.std.proofs.Common.{◌≡◌, Bool, false, ◌||◌, refl, ap, ◌∙◌, Some}
+use Rattle.std.proofs.Common.{◌≡◌, false, ◌||◌, refl, ap, ◌∙◌}
 use Rattle.std.proofs.lemmas.Bool.{or_parts}
-use Rattle.cedar_builders.specs.BareExpr.{BareExprs, tree, BareFields, field, Set, Record}
+use Rattle.cedar_builders.specs.BareExpr.{tree, field, Set, Record}
 use Rattle.cedar_builders.specs.Environment.{Env}
 use Rattle.semantics_values.specs.BareValue.{BareCall, BareValue, LitValue, SetValue, RecordValue, ExtensionValue, BareValues, no_values, value, BarePairs, no_pairs, pair}
 use Rattle.semantics_values.specs.Laws.{BindsPlainValues}

@@ -1,20 +1,15 @@
 -- What is known of operands, and of operators on two values.
-use Rattle.std.proofs.Common.{◌≡◌, Bool, refl, sym, ap, ◌∙◌, Option, Some, None, Result, Ok, Err}
-use Rattle.std.specs.Ordering.{is_lt, is_le}
+use Rattle.std.proofs.Common.{◌≡◌, Bool, refl, Some, None, Ok, Err}
 use Rattle.std.specs.declared.cmp.Ordering.{Ordering}
-use Rattle.cedar_terms.specs.Literals.{EntityLit}
 use Rattle.cedar_terms.specs.declared.ops.BinaryOp.{BinaryOp}
 use Rattle.cedar_terms.specs.declared.ops.BinaryOp.TheVariants as Binary
-use Rattle.cedar_builders.specs.BareExpr.{Text}
-use Rattle.semantics_values.specs.BareValue.{BareValue, LitValue, RecordValue, ExtensionValue}
-use Rattle.semantics_eval.specs.Attributes.{value_at}
-use Rattle.semantics_eval.specs.Outcomes.{Fault, Open, Outcome}
+use Rattle.semantics_values.specs.BareValue.{BareValue, ExtensionValue}
+use Rattle.semantics_eval.specs.Outcomes.{Open}
 use Rattle.semantics_simplify.specs.Simplified.{Simplified, Known, Residual, outcome_of}
-use Rattle.semantics_request.specs.Entities.{Dereference, NotKnown, NoSuchEntity, Data, Entities, attribute, found_at}
+use Rattle.semantics_request.specs.Entities.{Entities}
 use Rattle.semantics_request.specs.Evaluator.{apply_by, apply_over}
 use Rattle.semantics_request.specs.Requests.{Functions}
 use Rattle.semantics_request.specs.Residuals.{plain_or_open}
-use Rattle.cedar_request_evaluator.specs.Attributes.{found_by, found_of}
 use Rattle.cedar_simplifier.specs.Simplified.{known_value, value_in}
 
 module _ {X : Type 0} where

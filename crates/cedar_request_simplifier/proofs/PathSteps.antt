@@ -1,7 +1,7 @@
 -- Paths of attributes, by what is found at each step, as far as it may be written.
 use Rattle.std.proofs.Common.{◌≡◌, ℕ, ◌+◌, ◌<◌, true, false, is_some, refl, sym, ap, ◌∙◌, List, [], ◌∷◌, length, get_or, map, drop, Option, Some, None, Ok, Err}
 use Rattle.std.proofs.lemmas.List.{drop_more}
-use Rattle.std.specs.Prelude.{ok_or, not, ◌&&◌, option_map, if◌then◌else◌}
+use Rattle.std.specs.Prelude.{ok_or}
 use Rattle.std.specs.declared.cmp.Ordering.{Ordering}
 use Rattle.cedar_terms.specs.Literals.{EntityLit}
 use Rattle.cedar_builders.specs.BareExpr.{Text}

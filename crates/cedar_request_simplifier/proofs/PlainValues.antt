@@ -1,5 +1,5 @@
 -- Values without extension values.
-use Rattle.std.proofs.Common.{◌≡◌, Bool, true, false, ap, Some, None, Ok, ◌∙◌}
+use Rattle.std.proofs.Common.{◌≡◌, Bool, true, false, ap, Ok}
 use Rattle.std.specs.Prelude.{not, ◌&&◌, if◌then◌else◌, Err}
 use Rattle.std.specs.declared.cmp.Ordering.{Ordering}
 use Rattle.semantics_values.specs.BareValue.{BareValue}
@@ -7,7 +7,6 @@ use Rattle.semantics_values.specs.ValueExpr.{has_extension}
 use Rattle.semantics_values.specs.WellFormed.{is_well_formed}
 use Rattle.semantics_eval.specs.Outcomes.{Open, Outcome}
 use Rattle.semantics_request.specs.Residuals.{plain_or_open}
-use Rattle.cedar_simplifier.specs.Simplified.{value_in}
 
 module _ {X : Type 0} (R : X → X → Ordering) (t : BareValue X) where
   abbrev chosen : Bool → Outcome X

@@ -1,4 +1,4 @@
-use Rattle.std.proofs.Common.{◌≡◌, IsTrue, Ok, ap, map, option_map, subst, sym, ◌∙◌}
+use Rattle.std.proofs.Common.{IsTrue, Ok, ap, map, option_map, subst, sym, ◌∙◌}
 use Rattle.std.specs.Option.{IfSome}
 use Rattle.std.specs.Rc.{rc_str_bytes}
 use Rattle.cedar_values.specs.BareValues.{bare_value}

@@ -1,4 +1,4 @@
-use Rattle.std.proofs.Common.{◌∙◌, ap, option_map, sym, subst, ◌≡◌}
+use Rattle.std.proofs.Common.{◌∙◌, ap, option_map, sym}
 use Rattle.cedar_builders.specs.Answers.{never}
 use Rattle.cedar_exprs.specs.BareExpr.{bare_expr}
 use Rattle.cedar_exprs.specs.RestrictedExprs.{binding_of}
