@@ -37,15 +37,15 @@ class Units(unittest.TestCase):
 
 class Ends(unittest.TestCase):
     def test_a_beginning_and_no_memory(self) -> None:
-        unit = memory.Unit("cedar_eval", "a")
+        unit = memory.Unit("cedar", "a")
         for shown in (b"", b"one\n", b"one\ntwo\n"):
-            self.assertTrue(memory.is_right(unit, run(shown, b"error: no memory\n", 6), USUAL))
-        self.assertTrue(memory.is_right(unit, run(b"", b"said\nerror: no memory\n", 6), USUAL))
+            self.assertTrue(memory.is_right(unit, run(shown, b"error: no memory\n", 3), USUAL))
+        self.assertTrue(memory.is_right(unit, run(b"", b"said\nerror: no memory\n", 3), USUAL))
         for shown, said, status in (
-            (b"two\n", b"error: no memory\n", 6),
+            (b"two\n", b"error: no memory\n", 3),
             (b"one\n", b"error: no memory\n", 2),
-            (b"one\n", b"", 6),
-            (b"one\n", b"other\nerror: no memory\n", 6),
+            (b"one\n", b"", 3),
+            (b"one\n", b"other\nerror: no memory\n", 3),
         ):
             self.assertFalse(memory.is_right(unit, run(shown, said, status), USUAL))
 
@@ -57,9 +57,9 @@ class Ends(unittest.TestCase):
         self.assertFalse(memory.is_right(unit, run(b"false\n", b"", 0), usual))
 
     def test_the_usual_end(self) -> None:
-        unit = memory.Unit("cedar_eval", "a", wanted=(["one", ".."], [], 0))
+        unit = memory.Unit("cedar", "a", wanted=(["one", ".."], [], 0))
         self.assertTrue(unit.is_usual((b"one\ntwo\n", b"", 0)))
-        self.assertFalse(unit.is_usual((b"one\ntwo\n", b"", 6)))
+        self.assertFalse(unit.is_usual((b"one\ntwo\n", b"", 3)))
         self.assertFalse(unit.is_usual((b"two\n", b"", 0)))
 
 

@@ -1,9 +1,10 @@
 //! Checks that texts can be parsed.
-use crate::evaluate::parsed;
 use crate::failure::Failure;
 use crate::inputs;
 use crate::status::Status;
+use cedar_parser::parse_expr;
 use clap::ArgMatches;
+use std::alloc::Global;
 
 const INPUTS: [&str; 3] = ["policies", "entities", "expression"];
 
@@ -24,7 +25,14 @@ pub fn run(rt: &HostRuntime, options: &ArgMatches<'_>) -> Result<Status, Failure
     }
     if options.get_str("expression").is_some() {
         let text = inputs::expression(rt, options)?;
-        drop(parsed(rt.alloc(), &text)?);
+        check_expression(rt.alloc(), &text)?;
     }
     Ok(Status::Success)
+}
+
+fn check_expression(alloc: Global, text: &str) -> Result<(), Failure> {
+    match parse_expr(alloc, text) {
+        Ok(_) => Ok(()),
+        Err(error) => Err(Failure::of_syntax("expression", text, &error)),
+    }
 }

@@ -1,59 +1,157 @@
-//! Evaluates an expression over a request.
+//! Evaluates conditions over what is known.
+use crate::answers::{self, Style};
 use crate::failure::Failure;
 use crate::inputs;
 use crate::status::Status;
-use cedar_builders::BuildFault;
-use cedar_exprs::{Expr, SubstituteValue as _};
+use cedar_bindings::Bindings;
+use cedar_conditions::{Answer, evaluate_condition};
 use cedar_functions::{BuiltinExtension, BuiltinFunctions};
 use cedar_inputs::Store;
-use cedar_parser::parse_expr;
-use cedar_printer::policy_text;
 use cedar_request::Request;
 use cedar_request_evaluator::RequestEvaluator;
 use clap::ArgMatches;
-use std::alloc::Global;
-use std::collections::HashMap;
+use std::alloc::{AllocError, Global};
 
-const INPUTS: [&str; 4] = ["expression", "entities", "request-json", "context"];
+const INPUTS: [&str; 6] = [
+    "expression",
+    "file",
+    "bind",
+    "entities",
+    "request-json",
+    "context",
+];
 
-/// Prints the value of an expression, or says why it has none.
+/// Prints the answer to a condition, or to each of several.
 pub fn run(rt: &HostRuntime, options: &ArgMatches<'_>) -> Result<Status, Failure> {
     if !inputs::reads_input_once(options, &INPUTS) {
         return Err(Failure::input_twice());
     }
-    let text = inputs::expression(rt, options)?;
-    let expr = parsed(rt.alloc(), &text)?;
-    let entities = inputs::entities(rt, options)?;
-    let request = inputs::partial_request(rt, options)?;
-    let value = value_text(rt.alloc(), &text, &expr, &entities, &request)?;
-    println!(rt; "{value}")?;
-    Ok(Status::Success)
-}
-
-/// The expression that a text is.
-pub fn parsed(alloc: Global, text: &str) -> Result<Expr, Failure> {
-    match parse_expr(alloc, text) {
-        Ok(expr) => Ok(expr),
-        Err(error) => Err(Failure::of_syntax("expression", text, &error)),
+    let known = Known::read(rt, options)?;
+    let text = inputs::condition(rt, options)?;
+    if options.get_flag("batch") {
+        answer_lines(rt, options, &text, &known)
+    } else {
+        answer_alone(rt, options, &text, &known)
     }
 }
 
-// The value of an expression, which was parsed from a text.
-fn value_text(
-    alloc: Global,
+// What is known when a condition is evaluated.
+#[derive(Drop)]
+struct Known {
+    request: Request<BuiltinExtension>,
+    entities: Store,
+    bindings: Bindings,
+}
+
+impl Known {
+    // What the options say.
+    fn read(rt: &HostRuntime, options: &ArgMatches<'_>) -> Result<Known, Failure> {
+        Ok(Known {
+            request: inputs::partial_request(rt, options)?,
+            entities: inputs::known_entities(rt, options)?,
+            bindings: inputs::bindings(rt, options)?,
+        })
+    }
+
+    // The answer to a condition.
+    fn answer(&self, alloc: Global, text: &str) -> Result<Answer, AllocError> {
+        let values = self.bindings.values();
+        let evaluator = RequestEvaluator::new(
+            &self.request,
+            &self.entities,
+            &BuiltinFunctions,
+            values,
+        );
+        evaluate_condition(alloc, text, self.bindings.named(), &evaluator)
+    }
+}
+
+// Answers one condition.
+fn answer_alone(
+    rt: &HostRuntime,
+    options: &ArgMatches<'_>,
     text: &str,
-    expr: &Expr,
-    entities: &Store,
-    request: &Request<BuiltinExtension>,
-) -> Result<String, Failure> {
-    let values = HashMap::new(alloc);
-    let evaluator = RequestEvaluator::new(request, entities, &BuiltinFunctions, &values);
-    match evaluator.evaluate(alloc, expr) {
-        Ok(outcome) => match outcome.into_result() {
-            Ok(value) => Ok(policy_text(alloc, value.value_expr(alloc)?.as_expr())?.text),
-            Err(fault) => Err(Failure::of_fault(text, &fault)),
-        },
-        Err(BuildFault::Build(refused)) => Err(Failure::of_call(alloc, &refused)),
-        Err(BuildFault::Memory) => Err(Failure::Memory),
+    known: &Known,
+) -> Result<Status, Failure> {
+    let status = answer(rt, options, "", text, known)?;
+    if status != Status::NoCondition {
+        warn_of_unused(rt, &[text], &known.bindings)?;
     }
+    Ok(status)
+}
+
+// Answers each line; a blank line and a comment have a blank answer.
+fn answer_lines(
+    rt: &HostRuntime,
+    options: &ArgMatches<'_>,
+    text: &str,
+    known: &Known,
+) -> Result<Status, Failure> {
+    let lines: Vec<&str> = text.lines().collect(rt.alloc())?;
+    let mut status = Status::Success;
+    for (at, line) in lines.iter().enumerate() {
+        if is_blank(line) {
+            println!(rt)?;
+        } else {
+            let name = format!(in rt.alloc(); "condition {}: ", at.saturating_add(1))?;
+            status = status.max(answer(rt, options, &name, line, known)?);
+        }
+    }
+    warn_of_unused(rt, &lines, &known.bindings)?;
+    Ok(status)
+}
+
+// Whether a line has no condition.
+fn is_blank(line: &str) -> bool {
+    let line = line.trim_start();
+    line.is_empty() || line.starts_with("//")
+}
+
+// Prints the answer to a condition.
+fn answer(
+    rt: &HostRuntime,
+    options: &ArgMatches<'_>,
+    name: &str,
+    text: &str,
+    known: &Known,
+) -> Result<Status, Failure> {
+    let style = Style {
+        is_json: options.get_str("format") == Some("json"),
+        is_strict: options.get_flag("strict"),
+    };
+    let answer = known.answer(rt.alloc(), text)?;
+    answers::print(rt, style, name, &answer)?;
+    let status = status_of(&answer, options.get_flag("exit-status"));
+    if !name.is_empty() && !style.is_json && is_error(status, style) {
+        println!(rt)?;
+    }
+    Ok(status)
+}
+
+// The status of an answer; `false` is told apart if `tells_false`.
+fn status_of(answer: &Answer, tells_false: bool) -> Status {
+    match answer {
+        Answer::Value(text) if tells_false && text.as_str() == "false" => Status::Deny,
+        Answer::Value(_) => Status::Success,
+        Answer::Residual(_) => Status::Unknown,
+        Answer::Fault(_) => Status::Fault,
+        Answer::NoCondition(_) => Status::NoCondition,
+    }
+}
+
+// Whether nothing of an answer went to standard output.
+fn is_error(status: Status, style: Style) -> bool {
+    match status {
+        Status::Success | Status::Deny => false,
+        Status::Unknown => style.is_strict,
+        Status::Failure | Status::Memory | Status::NoCondition | Status::Fault => true,
+    }
+}
+
+// Warns of bound names for which no condition asks.
+fn warn_of_unused(rt: &HostRuntime, texts: &[&str], bindings: &Bindings) -> Result<(), Failure> {
+    for name in bindings.unused(rt.alloc(), texts)? {
+        eprintln!(rt; "warning: {name:?} is bound, and nothing asks for it")?;
+    }
+    Ok(())
 }

@@ -3,13 +3,12 @@ ghost use Rattle.std.specs.Prelude.{◌≡◌};
 ghost use Rattle.cedar.specs.declared.failure.Failure.TheVariants.{Memory};
 
 use crate::status::Status;
-use crate::words::{fault_words, refusal_words};
 use anyhow::anyhow;
-use cedar_evaluator::{CallRefused, EvalFault, EvaluationFault};
+use cedar_bindings::BindingsError;
 use cedar_inputs::InputError;
-use cedar_parser::{Excerpt, ParseError};
+use cedar_parser::ParseError;
 use cedar_policies::LinkError;
-use std::alloc::{AllocError, AllocFailed, Global};
+use std::alloc::{AllocError, AllocFailed};
 use std::io;
 use thiserror::Error;
 
@@ -19,9 +18,6 @@ pub enum Failure {
     /// The arguments are wrong, or a file can't be read or written, or holds what it should not.
     #[error("{0}")]
     Wrong(anyhow::Error),
-    /// A value is not known, since parts of the request are not.
-    #[error("{0}")]
-    Unknown(anyhow::Error),
     /// Memory was wanted, and none was given.
     #[error("no memory")]
     Memory,
@@ -32,7 +28,6 @@ impl Failure {
     pub fn status(&self) -> Status {
         match self {
             Failure::Wrong(_) => Status::Failure,
-            Failure::Unknown(_) => Status::Unknown,
             Failure::Memory => Status::Memory,
         }
     }
@@ -77,33 +72,11 @@ impl Failure {
         }
     }
 
-    /// A condition has no value.
-    pub fn of_fault(text: &str, fault: &EvaluationFault) -> Failure {
-        let words = fault_words(fault.fault());
-        let error = match fault.source_loc() {
-            Some(loc) => {
-                let piece = Excerpt {
-                    text,
-                    start: loc.start,
-                    stop: loc.stop,
-                };
-                let line = piece.line();
-                let column = piece.column();
-                anyhow!("expression:{line}:{column}: {words}\n{piece}")
-            }
-            None => anyhow!("expression: {words}"),
-        };
-        match fault.fault() {
-            EvalFault::Open => Failure::Unknown(error),
-            _ => Failure::Wrong(error),
-        }
-    }
-
-    /// A condition calls what is no function.
-    pub fn of_call(alloc: Global, refused: &CallRefused) -> Failure {
-        match refusal_words(alloc, refused) {
-            Ok(words) => Failure::Wrong(anyhow!("expression: {words}")),
-            Err(_) => Failure::Memory,
+    /// A file or an argument binds no names.
+    pub fn of_bindings(file: &str, error: &BindingsError) -> Failure {
+        match error {
+            BindingsError::Memory => Failure::Memory,
+            _ => Failure::Wrong(anyhow!("{file}: {error}")),
         }
     }
 

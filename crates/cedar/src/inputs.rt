@@ -1,12 +1,17 @@
 //! What the program reads: arguments, files and standard input.
 use crate::failure::Failure;
+use cedar_bindings::Bindings;
+use cedar_entities::Entities;
 use cedar_functions::BuiltinExtension;
-use cedar_inputs::{RequestParts, Store, context_from_json, entities_from_json, entity_from_text};
+use cedar_inputs::{
+    InputError, RequestParts, Store, context_from_json, entities_from_json, entity_from_text,
+};
 use cedar_policies::PolicySet;
 use cedar_policy_parser::parse_policies;
 use cedar_request::{Context, Request};
 use cedar_terms::EntityUID;
 use clap::ArgMatches;
+use std::alloc::Global;
 use std::rc::Rc;
 use std::rt::Env as _;
 use std::{env, fs, io, str};
@@ -69,6 +74,43 @@ pub fn expression(rt: &HostRuntime, options: &ArgMatches<'_>) -> Result<String, 
     }
 }
 
+/// The text of a condition: that of a file, or of an argument.
+pub fn condition(rt: &HostRuntime, options: &ArgMatches<'_>) -> Result<String, Failure> {
+    match options.get_str("file") {
+        Some(file) => read(rt, file),
+        None => expression(rt, options),
+    }
+}
+
+/// What the files of `--bind` and then the arguments `--arg` bind.
+pub fn bindings(rt: &HostRuntime, options: &ArgMatches<'_>) -> Result<Bindings, Failure> {
+    let mut bindings = Bindings::new(rt.alloc());
+    for file in options.get_strs("bind").unwrap_or(&[]) {
+        bind_file(rt, file, &mut bindings)?;
+    }
+    for pair in options.get_strs("arg").unwrap_or(&[]).chunks(2) {
+        bind_argument(rt.alloc(), pair, &mut bindings)?;
+    }
+    Ok(bindings)
+}
+
+fn bind_file(rt: &HostRuntime, file: &str, bindings: &mut Bindings) -> Result<(), Failure> {
+    let text = read(rt, file)?;
+    match bindings.bind_json(rt.alloc(), &text) {
+        Ok(()) => Ok(()),
+        Err(error) => Err(Failure::of_bindings(shown(file), &error)),
+    }
+}
+
+fn bind_argument(alloc: Global, pair: &[&str], bindings: &mut Bindings) -> Result<(), Failure> {
+    if let [name, json] = pair {
+        if let Err(error) = bindings.bind_value(alloc, name, json) {
+            return Err(Failure::of_bindings("--arg", &error));
+        }
+    }
+    Ok(())
+}
+
 /// The policies of a text.
 pub fn policies(rt: &HostRuntime, source: &Source<'_>) -> Result<PolicySet, Failure> {
     match parse_policies(rt.alloc(), &source.text) {
@@ -86,6 +128,22 @@ pub fn entities(rt: &HostRuntime, options: &ArgMatches<'_>) -> Result<Store, Fai
     match entities_from_json(rt.alloc(), &text) {
         Ok(entities) => Ok(entities),
         Err(error) => Err(Failure::of_input(file, &error)),
+    }
+}
+
+/// The entities of a file; without one nothing is known of any entity.
+pub fn known_entities(rt: &HostRuntime, options: &ArgMatches<'_>) -> Result<Store, Failure> {
+    match options.get_str("entities") {
+        Some(_) => entities(rt, options),
+        None => nothing_known(rt.alloc()),
+    }
+}
+
+// The part of a store that has no entity.
+fn nothing_known(alloc: Global) -> Result<Store, Failure> {
+    match Entities::part_from_entities(alloc, Vec::new(alloc)) {
+        Ok(entities) => Ok(entities),
+        Err(error) => Err(Failure::of_input("--entities", &InputError::from(error))),
     }
 }
 
@@ -179,9 +237,9 @@ fn shown(file: &str) -> &str {
 pub fn reads_input_once(options: &ArgMatches<'_>, names: &[&str]) -> bool {
     let mut wanted: usize = 0;
     for name in names {
-        if options.get_str(name) == Some("-") {
-            wanted = wanted.saturating_add(1);
-        }
+        let values = options.get_strs(name).unwrap_or(&[]);
+        let count = values.iter().filter(|value| **value == "-").count();
+        wanted = wanted.saturating_add(count);
     }
     wanted <= 1
 }

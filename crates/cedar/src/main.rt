@@ -1,6 +1,7 @@
 //! Decides requests by policies in Cedar's syntax, and evaluates, checks, formats and links them.
 #![tactic(auto)]
 
+mod answers;
 mod authorize;
 mod check;
 mod evaluate;

@@ -9,16 +9,30 @@ Answers go to standard output, everything else to standard error. A FILE may be 
 input, once. The status is
 
     0  what was asked for was done; the request is allowed
-    1  it can't be done: options, a file, or an expression without a value
-    2  the request is denied
+    1  it can't be done: options, or a file
+    2  the request is denied; with --exit-status, the value is `false`
     3  memory ran out
-    4  the answer is not known, since parts of the request are not
+    4  the answer is not known, since parts of what decides are not
+    5  the text is no condition
+    6  the condition has a fault
 
-docs/AUTHORIZE.md has the whole.";
+docs/AUTHORIZE.md and docs/CONDITIONS.md have the whole.";
 
 const AUTHORIZE: &str = "Decides a request: prints ALLOW or DENY";
 
-const EVALUATE: &str = "Evaluates an expression over a request and entities: prints its value";
+const EVALUATE: &str = "\
+Evaluates a condition as far as its parts are known: prints its value, or its residual, a condition
+on what is not known yet";
+
+const AFTER_EVALUATE: &str = "\
+Not known are the parts of the request that are not given, unknowns that are not bound, and, without
+--entities, all that entities alone decide: `in`, attributes, tags. A residual may be evaluated again,
+once more is known. --bind binds unknowns, as `unknown(\"limit\")`, and parts of the request:
+
+    {\"principal\": \"User::\\\"alice\\\"\", \"context\": {\"mfa\": true}, \"limit\": 3}
+
+Answers go to standard output, everything else to standard error. With --batch the status is the
+greatest of the lines'.";
 
 const CHECK: &str = "Checks that policies, entities or an expression can be parsed";
 
@@ -28,10 +42,32 @@ const LINK: &str = "Prints the policy that a template is with entities in place 
 
 /// What the words of a command line ask for, behind the program's name.
 pub fn parse<'a>(alloc: Global, words: &'a [String]) -> Result<ArgMatches<'a>, Error> {
-    command(alloc)?.try_get_matches_from(words)
+    let takes_hyphens = words.iter().any(|word| begins_expression(word));
+    command(alloc, takes_hyphens)?.try_get_matches_from(words)
 }
 
-fn command<'a>(alloc: Global) -> Result<Command<'a>, AllocError> {
+// Whether a word begins with a hyphen and is no option: an expression, as in `-1 < 2`.
+fn begins_expression(word: &str) -> bool {
+    match word.strip_prefix('-') {
+        Some(rest) => {
+            let name = rest.strip_prefix('-').unwrap_or(rest);
+            !name.is_empty() && !is_option_name(name)
+        }
+        None => false,
+    }
+}
+
+// Whether a word behind hyphens may be the name of an option, with a value behind `=`.
+fn is_option_name(name: &str) -> bool {
+    let name = match name.split_once('=') {
+        Some((name, _)) => name,
+        None => name,
+    };
+    name.bytes()
+        .all(|byte| byte == b'-' || byte.is_ascii_alphabetic())
+}
+
+fn command<'a>(alloc: Global, takes_hyphens: bool) -> Result<Command<'a>, AllocError> {
     Command::new(alloc, "cedar")
         .no_binary_name(true)
         .version("1.0.0, policies as in Cedar 4.14.1")
@@ -39,7 +75,7 @@ fn command<'a>(alloc: Global) -> Result<Command<'a>, AllocError> {
         .after_help(AFTER)
         .subcommand_required(true)
         .subcommand(authorize(alloc)?)?
-        .subcommand(evaluate(alloc)?)?
+        .subcommand(evaluate(alloc, takes_hyphens)?)?
         .subcommand(check(alloc)?)?
         .subcommand(format(alloc)?)?
         .subcommand(link(alloc)?)
@@ -66,12 +102,74 @@ const JSON: &str = "Prints decision, reasons and errors as one JSON object";
 const PARTIAL: &str = "\
 What is not given of the request is not known: maybe prints UNKNOWN and the residual policies";
 
-fn evaluate<'a>(alloc: Global) -> Result<Command<'a>, AllocError> {
+fn evaluate<'a>(alloc: Global, takes_hyphens: bool) -> Result<Command<'a>, AllocError> {
+    let expression = expression(alloc)
+        .allow_hyphen_values(takes_hyphens)
+        .required_unless_present("file")?;
     let command = Command::new(alloc, "evaluate")
         .about(EVALUATE)
-        .arg(expression(alloc).required(true).allow_hyphen_values(true))?;
-    with_request(alloc, command)
+        .after_help(AFTER_EVALUATE)
+        .arg(expression)?
+        .arg(condition_file(alloc)?)?;
+    with_answers(alloc, with_bindings(alloc, with_request(alloc, command)?)?)
 }
+
+fn condition_file<'a>(alloc: Global) -> Result<Arg<'a>, AllocError> {
+    file(alloc, "file", "The condition, as a file holds it")
+        .short('f')
+        .conflicts_with("expression")
+}
+
+// The options that bind names.
+fn with_bindings<'a>(alloc: Global, command: Command<'a>) -> Result<Command<'a>, AllocError> {
+    command
+        .arg(
+            file(alloc, "bind", BIND)
+                .short('b')
+                .action(ArgAction::Append),
+        )?
+        .arg(bound_name(alloc))
+}
+
+const BIND: &str = "What names stand for, as a JSON object; several times";
+
+const NAME_AND_JSON: [&str; 2] = ["NAME", "JSON"];
+
+fn bound_name<'a>(alloc: Global) -> Arg<'a> {
+    Arg::new(alloc, "arg")
+        .long("arg")
+        .value_names(&NAME_AND_JSON)
+        .num_args(2)
+        .allow_hyphen_values(true)
+        .action(ArgAction::Append)
+        .help("What a name stands for; counts over --bind; several times")
+}
+
+// The options that say how answers are given.
+fn with_answers<'a>(alloc: Global, command: Command<'a>) -> Result<Command<'a>, AllocError> {
+    command
+        .arg(format_of_answers(alloc))?
+        .arg(flag(alloc, "batch", BATCH))?
+        .arg(flag(alloc, "strict", STRICT))?
+        .arg(flag(alloc, "exit-status", EXIT_STATUS))
+}
+
+const FORMATS: [&str; 2] = ["text", "json"];
+
+fn format_of_answers<'a>(alloc: Global) -> Arg<'a> {
+    Arg::new(alloc, "format")
+        .long("format")
+        .value_name("FORMAT")
+        .value_parser(FORMATS.as_slice())
+        .default_value("text")
+        .help("How answers are printed; as JSON each is one, faults and syntax errors too")
+}
+
+const BATCH: &str = "Each line of the expression is a condition; prints a line for each";
+
+const STRICT: &str = "What is not known is an error";
+
+const EXIT_STATUS: &str = "The status is 2 if the value is `false`";
 
 fn check<'a>(alloc: Global) -> Result<Command<'a>, AllocError> {
     Command::new(alloc, "check-parse")

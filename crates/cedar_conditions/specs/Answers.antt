@@ -1,21 +1,20 @@
 -- What the answer to a condition says.
-use Rattle.std.specs.Prelude.{◌≡◌, ◌≢◌, Bool, Ok, Err, string_bytes, ⊤}
+use Rattle.std.specs.Prelude.{◌≡◌, Bool, Result, Ok, Err, string_bytes, ⊤}
 use Rattle.std.specs.declared.cmp.Ordering.{Ordering}
+use Rattle.cedar_names.specs.Names.{BareName}
 use Rattle.cedar_terms.specs.declared.precedence.Precedence.{Precedence}
 use Rattle.cedar_builders.specs.BareExpr.{Text, BareExpr}
-use Rattle.cedar_builders.specs.Environment.{Env, empty, fold}
-use Rattle.semantics_values.specs.BareValue.{BareValue}
+use Rattle.cedar_builders.specs.Environment.{empty, fold}
+use Rattle.semantics_values.specs.BareValue.{BareCall, BareValue}
 use Rattle.semantics_values.specs.ValueExpr.{value_expr}
-use Rattle.cedar_values.specs.Holders.{NoExtension, held_call}
-use Rattle.semantics_eval.specs.Evaluator.{evaluator_ops}
-use Rattle.semantics_eval.specs.Outcomes.{Mistake, By}
+use Rattle.semantics_eval.specs.Outcomes.{Mistake, Open, By, Outcome}
 use Rattle.semantics_simplify.specs.Simplified.{tree_of}
-use Rattle.semantics_simplify.specs.Simplifier.{simplified_in}
 use Rattle.semantics_printing.specs.PolicyTexts.{policy_text_ops}
+use Rattle.semantics_request.specs.Evaluator.{evaluated}
+use Rattle.semantics_request.specs.Requests.{Functions, Knowledge}
+use Rattle.semantics_request.specs.Residuals.{residual}
 use Rattle.cedar_parser.specs.Meant.{IsParse}
-use Rattle.cedar_bindings.specs.Bindings.{env_in, names_in}
-use Rattle.cedar_bindings.specs.Names.{named}
-use Rattle.cedar_bindings.specs.declared.bindings.Bindings.{Bindings}
+use Rattle.cedar_bindings.specs.Names.{Names, named}
 use Rattle.cedar_conditions.specs.declared.answer.Answer.{Answer}
 use Rattle.cedar_conditions.specs.declared.answer.Answer.TheVariants.{Value, Residual, Fault, NoCondition}
 
@@ -23,35 +22,44 @@ use Rattle.cedar_conditions.specs.declared.answer.Answer.TheVariants.{Value, Res
 abbrev pub IsTextOf : BareExpr → Text → Type 0
 IsTextOf e s = (p : Precedence) × (fold policy_text_ops empty e ≡ Ok (s, p))
 
--- the answer is the text of a value
-abbrev pub IsValueText : BareValue NoExtension → Answer → Type 0
-IsValueText v (Value s) = IsTextOf (value_expr held_call v) (string_bytes s)
-IsValueText v (Residual r) = ⊥
-IsValueText v (Fault p) = ⊥
-IsValueText v (NoCondition p) = ⊥
+-- nothing is decided: a part is not known, or a call is refused
+abbrev pub IsUndecided : {X : Type 0} → Result (Outcome X) BareName → Type 0
+IsUndecided (Ok (Ok v)) = ⊥
+IsUndecided (Ok (Err Open)) = ⊤
+IsUndecided (Ok (Err (By m))) = ⊥
+IsUndecided (Err n) = ⊤
 
-module _ (R : NoExtension → NoExtension → Ordering) (E : NoExtension → NoExtension → Bool) where
-  -- the evaluator gives no value
-  abbrev pub HasNoValue : Env → BareExpr → Type 0
-  HasNoValue env e =
-      (v : BareValue NoExtension) → fold (evaluator_ops R E) env e ≢ Ok (Ok v)
+-- the answer is the text of a value, where C says the canonical call of an extension value
+abbrev pub IsValueText : {X : Type 0} → (X → BareCall) → BareValue X → Answer → Type 0
+IsValueText C v (Value s) = IsTextOf (value_expr C v) (string_bytes s)
+IsValueText C v (Residual r) = ⊥
+IsValueText C v (Fault p) = ⊥
+IsValueText C v (NoCondition p) = ⊥
 
-  -- the answer to a tree: the text of the value that it evaluates to; where it has none, what
-  -- simplifying it leaves; or the mistake that evaluation meets
-  abbrev pub IsAnswerOf : Env → BareExpr → Answer → Type 0
-  IsAnswerOf env e (Value s) =
-      (v : BareValue NoExtension)
-      × (fold (evaluator_ops R E) env e ≡ Ok (Ok v)) × IsValueText v (Value s)
-  IsAnswerOf env e (Residual r) =
-      HasNoValue env e
-      × IsTextOf (tree_of held_call (simplified_in R E held_call env e)) (string_bytes r.text)
-  IsAnswerOf env e (Fault p) =
-      (m : Mistake) × (fold (evaluator_ops R E) env e ≡ Ok (Err (By m)))
-  IsAnswerOf env e (NoCondition p) = ⊥
+-- the answer is that the text is no condition
+abbrev pub IsNoCondition : Answer → Type 0
+IsNoCondition (NoCondition p) = ⊤
+IsNoCondition (Value s) = ⊥
+IsNoCondition (Residual r) = ⊥
+IsNoCondition (Fault p) = ⊥
 
-  -- the answer to a text: that of a tree which the text stands for, in which each name that is
-  -- bound stands for what it is bound to; or that the text is no condition
-  abbrev pub IsAnswerTo : Bindings → Text → Answer → Type 0
-  IsAnswerTo b text (NoCondition p) = ⊤
-  IsAnswerTo b text a =
-      (e : BareExpr) × IsParse text e × IsAnswerOf (env_in b) (named (names_in b) e) a
+-- R and E are the order and the equality of extension values, T is the table of functions, and k is
+-- what is known
+module _ {X : Type 0} (R : X → X → Ordering) (E : X → X → Bool) (C : X → BareCall) (T : Functions X)
+    (k : Knowledge X) where
+  -- the answer to a tree: the text of its value, the mistake that evaluation meets, or, where
+  -- nothing is decided, the text of its residual
+  abbrev pub IsAnswerOf : BareExpr → Answer → Type 0
+  IsAnswerOf e (Value s) =
+      (v : BareValue X) × (evaluated R E T k e ≡ Ok (Ok v)) × IsValueText C v (Value s)
+  IsAnswerOf e (Residual r) =
+      IsUndecided (evaluated R E T k e)
+      × IsTextOf (tree_of C (residual R E C k e)) (string_bytes r.text)
+  IsAnswerOf e (Fault p) = (m : Mistake) × (evaluated R E T k e ≡ Ok (Err (By m)))
+  IsAnswerOf e (NoCondition p) = ⊥
+
+  -- the answer to a text: that of a tree which the text stands for, in which each variable and each
+  -- unknown is what its name stands for; or that the text is no condition
+  abbrev pub IsAnswerTo : Names → Text → Answer → Type 0
+  IsAnswerTo names text (NoCondition p) = ⊤
+  IsAnswerTo names text a = (e : BareExpr) × IsParse text e × IsAnswerOf (named names e) a

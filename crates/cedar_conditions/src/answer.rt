@@ -1,17 +1,16 @@
 //! The answer to a condition.
-ghost use Rattle.std.specs.Prelude.{◌≡◌, ◌≢◌, Err, IfOk, IfSome, Ok};
-ghost use Rattle.cedar_builders.specs.Environment.{fold};
+ghost use Rattle.std.specs.Prelude.{◌≡◌, Err, IfOk, Ok};
 ghost use Rattle.cedar_exprs.specs.BareExpr.{bare_expr};
 ghost use Rattle.cedar_values.specs.BareValues.{bare_value};
-ghost use Rattle.semantics_eval.specs.Evaluator.{evaluator_ops};
+ghost use Rattle.semantics_request.specs.Evaluator.{evaluated};
 ghost use Rattle.cedar_evaluator.specs.Outcomes.{bare_fault, bare_outcome, fault_in, unplaced};
-ghost use Rattle.cedar_evaluator.specs.declared.fault.EvalFault.TheVariants.{Open};
-ghost use Rattle.cedar_bindings.specs.Bindings.{env_in, names_in};
-ghost use Rattle.cedar_bindings.specs.Names.{named};
+ghost use Rattle.cedar_request_evaluator.specs.Knowledge.{functions_of, knowledge_of};
+ghost use Rattle.cedar_bindings.specs.Names.{named, names_of};
 ghost use Rattle.cedar_conditions.specs.Answers.{
-  HasNoValue,
   IsAnswerOf,
   IsAnswerTo,
+  IsNoCondition,
+  IsUndecided,
   IsValueText,
 };
 
@@ -21,16 +20,20 @@ use crate::hints::syntax_words;
 use crate::problem::Problem;
 use crate::size::{Node, nodes_of, too_deep};
 use crate::unknowns::unknowns_of;
-use cedar_bindings::{Bindings, put_names};
+use cedar_bindings::put_names;
 use cedar_builders::BuildFault;
-use cedar_evaluator::{EvaluationFault, evaluate_shared};
+use cedar_evaluator::{EvalFault, EvaluationFault};
 use cedar_exprs::Expr;
 use cedar_parser::{Excerpt, ParseError, SyntaxError, parse_expr};
 use cedar_printer::policy_text;
-use cedar_simplifier::simplify_shared;
-use cedar_values::{NoExtension, Value};
+use cedar_request::{CallableFunctions, EntityStore};
+use cedar_request_evaluator::RequestEvaluator;
+use cedar_request_simplifier::simplify;
+use cedar_values::{ExtensionValue, Value};
 use std::alloc::{AllocError, Global};
+use std::collections::HashMap;
 use std::fmt;
+use std::rc::RcStr;
 
 /// What comes of a condition.
 #[derive(Debug, Drop)]
@@ -39,7 +42,7 @@ pub enum Answer {
     Value(String),
     /// Its residual, where parts are not known.
     Residual(Residual),
-    /// The fault which it has whatever else is bound.
+    /// The fault which it has whatever else comes to be known.
     Fault(Problem),
     /// Why the text is no condition.
     NoCondition(Problem),
@@ -51,8 +54,7 @@ pub struct Residual {
     /// A condition again, as `policy_text` writes it.
     pub text: String,
     /// What it asks for that is not known, each once, in ascending order: `context`,
-    /// `?principal`, `unknown("limit")`; `entities`, for what the store of entities alone knows;
-    /// `ip(..)`, for a function.
+    /// `?principal`, `unknown("limit")`; `entities`, for what the store of entities alone knows.
     pub unknowns: Vec<String>,
 }
 
@@ -66,34 +68,36 @@ impl fmt::Display for Answer {
     }
 }
 
-/// The answer to a condition, where some names are bound.
+/// The answer to a condition by what an evaluator knows, where `names` says what variables and
+/// unknowns stand for.
 ///
 /// ```rust
-/// fn is_allowed(alloc: Global, bindings: &Bindings) -> Result<bool, AllocError> {
-///     let answer = evaluate_condition(alloc, "principal == resource.owner", bindings)?;
-///     Ok(matches!(&answer, Answer::Value(text) if text == "true"))
-/// }
+/// let evaluator = RequestEvaluator::new(&request, &entities, &BuiltinFunctions, bindings.values());
+/// let text = "principal in resource.viewers";
+/// let answer = evaluate_condition(alloc, text, bindings.named(), &evaluator)?;
 /// ```
 ///
-/// It is what the condition's tree evaluates to, in which each bound name stands for what it is
-/// bound to; or the residual that simplifying the tree leaves. A call of what is no function or
+/// It is what the condition's tree evaluates to, in which each name stands for what it is bound to;
+/// or, where a part of it is not known, the residual of the tree. A call of what is no function or
 /// method of Cedar makes a text no condition, and so do sets and records that nest more than 1,000
 /// deep.
 #[tactic(auto, using(crate::proofs::Answering::answer_to))]
-pub fn evaluate_condition(
+pub fn evaluate_condition<X: ExtensionValue + Ord, S: EntityStore<X>, T: CallableFunctions<X>>(
     alloc: Global,
     text: &str,
-    bindings: &Bindings,
+    names: &HashMap<RcStr, Expr>,
+    evaluator: &RequestEvaluator<'_, X, S, T>,
 ) -> Result<Answer, AllocError>
-    ensures { IfOk result (IsAnswerTo ⟦<NoExtension as Ord>⟧.cmp ⟦<NoExtension as PartialEq>⟧.eq
-        bindings.now text.now) }
+    ensures { IfOk result (IsAnswerTo X.cmp X.eq X.canonical
+        (functions_of T.bare_functions evaluator.now) (knowledge_of S.bare_entities evaluator.now)
+        (names_of names.now) text.now) }
 {
     match parse_expr(alloc, text) {
         Ok(parsed) => match refused(alloc, text, &parsed)? {
             Some(problem) => Ok(Answer::NoCondition(problem)),
-            None => answer_parsed(alloc, text, &parsed, bindings),
+            None => answer_parsed(alloc, text, &parsed, names, evaluator),
         },
-        Err(ParseError::Syntax(error)) => no_condition(alloc, text, &error, bindings),
+        Err(ParseError::Syntax(error)) => no_condition(alloc, text, &error, names),
         Err(ParseError::Memory) => Err(AllocError),
     }
 }
@@ -102,12 +106,11 @@ fn no_condition(
     alloc: Global,
     text: &str,
     error: &SyntaxError,
-    bindings: &Bindings,
+    names: &HashMap<RcStr, Expr>,
 ) -> Result<Answer, AllocError>
-    ensures { IfOk result (IsAnswerTo ⟦<NoExtension as Ord>⟧.cmp ⟦<NoExtension as PartialEq>⟧.eq
-        bindings.now text.now) }
+    ensures { IfOk result IsNoCondition }
 {
-    let words = syntax_words(alloc, text, error, bindings)?;
+    let words = syntax_words(alloc, text, error, names)?;
     Ok(Answer::NoCondition(Problem::new(alloc, error.excerpt(text), words)?))
 }
 
@@ -135,119 +138,127 @@ fn refused_node(alloc: Global, text: &str, node: Node<'_>) -> Result<Option<Prob
 }
 
 // The answer to what a text was parsed as.
-fn answer_parsed(
+fn answer_parsed<X: ExtensionValue + Ord, S: EntityStore<X>, T: CallableFunctions<X>>(
     alloc: Global,
     text: &str,
     parsed: &Expr,
-    bindings: &Bindings,
+    names: &HashMap<RcStr, Expr>,
+    evaluator: &RequestEvaluator<'_, X, S, T>,
 ) -> Result<Answer, AllocError>
-    ensures { IfOk result (IsAnswerOf ⟦<NoExtension as Ord>⟧.cmp ⟦<NoExtension as PartialEq>⟧.eq
-        (env_in bindings.now) (named (names_in bindings.now) (bare_expr parsed.now))) }
+    ensures { IfOk result (IsAnswerOf X.cmp X.eq X.canonical
+        (functions_of T.bare_functions evaluator.now) (knowledge_of S.bare_entities evaluator.now)
+        (named (names_of names.now) (bare_expr parsed.now))) }
 {
-    let expr = put_names(alloc, parsed, bindings.named())?;
-    answer_expr(alloc, text, &expr, bindings)
+    let expr = put_names(alloc, parsed, names)?;
+    answer_expr(alloc, text, &expr, evaluator)
 }
 
 // The answer to an expression.
-#[tactic(auto, using(crate::proofs::Answering::no_value_by_call))]
-fn answer_expr(
+#[tactic(auto, using(crate::proofs::Answering::undecided_by_call))]
+fn answer_expr<X: ExtensionValue + Ord, S: EntityStore<X>, T: CallableFunctions<X>>(
     alloc: Global,
     text: &str,
     expr: &Expr,
-    bindings: &Bindings,
+    evaluator: &RequestEvaluator<'_, X, S, T>,
 ) -> Result<Answer, AllocError>
-    ensures { IfOk result (IsAnswerOf ⟦<NoExtension as Ord>⟧.cmp ⟦<NoExtension as PartialEq>⟧.eq
-        (env_in bindings.now) (bare_expr expr.now)) }
+    ensures { IfOk result (IsAnswerOf X.cmp X.eq X.canonical
+        (functions_of T.bare_functions evaluator.now) (knowledge_of S.bare_entities evaluator.now)
+        (bare_expr expr.now)) }
 {
-    match evaluate_shared(alloc, expr, bindings.values()) {
-        Ok(outcome) => answer_outcome(alloc, text, expr, outcome.into_result(), bindings),
-        Err(BuildFault::Build(_)) => answer_residual(alloc, expr, bindings),
+    match evaluator.evaluate(alloc, expr) {
+        Ok(outcome) => answer_outcome(alloc, text, expr, outcome.into_result(), evaluator),
+        Err(BuildFault::Build(_)) => answer_residual(alloc, expr, evaluator),
         Err(BuildFault::Memory) => Err(AllocError),
     }
 }
 
 // The answer to an expression that has this outcome.
 #[tactic(auto, using(crate::proofs::Answering::value_answer))]
-fn answer_outcome(
+fn answer_outcome<X: ExtensionValue + Ord, S: EntityStore<X>, T: CallableFunctions<X>>(
     alloc: Global,
     text: &str,
     expr: &Expr,
-    outcome: Result<Value, EvaluationFault>,
-    bindings: &Bindings,
+    outcome: Result<Value<X>, EvaluationFault>,
+    evaluator: &RequestEvaluator<'_, X, S, T>,
 ) -> Result<Answer, AllocError>
-    ensures { fold (evaluator_ops ⟦<NoExtension as Ord>⟧.cmp ⟦<NoExtension as PartialEq>⟧.eq)
-        (env_in bindings.now) (bare_expr expr.now) ≡ Ok (bare_outcome (unplaced outcome))
-        → IfOk result (IsAnswerOf ⟦<NoExtension as Ord>⟧.cmp ⟦<NoExtension as PartialEq>⟧.eq
-        (env_in bindings.now) (bare_expr expr.now)) }
+    ensures { let F = functions_of T.bare_functions evaluator.now in
+        let k = knowledge_of S.bare_entities evaluator.now in
+        evaluated X.cmp X.eq F k (bare_expr expr.now) ≡ Ok (bare_outcome (unplaced outcome))
+        → IfOk result (IsAnswerOf X.cmp X.eq X.canonical F k (bare_expr expr.now)) }
 {
     match outcome {
         Ok(value) => answer_value(alloc, &value),
-        Err(fault) => answer_fault(alloc, text, expr, &fault, bindings),
+        Err(fault) => answer_fault(alloc, text, expr, &fault, evaluator),
     }
 }
 
-fn answer_value(alloc: Global, value: &Value) -> Result<Answer, AllocError>
-    ensures { IfOk result (IsValueText (bare_value value.now)) }
+fn answer_value<X: ExtensionValue + Ord>(
+    alloc: Global,
+    value: &Value<X>,
+) -> Result<Answer, AllocError>
+    ensures { IfOk result (IsValueText X.canonical (bare_value value.now)) }
 {
     let expr = value.to_expr(alloc)?;
     Ok(Answer::Value(policy_text(alloc, &expr)?.text))
 }
 
-// The answer to an expression that has this fault: the fault, or what is left, where it may be
-// taken away.
-#[tactic(auto, using(crate::proofs::Answering::fault_answer, crate::proofs::Answering::no_value_by_fault))]
-fn answer_fault(
+// The answer to an expression that has this fault.
+#[tactic(auto, using(crate::proofs::Answering::fault_answer, crate::proofs::Answering::undecided_by_fault))]
+fn answer_fault<X: ExtensionValue + Ord, S: EntityStore<X>, T: CallableFunctions<X>>(
     alloc: Global,
     text: &str,
     expr: &Expr,
     fault: &EvaluationFault,
-    bindings: &Bindings,
+    evaluator: &RequestEvaluator<'_, X, S, T>,
 ) -> Result<Answer, AllocError>
-    ensures { fold (evaluator_ops ⟦<NoExtension as Ord>⟧.cmp ⟦<NoExtension as PartialEq>⟧.eq)
-        (env_in bindings.now) (bare_expr expr.now) ≡ Ok (Err (bare_fault (fault_in fault.now)))
-        → IfOk result (IsAnswerOf ⟦<NoExtension as Ord>⟧.cmp ⟦<NoExtension as PartialEq>⟧.eq
-        (env_in bindings.now) (bare_expr expr.now)) }
+    ensures { let F = functions_of T.bare_functions evaluator.now in
+        let k = knowledge_of S.bare_entities evaluator.now in
+        evaluated X.cmp X.eq F k (bare_expr expr.now) ≡ Ok (Err (bare_fault (fault_in fault.now)))
+        → IfOk result (IsAnswerOf X.cmp X.eq X.canonical F k (bare_expr expr.now)) }
 {
-    match fault_problem(alloc, text, expr, fault, bindings)? {
-        Some(problem) => Ok(Answer::Fault(problem)),
-        None => answer_residual(alloc, expr, bindings),
+    match fault.fault() {
+        EvalFault::Open => answer_residual(alloc, expr, evaluator),
+        EvalFault::WrongType | EvalFault::Overflow | EvalFault::Missing | EvalFault::Store => {
+            Ok(Answer::Fault(fault_problem(alloc, text, expr, fault, evaluator)?))
+        }
     }
 }
 
 // The residual of what has no value yet.
-fn answer_residual(alloc: Global, expr: &Expr, bindings: &Bindings) -> Result<Answer, AllocError>
-    ensures { HasNoValue ⟦<NoExtension as Ord>⟧.cmp ⟦<NoExtension as PartialEq>⟧.eq
-        (env_in bindings.now) (bare_expr expr.now)
-        → IfOk result (IsAnswerOf ⟦<NoExtension as Ord>⟧.cmp ⟦<NoExtension as PartialEq>⟧.eq
-        (env_in bindings.now) (bare_expr expr.now)) }
+fn answer_residual<X: ExtensionValue + Ord, S: EntityStore<X>, T: CallableFunctions<X>>(
+    alloc: Global,
+    expr: &Expr,
+    evaluator: &RequestEvaluator<'_, X, S, T>,
+) -> Result<Answer, AllocError>
+    ensures { let F = functions_of T.bare_functions evaluator.now in
+        let k = knowledge_of S.bare_entities evaluator.now in
+        IsUndecided (evaluated X.cmp X.eq F k (bare_expr expr.now))
+        → IfOk result (IsAnswerOf X.cmp X.eq X.canonical F k (bare_expr expr.now)) }
 {
-    let residual = simplify_shared(alloc, expr, bindings.values())?.into_expr(alloc)?;
+    let residual = simplify(alloc, evaluator, expr)?.into_expr(alloc)?;
     Ok(Answer::Residual(Residual {
         text: policy_text(alloc, &residual)?.text,
         unknowns: unknowns_of(alloc, &residual)?,
     }))
 }
 
-// A fault with its place in the text, if no binding and no store of entities takes it away.
-fn fault_problem(
+// A fault with its place in the text.
+fn fault_problem<X: ExtensionValue + Ord, S: EntityStore<X>, T: CallableFunctions<X>>(
     alloc: Global,
     text: &str,
     expr: &Expr,
     fault: &EvaluationFault,
-    bindings: &Bindings,
-) -> Result<Option<Problem>, AllocError>
-    ensures { IfOk result (λ found. IfSome found (λ _. fault_in fault.now ≢ Open)) }
-{
-    let Some(place) = fault.source_loc().or(expr.source_loc()) else {
-        return Ok(None);
+    evaluator: &RequestEvaluator<'_, X, S, T>,
+) -> Result<Problem, AllocError> {
+    let words = fault_words(alloc, expr, fault, evaluator)?;
+    Problem::new(alloc, fault_piece(text, expr, fault), words)
+}
+
+// The piece of a text at which a fault came up.
+fn fault_piece<'a>(text: &'a str, expr: &Expr, fault: &EvaluationFault) -> Excerpt<'a> {
+    let (start, stop) = match fault.source_loc().or(expr.source_loc()) {
+        Some(place) => (place.start, place.stop),
+        None => (0, text.len()),
     };
-    let piece = Excerpt {
-        text,
-        start: place.start,
-        stop: place.stop,
-    };
-    match fault_words(alloc, expr, fault.fault(), place, bindings)? {
-        Some(words) => Ok(Some(Problem::new(alloc, piece, words)?)),
-        None => Ok(None),
-    }
+    Excerpt { text, start, stop }
 }

@@ -1,16 +1,14 @@
-//! Faults in words: which type was found and which is wanted, which attribute is missing.
-ghost use Rattle.std.specs.Prelude.{◌≡◌, IfOk, None};
-ghost use Rattle.cedar_evaluator.specs.declared.fault.EvalFault.TheVariants.{Open};
-
+//! Faults in words: which type was found and which is wanted, what is missing.
 use crate::problem::Words;
-use cedar_bindings::Bindings;
 use cedar_builders::BuildFault;
-use cedar_evaluator::{EvalFault, evaluate_shared};
+use cedar_evaluator::{EvalFault, EvaluationFault};
 use cedar_exprs::{Expr, ExprKind};
 use cedar_json::did_you_mean;
-use cedar_names::{Loc, NonEmpty};
+use cedar_names::{Loc, Name, NonEmpty};
+use cedar_request::{CallableFunctions, EntityStore};
+use cedar_request_evaluator::RequestEvaluator;
 use cedar_terms::{BinaryOp, Literal, UnaryOp};
-use cedar_values::{Value, ValueKind};
+use cedar_values::{ExtensionValue, Value, ValueKind};
 use std::alloc::{AllocError, Global};
 use std::collections::BTreeMap;
 use std::rc::RcStr;
@@ -61,7 +59,7 @@ impl Type {
         }
     }
 
-    fn of(value: &Value) -> Type {
+    fn of<X: Ord>(value: &Value<X>) -> Type {
         match value.value_kind() {
             ValueKind::Lit(Literal::Bool(_)) => Type::Boolean,
             ValueKind::Lit(Literal::Long(_)) => Type::Integer,
@@ -74,53 +72,34 @@ impl Type {
     }
 }
 
-/// A fault in words, if no binding and no store of entities takes it away. It came up in an
-/// expression, at this place.
-///
-/// What the store alone could answer is such a fault too if an operand has a type for which no
-/// store has an answer: the operands are evaluated already, so the type of one is the first fault.
-pub(crate) fn fault_words(
+/// A fault in words, which no more knowledge takes away. It came up in an expression.
+pub(crate) fn fault_words<X: ExtensionValue + Ord, S: EntityStore<X>, T: CallableFunctions<X>>(
     alloc: Global,
     expr: &Expr,
-    fault: EvalFault,
-    place: &Loc,
-    bindings: &Bindings,
-) -> Result<Option<Words>, AllocError>
-    ensures { fault ≡ Open → IfOk result (λ words. words ≡ None) }
-{
-    match fault {
-        EvalFault::Open => Ok(None),
-        _ => mistake_words(alloc, expr, fault, place, bindings),
-    }
-}
-
-fn mistake_words(
-    alloc: Global,
-    expr: &Expr,
-    fault: EvalFault,
-    place: &Loc,
-    bindings: &Bindings,
-) -> Result<Option<Words>, AllocError> {
-    for node in expr.subexpressions(alloc)? {
-        if stands_at(node, place) {
-            if let Some(words) = node_words(alloc, node, fault, bindings)? {
-                return Ok(Some(words));
+    fault: &EvaluationFault,
+    evaluator: &RequestEvaluator<'_, X, S, T>,
+) -> Result<Words, AllocError> {
+    if let Some(place) = fault.source_loc() {
+        for node in expr.subexpressions(alloc)? {
+            if stands_at(node, place) {
+                let told = node_words(alloc, node, fault.fault(), evaluator)?;
+                if let Some(words) = told {
+                    return Ok(words);
+                }
             }
         }
     }
-    match general_words(fault) {
-        Some(general) => Ok(Some(Words::message(String::from_str(alloc, general)?))),
-        None => Ok(None),
-    }
+    Ok(Words::message(String::from_str(alloc, general_words(fault.fault()))?))
 }
 
-// What is told of a fault that no binding takes away, wherever it comes up.
-fn general_words(fault: EvalFault) -> Option<&'static str> {
+// What is told of a fault, wherever it comes up.
+fn general_words(fault: EvalFault) -> &'static str {
     match fault {
-        EvalFault::WrongType => Some("a value has the wrong type"),
-        EvalFault::Overflow => Some("an integer is outside 64 bits"),
-        EvalFault::Missing => Some("a record lacks the attribute"),
-        EvalFault::Store | EvalFault::Open => None,
+        EvalFault::WrongType => "a value has the wrong type",
+        EvalFault::Overflow => "an integer is outside 64 bits",
+        EvalFault::Missing => "there is no such attribute or tag",
+        EvalFault::Store => "the entity is not in the store",
+        EvalFault::Open => "a part is not known",
     }
 }
 
@@ -132,119 +111,170 @@ fn stands_at(node: &Expr, place: &Loc) -> bool {
 }
 
 // What is wrong at a node, if this fault may come up there.
-fn node_words(
+fn node_words<X: ExtensionValue + Ord, S: EntityStore<X>, T: CallableFunctions<X>>(
     alloc: Global,
     node: &Expr,
     fault: EvalFault,
-    bindings: &Bindings,
+    evaluator: &RequestEvaluator<'_, X, S, T>,
 ) -> Result<Option<Words>, AllocError> {
-    match (fault, node.expr_kind()) {
-        (EvalFault::WrongType, ExprKind::GetAttr { expr, attr }) => {
-            let wanted = Type::Holder;
-            match type_of(alloc, expr, bindings)? {
-                Some(found) if !found.is_a(wanted) => {
-                    let (wanted, found) = (wanted.words(), found.words());
-                    let message = format!(in alloc;
-                        "attribute {attr:?} wants {wanted}, not {found}"
-                    )?;
-                    Ok(Some(Words::message(message)))
-                }
-                _ => Ok(None),
-            }
+    let operand = match first_operand(node.expr_kind()) {
+        Some(operand) => value_of(alloc, operand, evaluator)?,
+        None => None,
+    };
+    match (fault, operand) {
+        (EvalFault::WrongType, Some(first)) => {
+            let second = match second_operand(node.expr_kind()) {
+                Some(operand) => value_of(alloc, operand, evaluator)?,
+                None => None,
+            };
+            type_words(alloc, node.expr_kind(), &first, second.as_ref())
         }
-        (EvalFault::WrongType, ExprKind::HasAttr { expr, attrs }) => {
-            match value_of(alloc, expr, bindings)? {
-                Some(value) => has_words(alloc, &value, attrs),
-                None => Ok(None),
-            }
-        }
-        (EvalFault::WrongType, _) => operator_words(alloc, node, bindings),
-        (EvalFault::Store, ExprKind::BinaryApp { op, arg1, arg2 }) => {
-            store_words(alloc, *op, arg1, arg2, bindings)
-        }
-        (EvalFault::Missing, ExprKind::GetAttr { expr, attr }) => {
-            match value_of(alloc, expr, bindings)? {
-                Some(value) => missing_words(alloc, &value, attr),
-                None => Ok(None),
-            }
-        }
+        (EvalFault::Missing, Some(holder)) => missing_words(alloc, node.expr_kind(), &holder),
+        (EvalFault::Store, Some(holder)) => no_entity_words(alloc, &holder),
         _ => Ok(None),
     }
+}
+
+// The operand that is evaluated first.
+fn first_operand(kind: &ExprKind) -> Option<&Expr> {
+    match kind {
+        ExprKind::If { test_expr, .. } => Some(test_expr),
+        ExprKind::And { left, .. } | ExprKind::Or { left, .. } => Some(left),
+        ExprKind::UnaryApp { arg, .. } => Some(arg),
+        ExprKind::BinaryApp { arg1, .. } => Some(arg1),
+        ExprKind::GetAttr { expr, .. }
+        | ExprKind::HasAttr { expr, .. }
+        | ExprKind::Like { expr, .. }
+        | ExprKind::Is { expr, .. } => Some(expr),
+        ExprKind::ExtensionFunctionApp { args, .. } => args.first(),
+        _ => None,
+    }
+}
+
+// The operand that is evaluated next.
+fn second_operand(kind: &ExprKind) -> Option<&Expr> {
+    match kind {
+        ExprKind::And { right, .. } | ExprKind::Or { right, .. } => Some(right),
+        ExprKind::BinaryApp { arg2, .. } => Some(arg2),
+        _ => None,
+    }
+}
+
+// Which operand has the wrong type, or which text a function does not take.
+fn type_words<X: ExtensionValue + Ord>(
+    alloc: Global,
+    kind: &ExprKind,
+    first: &Value<X>,
+    second: Option<&Value<X>>,
+) -> Result<Option<Words>, AllocError> {
+    match kind {
+        ExprKind::GetAttr { attr, .. } => attribute_words(alloc, attr, Type::of(first)),
+        ExprKind::HasAttr { attrs, .. } => has_words(alloc, first, attrs),
+        ExprKind::ExtensionFunctionApp { fn_name, .. } => Ok(Some(call_words(
+            alloc, fn_name, first,
+        )?)),
+        ExprKind::BinaryApp { op, .. } => binary_words(alloc, *op, first, second),
+        _ => match wish_of(kind) {
+            Some(wish) => operand_words(alloc, wish, [Some(first), second]),
+            None => Ok(None),
+        },
+    }
+}
+
+fn attribute_words(alloc: Global, attr: &str, found: Type) -> Result<Option<Words>, AllocError> {
+    let wanted = Type::Holder;
+    if found.is_a(wanted) {
+        return Ok(None);
+    }
+    let (wanted, found) = (wanted.words(), found.words());
+    let message = format!(in alloc; "attribute {attr:?} wants {wanted}, not {found}")?;
+    Ok(Some(Words::message(message)))
+}
+
+// That a function has no value for its arguments, of which this is the first.
+fn call_words<X: ExtensionValue + Ord>(
+    alloc: Global,
+    fn_name: &Name,
+    first: &Value<X>,
+) -> Result<Words, AllocError> {
+    let message = match first.value_kind() {
+        ValueKind::Lit(Literal::String(text)) => {
+            format!(in alloc; "`{fn_name}` has no value for the text {text:?}")?
+        }
+        _ => format!(in alloc; "`{fn_name}` does not take arguments of these types")?,
+    };
+    Ok(Words::message(message))
 }
 
 // Which operand of an operator has the wrong type.
-fn operator_words(
-    alloc: Global,
-    node: &Expr,
-    bindings: &Bindings,
-) -> Result<Option<Words>, AllocError> {
-    let Some(wish) = wish_of(node.expr_kind()) else {
-        return Ok(None);
-    };
-    let (first, second) = operands(node.expr_kind());
-    if let Some(first) = first {
-        match type_of(alloc, first, bindings)? {
-            Some(found) if found.is_a(wish.wanted) => {}
-            Some(found) => return Ok(Some(wrong_type(alloc, wish, found)?)),
-            None => return Ok(None),
-        }
-    }
-    if let Some(second) = second {
-        match type_of(alloc, second, bindings)? {
-            Some(found) if !found.is_a(wish.wanted) => {
-                return Ok(Some(wrong_type(alloc, wish, found)?));
-            }
-            _ => {}
-        }
-    }
-    Ok(None)
-}
-
-// Which operand of an operator that asks the store has a type for which no store has an answer.
-fn store_words(
+fn binary_words<X: ExtensionValue + Ord>(
     alloc: Global,
     op: BinaryOp,
-    arg1: &Expr,
-    arg2: &Expr,
-    bindings: &Bindings,
+    first: &Value<X>,
+    second: Option<&Value<X>>,
 ) -> Result<Option<Words>, AllocError> {
-    let (operator, wanted) = match op {
-        BinaryOp::In => ("`in`", Type::Entities),
-        BinaryOp::GetTag => ("`getTag`", Type::Text),
-        BinaryOp::HasTag => ("`hasTag`", Type::Text),
-        _ => return Ok(None),
-    };
-    let first = Wish {
+    match op {
+        BinaryOp::Less | BinaryOp::LessEq
+            if is_extension(first) || second.is_some_and(is_extension) => {
+            let message = "a comparison wants two integers, two datetimes or two durations";
+            Ok(Some(Words::message(String::from_str(alloc, message)?)))
+        }
+        BinaryOp::In => in_words(alloc, first, second),
+        BinaryOp::GetTag => tag_words(alloc, "`getTag`", first, second),
+        BinaryOp::HasTag => tag_words(alloc, "`hasTag`", first, second),
+        BinaryOp::Contains => match binary_wish(op) {
+            Some(wish) => operand_words(alloc, wish, [Some(first), None]),
+            None => Ok(None),
+        },
+        _ => match binary_wish(op) {
+            Some(wish) => operand_words(alloc, wish, [Some(first), second]),
+            None => Ok(None),
+        },
+    }
+}
+
+fn is_extension<X: Ord>(value: &Value<X>) -> bool {
+    Type::of(value) == Type::Extension
+}
+
+fn in_words<X: ExtensionValue + Ord>(
+    alloc: Global,
+    first: &Value<X>,
+    second: Option<&Value<X>>,
+) -> Result<Option<Words>, AllocError> {
+    let operator = "`in`";
+    let wanted = Type::Entity;
+    match (Type::of(first), second.map(first_no_entity)) {
+        (Type::Entity, Some(Some(found))) => {
+            let wanted = Type::Entities;
+            Ok(Some(wrong_type(alloc, Wish { operator, wanted }, found)?))
+        }
+        (Type::Entity, _) => Ok(None),
+        (found, _) => Ok(Some(wrong_type(alloc, Wish { operator, wanted }, found)?)),
+    }
+}
+
+fn tag_words<X: ExtensionValue + Ord>(
+    alloc: Global,
+    operator: &'static str,
+    first: &Value<X>,
+    second: Option<&Value<X>>,
+) -> Result<Option<Words>, AllocError> {
+    let entity = Wish {
         operator,
         wanted: Type::Entity,
     };
-    match wrong_operand(alloc, first, arg1, bindings)? {
+    match operand_words(alloc, entity, [Some(first), None])? {
         Some(words) => Ok(Some(words)),
-        None => wrong_operand(alloc, Wish { operator, wanted }, arg2, bindings),
-    }
-}
-
-// That an operand has a value, and not one that is wanted.
-fn wrong_operand(
-    alloc: Global,
-    wish: Wish,
-    operand: &Expr,
-    bindings: &Bindings,
-) -> Result<Option<Words>, AllocError> {
-    match value_of(alloc, operand, bindings)? {
-        Some(value) if wish.wanted == Type::Entities => match first_no_entity(&value) {
-            Some(found) => Ok(Some(wrong_type(alloc, wish, found)?)),
-            None => Ok(None),
-        },
-        Some(value) if !Type::of(&value).is_a(wish.wanted) => {
-            Ok(Some(wrong_type(alloc, wish, Type::of(&value))?))
+        None => {
+            let wanted = Type::Text;
+            operand_words(alloc, Wish { operator, wanted }, [second, None])
         }
-        _ => Ok(None),
     }
 }
 
 // The type of what is neither an entity nor a set of entities, or that of the first other member.
-fn first_no_entity(value: &Value) -> Option<Type> {
+fn first_no_entity<X: Ord>(value: &Value<X>) -> Option<Type> {
     match value.value_kind() {
         ValueKind::Set(set) => set
             .iter()
@@ -255,6 +285,23 @@ fn first_no_entity(value: &Value) -> Option<Type> {
             found => Some(found),
         },
     }
+}
+
+// Which of these operands is not of the type that an operator wants.
+fn operand_words<X: ExtensionValue + Ord>(
+    alloc: Global,
+    wish: Wish,
+    operands: [Option<&Value<X>>; 2],
+) -> Result<Option<Words>, AllocError> {
+    for operand in operands {
+        match operand.map(Type::of) {
+            Some(found) if !found.is_a(wish.wanted) => {
+                return Ok(Some(wrong_type(alloc, wish, found)?));
+            }
+            _ => {}
+        }
+    }
+    Ok(None)
 }
 
 fn wrong_type(alloc: Global, wish: Wish, found: Type) -> Result<Words, AllocError> {
@@ -273,7 +320,6 @@ fn wish_of(kind: &ExprKind) -> Option<Wish> {
             UnaryOp::Neg => ("`-`", Type::Integer),
             UnaryOp::IsEmpty => ("`isEmpty`", Type::Set),
         },
-        ExprKind::BinaryApp { op, .. } => binary_wish(*op)?,
         ExprKind::Like { .. } => ("`like`", Type::Text),
         ExprKind::Is { .. } => ("`is`", Type::Entity),
         _ => return None,
@@ -282,40 +328,24 @@ fn wish_of(kind: &ExprKind) -> Option<Wish> {
 }
 
 // The same of an operator on two arguments. `>` and `>=` are made of the other two comparisons.
-fn binary_wish(op: BinaryOp) -> Option<(&'static str, Type)> {
-    match op {
-        BinaryOp::Less | BinaryOp::LessEq => Some(("a comparison", Type::Integer)),
-        BinaryOp::Add => Some(("`+`", Type::Integer)),
-        BinaryOp::Sub => Some(("`-`", Type::Integer)),
-        BinaryOp::Mul => Some(("`*`", Type::Integer)),
-        BinaryOp::Contains => Some(("`contains`", Type::Set)),
-        BinaryOp::ContainsAll => Some(("`containsAll`", Type::Set)),
-        BinaryOp::ContainsAny => Some(("`containsAny`", Type::Set)),
-        BinaryOp::Eq | BinaryOp::In | BinaryOp::GetTag | BinaryOp::HasTag => None,
-    }
-}
-
-// The operands that have to be of the wanted type.
-fn operands(kind: &ExprKind) -> (Option<&Expr>, Option<&Expr>) {
-    match kind {
-        ExprKind::If { test_expr, .. } => (Some(test_expr), None),
-        ExprKind::And { left, right } | ExprKind::Or { left, right } => (Some(left), Some(right)),
-        ExprKind::UnaryApp { arg, .. } => (Some(arg), None),
-        ExprKind::BinaryApp {
-            op: BinaryOp::Contains,
-            arg1,
-            ..
-        } => (Some(arg1), None),
-        ExprKind::BinaryApp { arg1, arg2, .. } => (Some(arg1), Some(arg2)),
-        ExprKind::Like { expr, .. } | ExprKind::Is { expr, .. } => (Some(expr), None),
-        _ => (None, None),
-    }
+fn binary_wish(op: BinaryOp) -> Option<Wish> {
+    let (operator, wanted) = match op {
+        BinaryOp::Less | BinaryOp::LessEq => ("a comparison", Type::Integer),
+        BinaryOp::Add => ("`+`", Type::Integer),
+        BinaryOp::Sub => ("`-`", Type::Integer),
+        BinaryOp::Mul => ("`*`", Type::Integer),
+        BinaryOp::Contains => ("`contains`", Type::Set),
+        BinaryOp::ContainsAll => ("`containsAll`", Type::Set),
+        BinaryOp::ContainsAny => ("`containsAny`", Type::Set),
+        BinaryOp::Eq | BinaryOp::In | BinaryOp::GetTag | BinaryOp::HasTag => return None,
+    };
+    Some(Wish { operator, wanted })
 }
 
 // What of a path has no attributes.
-fn has_words(
+fn has_words<X: ExtensionValue + Ord>(
     alloc: Global,
-    value: &Value,
+    value: &Value<X>,
     attrs: &NonEmpty<RcStr>,
 ) -> Result<Option<Words>, AllocError> {
     let mut held = value;
@@ -338,36 +368,66 @@ fn has_words(
     Ok(None)
 }
 
-// Which attribute is missing, and the nearest that is there.
-fn missing_words(alloc: Global, value: &Value, attr: &str) -> Result<Option<Words>, AllocError> {
-    let ValueKind::Record(pairs) = value.value_kind() else {
-        return Ok(None);
-    };
-    let hint = if pairs.is_empty() {
-        Some(String::from_str(alloc, "the record is empty")?)
-    } else {
-        did_you_mean(alloc, attr, &keys(alloc, pairs)?)?
-    };
-    let message = format!(in alloc; "the record has no attribute {attr:?}")?;
-    Ok(Some(Words { message, hint }))
+// Which attribute or tag is missing, and the nearest attribute that a record has.
+fn missing_words<X: ExtensionValue + Ord>(
+    alloc: Global,
+    kind: &ExprKind,
+    holder: &Value<X>,
+) -> Result<Option<Words>, AllocError> {
+    match (kind, holder.value_kind()) {
+        (ExprKind::GetAttr { attr, .. }, ValueKind::Record(pairs)) => {
+            let message = format!(in alloc; "the record has no attribute {attr:?}")?;
+            let hint = nearest_key(alloc, attr, pairs)?;
+            Ok(Some(Words { message, hint }))
+        }
+        (ExprKind::GetAttr { attr, .. }, ValueKind::Lit(Literal::EntityUID(uid))) => {
+            let message = format!(in alloc; "`{uid}` has no attribute {attr:?}")?;
+            Ok(Some(Words::message(message)))
+        }
+        (_, ValueKind::Lit(Literal::EntityUID(uid))) => {
+            let message = format!(in alloc; "`{uid}` has no such tag")?;
+            Ok(Some(Words::message(message)))
+        }
+        _ => Ok(None),
+    }
 }
 
-fn keys(alloc: Global, pairs: &BTreeMap<RcStr, Value>) -> Result<Vec<&str>, AllocError> {
+fn nearest_key<X: ExtensionValue + Ord>(
+    alloc: Global,
+    attr: &str,
+    pairs: &BTreeMap<RcStr, Value<X>>,
+) -> Result<Option<String>, AllocError> {
+    if pairs.is_empty() {
+        return Ok(Some(String::from_str(alloc, "the record is empty")?));
+    }
     let mut keys = Vec::with_capacity(alloc, pairs.len())?;
     for key in pairs.keys() {
         keys.push(key.as_str())?;
     }
-    Ok(keys)
+    did_you_mean(alloc, attr, &keys)
 }
 
-fn type_of(alloc: Global, expr: &Expr, bindings: &Bindings) -> Result<Option<Type>, AllocError> {
-    let value = value_of(alloc, expr, bindings)?;
-    Ok(value.as_ref().map(Type::of))
+// That an entity is not in the store.
+fn no_entity_words<X: ExtensionValue + Ord>(
+    alloc: Global,
+    holder: &Value<X>,
+) -> Result<Option<Words>, AllocError> {
+    match holder.value_kind() {
+        ValueKind::Lit(Literal::EntityUID(uid)) => {
+            let message = format!(in alloc; "`{uid}` is not in the store of entities")?;
+            Ok(Some(Words::message(message)))
+        }
+        _ => Ok(None),
+    }
 }
 
 // The value of an expression, if it has one.
-fn value_of(alloc: Global, expr: &Expr, bindings: &Bindings) -> Result<Option<Value>, AllocError> {
-    match evaluate_shared(alloc, expr, bindings.values()) {
+fn value_of<X: ExtensionValue + Ord, S: EntityStore<X>, T: CallableFunctions<X>>(
+    alloc: Global,
+    expr: &Expr,
+    evaluator: &RequestEvaluator<'_, X, S, T>,
+) -> Result<Option<Value<X>>, AllocError> {
+    match evaluator.evaluate(alloc, expr) {
         Ok(outcome) => Ok(outcome.into_result().ok()),
         Err(BuildFault::Build(_)) => Ok(None),
         Err(BuildFault::Memory) => Err(AllocError),

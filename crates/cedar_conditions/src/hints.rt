@@ -1,9 +1,11 @@
 //! What may have been meant by a text that is no condition.
 use crate::problem::Words;
-use cedar_bindings::Bindings;
+use cedar_exprs::Expr;
 use cedar_json::nearest;
 use cedar_parser::SyntaxError;
 use std::alloc::{AllocError, Global};
+use std::collections::HashMap;
+use std::rc::RcStr;
 
 const VARIABLES: [&str; 4] = ["principal", "action", "resource", "context"];
 // How the parser tells of a name that is no variable.
@@ -14,7 +16,7 @@ pub(crate) fn syntax_words(
     alloc: Global,
     text: &str,
     error: &SyntaxError,
-    bindings: &Bindings,
+    names: &HashMap<RcStr, Expr>,
 ) -> Result<Words, AllocError> {
     let (before, rest) = match text.split_at_checked(error.start) {
         Some(cut) => cut,
@@ -26,7 +28,7 @@ pub(crate) fn syntax_words(
     };
     let hint = match meant(before, piece) {
         Some(hint) => Some(String::from_str(alloc, hint)?),
-        None if error.problem == NO_VARIABLE => return no_variable(alloc, piece, bindings),
+        None if error.problem == NO_VARIABLE => return no_variable(alloc, piece, names),
         None => None,
     };
     Ok(Words {
@@ -36,12 +38,16 @@ pub(crate) fn syntax_words(
 }
 
 // What is told of a name that is no variable.
-fn no_variable(alloc: Global, name: &str, bindings: &Bindings) -> Result<Words, AllocError> {
+fn no_variable(
+    alloc: Global,
+    name: &str,
+    names: &HashMap<RcStr, Expr>,
+) -> Result<Words, AllocError> {
     let message = format!(in alloc; "`{name}` is no variable")?;
     let near = nearest(alloc, name, &VARIABLES)?;
     let hint = match near {
         _ if name.contains("::") => entity_hint(alloc, name)?,
-        _ if bindings.named().contains_key(name) => {
+        _ if names.contains_key(name) => {
             format!(in alloc; "the bound name `{name}` is written `unknown(\"{name}\")`")?
         }
         Some(near) => format!(in alloc; "did you mean `{near}`?")?,

@@ -11,5 +11,4 @@ mod size;
 mod unknowns;
 
 pub use answer::{Answer, Residual, evaluate_condition};
-pub use cedar_bindings::{Bindings, BindingsError};
 pub use problem::Problem;

@@ -5,7 +5,7 @@ use std::alloc::{AllocError, Global};
 use std::collections::BTreeSet;
 
 /// What a residual asks for, each once, in ascending order: variables, slots and unknowns as they
-/// are written, `entities` for what the store of entities knows, and `f(..)` for the function `f`.
+/// are written, and `entities` for what the store of entities knows.
 pub(crate) fn unknowns_of(alloc: Global, residual: &Expr) -> Result<Vec<String>, AllocError> {
     let mut seen = BTreeSet::new(alloc);
     for node in residual.subexpressions(alloc)? {
@@ -24,9 +24,6 @@ fn unknown_text(alloc: Global, node: &Expr) -> Result<Option<String>, AllocError
         ExprKind::Unknown(unknown) => {
             let name = unknown.name.as_str();
             Ok(Some(format!(in alloc; "unknown({name:?})")?))
-        }
-        ExprKind::ExtensionFunctionApp { fn_name, .. } => {
-            Ok(Some(format!(in alloc; "{fn_name}(..)")?))
         }
         kind if asks_for_entities(kind) => Ok(Some(String::from_str(alloc, "entities")?)),
         _ => Ok(None),

@@ -1,7 +1,7 @@
 //! Conditions with their answers.
+use crate::known::{answer, bound};
 use anyhow::Result;
-use cedar_conditions::{Bindings, BindingsError, evaluate_condition};
-use std::alloc::AllocError;
+use cedar_bindings::Bindings;
 
 /// Shows each line of a file of conditions, and below a condition its answer.
 pub fn show(rt: &HostRuntime, lines: &str) -> Result<()> {
@@ -11,21 +11,10 @@ pub fn show(rt: &HostRuntime, lines: &str) -> Result<()> {
         match line.strip_prefix("bind ") {
             Some(json) => bindings = bound(rt, json)?,
             None if is_passed_over(line) => {}
-            None => println!(rt; "{}", evaluate_condition(rt.alloc(), line, &bindings)?)?,
+            None => println!(rt; "{}", answer(rt.alloc(), line, &bindings)?)?,
         }
     }
     Ok(())
-}
-
-/// The bindings of a line; where it has none, prints why.
-pub fn bound(rt: &HostRuntime, json: &str) -> Result<Bindings> {
-    let mut bindings = Bindings::new(rt.alloc());
-    match bindings.bind_json(rt.alloc(), json) {
-        Ok(()) => {}
-        Err(BindingsError::Memory) => return Err(AllocError.into()),
-        Err(error) => println!(rt; "{error}")?,
-    }
-    Ok(bindings)
 }
 
 // Whether a line is blank or a comment.

@@ -1,7 +1,8 @@
 //! Conditions with a fault each.
-use crate::conditions::bound;
+use crate::known::{answer, bound};
 use anyhow::Result;
-use cedar_conditions::{Answer, Bindings, evaluate_condition};
+use cedar_bindings::Bindings;
+use cedar_conditions::Answer;
 use std::alloc::{AllocError, Global};
 
 /// Compares the answer to each condition of a file with what stands below it there, and shows those
@@ -15,7 +16,7 @@ pub fn compare(rt: &HostRuntime, blocks: &str) -> Result<()> {
             bindings = bound(rt, json)?;
         } else if let Some((condition, wanted)) = block.split_once('\n') {
             faults = faults.saturating_add(1);
-            let answer = evaluate_condition(rt.alloc(), condition, &bindings)?;
+            let answer = answer(rt.alloc(), condition, &bindings)?;
             if !is_fault(rt.alloc(), &answer, wanted.trim_end())? {
                 failed = failed.saturating_add(1);
                 println!(rt; "{condition}\n{answer}")?;

@@ -14,6 +14,7 @@
 mod conditions;
 mod deep;
 mod faults;
+mod known;
 mod texts;
 mod trees;
 

@@ -1,4 +1,4 @@
-//! How answers are printed.
+//! How the answers to conditions are printed.
 use crate::failure::Failure;
 use cedar_conditions::{Answer, Problem, Residual};
 use serde_json::{Map, Value, json};
