@@ -7,12 +7,13 @@ use Rattle.cedar_builders.specs.Keys.{are_distinct, is_among}
 use Rattle.cedar_lexer.specs.TokenPlaces.{AreSame, AreTokens}
 use Rattle.cedar_lexer.specs.TokenStreams.{rest_of, tokens_left}
 use Rattle.cedar_lexer.specs.declared.token.Token.{Token}
+use Rattle.cedar_lexer.specs.declared.token.TokenKind.{TokenKind}
 use Rattle.cedar_lexer.specs.declared.token.TokenKind.TheVariants as kinds
 use Rattle.cedar_lexer.specs.declared.token_stream.TokenStream.{TokenStream}
 use Rattle.semantics_grammar.specs.Lexemes.{Lexeme, lexeme, lexemes_of}
 use Rattle.cedar_parser.specs.Meant.{here}
 use Rattle.cedar_parser.proofs.CompleteWhole.{same_lexemes}
-use Rattle.semantics_policies.specs.Grammar.{AreAnnotations, no_annotations, annotation, IsAnnotation, with_text, without_text, AreClauses, ArePolicies, no_policies, policy, IsPolicy, effect_text}
+use Rattle.semantics_policies.specs.Grammar.{AreAnnotations, no_annotations, annotation, IsAnnotation, with_text, without_text, AreClauses, ArePolicies, no_policies, policy, IsPolicy, IsWholeScope, effect_text}
 use Rattle.semantics_policies.specs.Identifiers.{policy_id, policy_ids}
 use Rattle.semantics_policies.specs.Policies.{ActionConstraint, BarePolicy, Clause, Effect, ScopeConstraint}
 use Rattle.cedar_policies.specs.Policies.{bare_policy}
@@ -21,19 +22,33 @@ use Rattle.cedar_policies.specs.declared.policy_set.Policy.{Policy}
 use Rattle.cedar_policy_parser.specs.Complete.{AreAnnotationsUpTo, AreClausesUpTo}
 use Rattle.cedar_policy_parser.specs.Streams.{ArePoliciesOf}
 use Rattle.cedar_policy_parser.proofs.CompleteAnnotations.{one_more}
+use Rattle.cedar_policy_parser.proofs.Firsts.{taken_rest}
 use Rattle.cedar_policy_parser.proofs.Keys.{apart}
 use Rattle.cedar_policy_parser.proofs.Loops.{map_length}
 
 -- ---- one policy
 
-pub annotations_there : (ts : List Lexeme) (p : BarePolicy) (rest : List Lexeme) (h : IsPolicy ts p rest)
-    → AreAnnotationsUpTo ts p.annotations (lexeme kinds.Word (effect_text p.effect) ∷ lexeme kinds.OpenRound h.bracket ∷ h.scope)
-annotations_there ts p rest h = record { all = h.annotations; keys = h.keys; ends = refl }
+module _ {ts : List Lexeme} {p : BarePolicy} {rest : List Lexeme} (h : IsPolicy ts p rest) where
+  abbrev pub behind_effect : List Lexeme
+  behind_effect = lexeme kinds.OpenRound h.bracket ∷ h.scope
 
-pub clauses_there : (ts us : List Lexeme) (p : BarePolicy) (rest : List Lexeme) (h : IsPolicy ts p rest) → us ≡ h.before_clauses
-    → AreClausesUpTo us p.clauses (lexeme kinds.Semicolon h.semicolon ∷ rest)
-clauses_there ts us p rest h e =
-    (subst (λ x. AreClauses x p.clauses (lexeme kinds.Semicolon h.semicolon ∷ rest)) (sym e) h.clauses, refl)
+  abbrev pub behind_annotations : List Lexeme
+  behind_annotations = lexeme kinds.Word (effect_text p.effect) ∷ behind_effect
+
+  abbrev pub behind_clauses : List Lexeme
+  behind_clauses = lexeme kinds.Semicolon h.semicolon ∷ rest
+
+  pub annotations_there : AreAnnotationsUpTo ts p.annotations behind_annotations
+  annotations_there = record { all = h.annotations; keys = h.keys; ends = refl }
+
+  pub scope_there : {k j : TokenKind} {w v : List ℕ} {t1 t2 t3 : List Lexeme} → t1 ≡ behind_annotations → t1 ≡ lexeme k w ∷ t2
+      → t2 ≡ lexeme j v ∷ t3 → IsWholeScope t3 p.principal p.action p.resource h.before_clauses
+  scope_there is effect bracket =
+      subst (λ x. IsWholeScope x p.principal p.action p.resource h.before_clauses) (sym (taken_rest bracket (taken_rest effect is)))
+      h.constraints
+
+  pub clauses_there : {us : List Lexeme} → us ≡ h.before_clauses → AreClausesUpTo us p.clauses behind_clauses
+  clauses_there e = (subst (λ x. AreClauses x p.clauses behind_clauses) (sym e) h.clauses, refl)
 
 abbrev policy_of : List (Text × Text) → Effect → ScopeConstraint → ActionConstraint → ScopeConstraint → List Clause → BarePolicy
 policy_of xs e p a r cs = record { annotations = xs; effect = e; principal = p; action = a; resource = r; clauses = cs }

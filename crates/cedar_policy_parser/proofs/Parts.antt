@@ -3,17 +3,19 @@ use Rattle.std.proofs.Common.{◌≡◌, ℕ, true, List, [], ◌∷◌, ◌++�
 use Rattle.std.proofs.lemmas.Bool.{false≢true}
 use Rattle.cedar_names.specs.Names.{BareName}
 use Rattle.cedar_names.specs.declared.slot.SlotId.{SlotId}
+use Rattle.cedar_names.specs.declared.slot.SlotId.TheVariants as slots
 use Rattle.cedar_terms.specs.Entities.{BareEntityUID}
 use Rattle.cedar_terms.specs.Ops.{var_text}
 use Rattle.cedar_terms.specs.declared.var.Var.{Var as Variable}
 use Rattle.cedar_terms.specs.declared.var.Var.TheVariants as variables
 use Rattle.cedar_lexer.specs.declared.parse_failure.ParseFailure.{ParseFailure}
+use Rattle.cedar_lexer.specs.declared.token.TokenKind.{TokenKind}
 use Rattle.cedar_lexer.specs.declared.token.TokenKind.TheVariants as kinds
 use Rattle.cedar_lexer.specs.declared.token_stream.TokenStream.{TokenStream}
 use Rattle.semantics_grammar.specs.Lexemes.{Lexeme, lexeme}
 use Rattle.cedar_parser.specs.Ahead.{ends_path}
 use Rattle.cedar_parser.specs.Meant.{here}
-use Rattle.semantics_policies.specs.Grammar.{EndsScope, closed, comma_closed, IsActionScope, any_of_them, equal_to, within_one, within_set, IsScope, unconstrained, equal, within, of_type, of_type_within}
+use Rattle.semantics_policies.specs.Grammar.{EndsScope, closed, comma_closed, IsActionScope, any_of_them, equal_to, within_one, within_set, IsScope, unconstrained, equal, within, of_type, of_type_within, IsWholeScope}
 use Rattle.semantics_policies.specs.Policies.{EntityOrSlot, ScopeConstraint, any, equals, is_in, is_of, is_of_in, ActionConstraint, any_action, action_equals}
 use Rattle.cedar_policy_parser.specs.Complete.{Begins, BehindType, Completes, Gives, IsActionScopeUpTo, IsActionUpTo, IsBehindIn, one, more, IsBehindIs, IsEnd, IsOperandUpTo, IsScopeUpTo}
 use Rattle.cedar_policy_parser.proofs.Firsts.{given_as, taken_rest}
@@ -232,3 +234,28 @@ any_action_given c w t0 t1 rest h e i k =
 pub end_of_scope : (ts rest : List Lexeme) → EndsScope ts rest → IsEnd true ts
 end_of_scope ts rest closed = refl
 end_of_scope ts rest comma_closed = refl
+
+-- ---- a whole scope
+
+module _ {ts : List Lexeme} {p : ScopeConstraint} {a : ActionConstraint} {r : ScopeConstraint} {rest : List Lexeme} (h : IsWholeScope ts p a r rest) where
+  abbrev pub past_principal : List Lexeme
+  past_principal = lexeme kinds.Comma h.first_comma ∷ h.before_action
+
+  abbrev pub past_action : List Lexeme
+  past_action = lexeme kinds.Comma h.second_comma ∷ h.before_resource
+
+  pub principal_there : IsScopeUpTo variables.Principal slots.Principal ts p past_principal
+  principal_there = (h.principal, refl)
+
+  pub action_there : {k : TokenKind} {w : List ℕ} {t1 t2 : List Lexeme} → t1 ≡ past_principal → t1 ≡ lexeme k w ∷ t2 → IsActionScopeUpTo t2 a past_action
+  action_there is comma = (subst (λ x. IsActionScope x a past_action) (sym (taken_rest comma is)) h.action, refl)
+
+  pub resource_there : {k : TokenKind} {w : List ℕ} {t1 t2 : List Lexeme} → t1 ≡ past_action → t1 ≡ lexeme k w ∷ t2
+      → IsScopeUpTo variables.Resource slots.Resource t2 r h.before_end
+  resource_there is comma = (
+    subst (λ x. IsScope variables.Resource slots.Resource x r h.before_end) (sym (taken_rest comma is)) h.resource,
+    end_of_scope h.before_end rest h.end,
+  )
+
+  pub end_there : {t1 : List Lexeme} → t1 ≡ h.before_end → EndsScope t1 rest
+  end_there is = subst (λ x. EndsScope x rest) (sym is) h.end
