@@ -32,6 +32,12 @@ deciding [] ps = []
 deciding (i ∷ is) [] = []
 deciding (i ∷ is) (p ∷ ps) = if_deciding i p ++ deciding is ps
 
+-- this holds of those that decide, whatever policies the text stands for, if no two have the same
+-- identifier
+abbrev pub IfPolicies : List ℕ → (List Policy → Type 0) → Type 0
+IfPolicies text P = (ps : List texts.BarePolicy) → ArePoliciesOf text ps
+    → IsTrue (are_distinct (policy_ids 0 ps)) → P (deciding (policy_ids 0 ps) ps)
+
 -- R and E are the order and the equality of extension values, T is a table of functions, and k is
 -- what is known
 module _ {X : Type 0} (R : X → X → Ordering) (E : X → X → Bool) (T : Functions X)

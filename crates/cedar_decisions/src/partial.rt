@@ -1,8 +1,10 @@
 //! What is decided of a request while not all is known, by the policies of a text.
-ghost use Rattle.std.specs.Prelude.{IfErr, IfOk};
+ghost use Rattle.std.specs.Prelude.{◌≡◌, IfErr, IfOk, MatchResult};
+ghost use Rattle.cedar_lexer.specs.declared.error.ParseError.TheVariants.{Memory};
 ghost use Rattle.cedar_parser.specs.Refused.{IsToldIn};
 ghost use Rattle.cedar_request_evaluator.specs.Knowledge.{functions_of, knowledge_of};
-ghost use Rattle.cedar_decisions.specs.Partial.{IsPartlyDecidedBy};
+ghost use Rattle.cedar_decisions.specs.Decisions.{IfPolicies};
+ghost use Rattle.cedar_decisions.specs.Partial.{IsPartlyDecided, IsPartlyDecidedBy};
 
 use crate::deciding::deciding_policies;
 use cedar_authorizer::{PartialResponse, is_authorized_partial};
@@ -22,6 +24,9 @@ pub fn decide_partial<X: Ord + Drop, S: EntityStore<X>, T: CallableFunctions<X>>
     ensures decided { IfOk result (IsPartlyDecidedBy X.cmp X.eq
         (functions_of T.bare_functions evaluator.now)
         (knowledge_of S.bare_entities evaluator.now) text.now) }
+    ensures complete { IfPolicies text.now (λ ps. MatchResult result
+        (IsPartlyDecided X.cmp X.eq (functions_of T.bare_functions evaluator.now)
+        (knowledge_of S.bare_entities evaluator.now) ps) (λ e. e ≡ Memory)) }
     ensures told { IfErr result (IsToldIn text.now) }
 {
     let set = parse_policies(alloc, text)?;

@@ -1,11 +1,12 @@
 //! The response to a request, by the policies of a text.
-ghost use Rattle.std.specs.Prelude.{◌≡◌, IfErr, IfOk};
+ghost use Rattle.std.specs.Prelude.{◌≡◌, IfErr, IfOk, MatchResult};
+ghost use Rattle.cedar_lexer.specs.declared.error.ParseError.TheVariants.{Memory};
 ghost use Rattle.cedar_parser.specs.Refused.{IsToldIn};
 ghost use Rattle.semantics_authorize.specs.Authorization.{authorized};
 ghost use Rattle.cedar_policies.specs.PolicySets.{policies_of};
 ghost use Rattle.cedar_request_evaluator.specs.Knowledge.{functions_of, knowledge_of};
 ghost use Rattle.cedar_authorizer.specs.Responses.{bare_response};
-ghost use Rattle.cedar_decisions.specs.Decisions.{IsDecidedBy};
+ghost use Rattle.cedar_decisions.specs.Decisions.{IfPolicies, IsDecidedBy};
 ghost use Rattle.cedar_decisions.specs.Sets.{deciding_in};
 
 use crate::deciding::deciding_policies;
@@ -18,13 +19,14 @@ use cedar_request_evaluator::RequestEvaluator;
 use std::alloc::{AllocError, Global};
 
 /// The response to a request, by what is known and by the policies of a text in Cedar's syntax.
-/// Templates do not decide, until they are linked.
+/// Templates do not decide, until they are linked. Refuses a text that is no policies, or has two with
+/// the same identifier.
 ///
 /// ```rust
 /// let evaluator = RequestEvaluator::new(&request, &entities, &BuiltinFunctions, &values);
 /// let response = decide(alloc, "permit(principal, action, resource);", &evaluator)?;
 /// ```
-#[tactic(auto, using(crate::proofs::Decided::decided))]
+#[tactic(auto, using(crate::proofs::Decided::decided, crate::proofs::Decided::response_by))]
 pub fn decide<X: Ord + Drop, S: EntityStore<X>, T: CallableFunctions<X>>(
     alloc: Global,
     text: &str,
@@ -33,6 +35,9 @@ pub fn decide<X: Ord + Drop, S: EntityStore<X>, T: CallableFunctions<X>>(
     ensures decided { IfOk result (λ response. IsDecidedBy X.cmp X.eq
         (functions_of T.bare_functions evaluator.now)
         (knowledge_of S.bare_entities evaluator.now) text.now (bare_response response)) }
+    ensures complete { IfPolicies text.now (λ ps. MatchResult result (λ response.
+        bare_response response ≡ authorized X.cmp X.eq (functions_of T.bare_functions evaluator.now)
+        (knowledge_of S.bare_entities evaluator.now) ps) (λ e. e ≡ Memory)) }
     ensures told { IfErr result (IsToldIn text.now) }
 {
     let set = parse_policies(alloc, text)?;
