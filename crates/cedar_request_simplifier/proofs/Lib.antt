@@ -1,9 +1,5 @@
-pub mod Made
 pub mod PlainValues
 pub mod Operands
 pub mod PathSteps
-pub mod Trees
-pub mod KeyedValues
-pub mod Bindings
 pub mod Lifted
 pub mod Later

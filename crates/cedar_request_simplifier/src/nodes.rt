@@ -41,7 +41,7 @@ pub(crate) fn put_variable<X: ExtensionValue + Ord, S: EntityStore<X>, T: Callab
     Ok(push_item(done, made)?)
 }
 
-#[tactic(auto, using(crate::proofs::Made::known, crate::proofs::Made::residual))]
+#[tactic(auto, using(cedar_simplifier::proofs::Made::known, cedar_simplifier::proofs::Made::residual))]
 fn variable_node<X: ExtensionValue + Ord, S: EntityStore<X>, T: CallableFunctions<X>>(
     alloc: Global,
     evaluator: &RequestEvaluator<'_, X, S, T>,
@@ -77,7 +77,7 @@ pub(crate) fn put_operator<X: ExtensionValue + Ord, S: EntityStore<X>, T: Callab
     Ok(push_item(done, made)?)
 }
 
-#[tactic(auto, using(crate::proofs::Made::known, crate::proofs::Made::residual))]
+#[tactic(auto, using(cedar_simplifier::proofs::Made::known, cedar_simplifier::proofs::Made::residual))]
 fn operator_node<X: ExtensionValue + Ord, S: EntityStore<X>, T: CallableFunctions<X>>(
     alloc: Global,
     evaluator: &RequestEvaluator<'_, X, S, T>,
@@ -119,7 +119,7 @@ pub(crate) fn put_attribute<X: ExtensionValue + Ord, S: EntityStore<X>, T: Calla
     Ok(push_item(done, made)?)
 }
 
-#[tactic(auto, using(crate::proofs::Made::known, crate::proofs::Made::residual))]
+#[tactic(auto, using(cedar_simplifier::proofs::Made::known, cedar_simplifier::proofs::Made::residual))]
 fn attribute_node<X: ExtensionValue + Ord, S: EntityStore<X>, T: CallableFunctions<X>>(
     alloc: Global,
     evaluator: &RequestEvaluator<'_, X, S, T>,
@@ -157,7 +157,7 @@ pub(crate) fn put_path<X: ExtensionValue + Ord, S: EntityStore<X>, T: CallableFu
     Ok(push_item(done, made)?)
 }
 
-#[tactic(auto, using(crate::proofs::Made::known, crate::proofs::Made::residual))]
+#[tactic(auto, using(cedar_simplifier::proofs::Made::known, cedar_simplifier::proofs::Made::residual))]
 fn path_node<X: ExtensionValue + Ord, S: EntityStore<X>, T: CallableFunctions<X>>(
     alloc: Global,
     evaluator: &RequestEvaluator<'_, X, S, T>,

@@ -4,7 +4,7 @@ use Rattle.semantics_request.specs.Residuals.{plain_or_open}
 use Rattle.semantics_simplify.specs.Simplified.{outcome_of}
 use Rattle.cedar_values.specs.BareValues.{bare_value}
 use Rattle.cedar_simplifier.specs.Simplified.{meaning_of, value_in}
-use Rattle.cedar_request_simplifier.proofs.Made.{residual}
+use Rattle.cedar_simplifier.proofs.Made.{residual}
 use Rattle.cedar_request_simplifier.proofs.nodes.operator_node.Goals as goal
 
 pub returns-in_ok-residual-in-None : goal.returns-in_ok-residual-in-None

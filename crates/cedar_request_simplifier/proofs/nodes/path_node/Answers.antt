@@ -1,5 +1,6 @@
-use Rattle.std.proofs.Common.{ap, option_map, sym, ◌∙◌}
+use Rattle.std.proofs.Common.{List, [], ◌∷◌, ap, option_map, sym, ◌∙◌}
 use Rattle.std.specs.Rc.{rc_str_bytes}
+use Rattle.cedar_builders.specs.BareExpr.{Text, BareExpr, HasAttr}
 use Rattle.cedar_exprs.specs.BareExpr.{further}
 use Rattle.semantics_eval.specs.Outcomes.{truth}
 use Rattle.semantics_request.specs.Entities.{attribute, has_attribute}
@@ -7,8 +8,13 @@ use Rattle.semantics_request.specs.Evaluator.{path_by}
 use Rattle.semantics_request.specs.Residuals.{plain_or_open}
 use Rattle.semantics_simplify.specs.Simplified.{Residual, outcome_of, tree_of}
 use Rattle.cedar_simplifier.specs.Simplified.{meaning_of, value_in}
-use Rattle.cedar_request_simplifier.proofs.Made.{has_node, known, residual}
+use Rattle.cedar_simplifier.proofs.Made.{known, residual}
 use Rattle.cedar_request_simplifier.proofs.nodes.path_node.Goals as goal
+
+-- whether a path of attributes is there, by the list of them
+abbrev has_node : BareExpr → List Text → BareExpr
+has_node e [] = e
+has_node e (k ∷ ks) = HasAttr e k ks
 
 pub returns-in-Some : goal.returns-in-Some
 returns-in-Some g c =

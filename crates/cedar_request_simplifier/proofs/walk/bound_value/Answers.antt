@@ -6,8 +6,8 @@ use Rattle.cedar_exprs.specs.RestrictedExprs.{binding_of}
 use Rattle.cedar_exprs.specs.declared.expr.KindOf.TheVariants.{Unknown as UnknownOf}
 use Rattle.cedar_values.specs.Holders.{held_call, held_name}
 use Rattle.cedar_values.specs.WellFormedValues.{tree_of, type_of, well_formed_env}
-use Rattle.cedar_request_simplifier.proofs.Bindings.{of_copied}
-use Rattle.cedar_request_simplifier.proofs.Trees.{bare_at}
+use Rattle.cedar_request_evaluator.proofs.Bindings.{of_copied}
+use Rattle.cedar_request_evaluator.proofs.Trees.{bare_at}
 use Rattle.cedar_request_simplifier.proofs.walk.bound_value.Goals as goal
 
 pub returns-in-Unknown : goal.returns-in-Unknown

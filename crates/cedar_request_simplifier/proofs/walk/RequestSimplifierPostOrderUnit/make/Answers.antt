@@ -7,7 +7,7 @@ use Rattle.cedar_values.specs.WellFormedValues.{tree_of, type_of}
 use Rattle.semantics_request.specs.Residuals.{residual_ops}
 use Rattle.cedar_request_evaluator.specs.Knowledge.{knowledge_of}
 use Rattle.cedar_simplifier.specs.Simplified.{meaning_of}
-use Rattle.cedar_request_simplifier.proofs.Bindings.{bound_made, plain_made}
+use Rattle.cedar_request_evaluator.proofs.Bindings.{bound_made, plain_made}
 use Rattle.cedar_request_simplifier.proofs.walk.RequestSimplifierPostOrderUnit.make.Goals as goal
 
 pub returns-in-Some : goal.returns-in-Some

@@ -15,7 +15,7 @@ use Rattle.cedar_exprs.specs.declared.expr.KindOf.TheVariants as Kind
 use Rattle.semantics_request.specs.Residuals.{residual_ops}
 use Rattle.cedar_request_evaluator.specs.Knowledge.{knowledge_of}
 use Rattle.cedar_simplifier.specs.Simplified.{meaning_of}
-use Rattle.cedar_request_simplifier.proofs.Trees.{at_tree, bare_at, bare_at_call, bare_at_map, bare_at_set, members-length, values-length}
+use Rattle.cedar_request_evaluator.proofs.Trees.{at_tree, bare_at, bare_at_call, bare_at_map, bare_at_set, members-length, values-length}
 use Rattle.cedar_request_simplifier.proofs.walk.UnboundSimplifierPostOrderUnit.make.Goals as goal
 
 pub put_call-requires : goal.put_call-requires
