@@ -1,3 +1,9 @@
 pub mod Records
 pub mod Rows
 pub mod Calls
+pub mod Nothing
+pub mod Names
+pub mod Objects
+pub mod Members
+pub mod Once
+pub mod Near

@@ -1,12 +1,13 @@
 -- What JSON stands for where entities are wanted (Cedar's `entities/json/entities.rs`).
-use Rattle.std.specs.Prelude.{◌≡◌, List, [], ◌∷◌, map, codes, Option, Some, None, unwrap_or, ⊤}
-use Rattle.serde_json.specs.Data.{Data, null, boolean, number, string, array, object, Items, no_items, item}
-use Rattle.serde_json.specs.Find.{get}
+use Rattle.std.specs.Prelude.{◌≡◌, ◌&&◌, ◌||◌, Bool, true, List, [], map, codes, Option, Some, None, option_map, unwrap_or}
+use Rattle.std.specs.Str.{bytes_eq}
+use Rattle.serde_json.specs.Data.{Data, null, boolean, number, string, array, object, Items, Members, no_members, member}
+use Rattle.serde_json.specs.Find.{as_object, get}
 use Rattle.cedar_terms.specs.Entities.{BareEntityUID, bare_entity_uid}
 use Rattle.cedar_builders.specs.BareExpr.{Text, BareExpr}
 use Rattle.cedar_builders.specs.Keys.{meant_pairs}
 use Rattle.cedar_exprs.specs.BareExpr.{bare_expr}
-use Rattle.cedar_json.specs.Values.{AreFields, IsEntity}
+use Rattle.cedar_json.specs.Values.{AreEach, AreFields, IsEntity}
 use Rattle.cedar_json.specs.declared.entities.EntityJson.{EntityJson}
 
 -- an entity as it is given: what it is called, its attributes, its parents and its tags
@@ -40,10 +41,7 @@ AreAttributes (object ms) ps = AreFields ms ps
 
 -- each item is an entity
 abbrev pub AreUids : Items → List BareEntityUID → Type 0
-AreUids no_items [] = ⊤
-AreUids no_items (u ∷ us) = ⊥
-AreUids (item d ds) [] = ⊥
-AreUids (item d ds) (u ∷ us) = IsUid d u × AreUids ds us
+AreUids ds us = AreEach IsUid ds us
 
 -- an array stands for parents
 abbrev pub AreParents : Data → List BareEntityUID → Type 0
@@ -64,8 +62,20 @@ abbrev pub MayHave : {A : Type 0} → (Data → List A → Type 0) → Option Da
 MayHave P None xs = xs ≡ []
 MayHave P (Some d) xs = P d xs
 
+-- whether an entity has a member of this name
+abbrev pub is_member_name : Text → Bool
+is_member_name k =
+    bytes_eq k (codes "uid") || bytes_eq k (codes "attrs")
+    || bytes_eq k (codes "parents") || bytes_eq k (codes "tags")
+
+-- whether it has all these members
+abbrev pub are_named : Members → Bool
+are_named no_members = true
+are_named (member k d ms) = is_member_name k && are_named ms
+
 -- `{"uid": U, "attrs": {..}, "parents": [..], "tags": {..}}` is an entity
 pub record IsEntityJson (d : Data) (e : EntityParts) : Type 0 where
+  pub named : option_map are_named (as_object d) ≡ Some true
   pub uid : Has IsUid (get (codes "uid") d) e.uid
   pub attributes : Has AreAttributes (get (codes "attrs") d) e.attributes
   pub parents : Has AreParents (get (codes "parents") d) e.parents
@@ -73,7 +83,4 @@ pub record IsEntityJson (d : Data) (e : EntityParts) : Type 0 where
 
 -- each item is one
 abbrev pub AreEntities : Items → List EntityParts → Type 0
-AreEntities no_items [] = ⊤
-AreEntities no_items (e ∷ es) = ⊥
-AreEntities (item d ds) [] = ⊥
-AreEntities (item d ds) (e ∷ es) = IsEntityJson d e × AreEntities ds es
+AreEntities ds es = AreEach IsEntityJson ds es

@@ -1,3 +1,4 @@
 pub mod Values
 pub mod Entities
 pub mod Refusals
+pub mod NearNames

@@ -26,6 +26,10 @@ pub record IsEntity (d : Data) (u : BareEntityUID) : Type 0 where
   pub named : IsNameIn written u.entity_type
   pub identified : text_at (codes "id") d ≡ Some u.eid
 
+-- the literal of this entity
+abbrev pub IsEntityLiteral : Data → BareExpr → Type 0
+IsEntityLiteral d e = (u : BareEntityUID) × IsEntity d u × (e ≡ Lit (EntityLit u))
+
 -- truth values, integers of 64 bits and texts are literals
 abbrev pub IsLiteral : Data → BareExpr → Type 0
 IsLiteral null e = ⊥
@@ -45,11 +49,11 @@ abbrev pub args_of : Data → Option Items
 args_of d = args_by (get (codes "arg") d) (option_and_then as_array (get (codes "args") d))
 
 -- each item stands for one of these
-abbrev pub AreEach : (Data → BareExpr → Type 0) → Items → List BareExpr → Type 0
+abbrev pub AreEach : {A : Type 0} → (Data → A → Type 0) → Items → List A → Type 0
 AreEach P no_items [] = ⊤
-AreEach P no_items (e ∷ es) = ⊥
+AreEach P no_items (x ∷ xs) = ⊥
 AreEach P (item d ds) [] = ⊥
-AreEach P (item d ds) (e ∷ es) = P d e × AreEach P ds es
+AreEach P (item d ds) (x ∷ xs) = P d x × AreEach P ds xs
 
 -- the text is the name of a function or a method of Cedar's that takes so many arguments
 abbrev pub IsFunctionOf : Text → ℕ → Type 0
@@ -63,6 +67,10 @@ pub record IsNamedCall (d : Data) (args : List BareExpr) (e : BareExpr) : Type 0
   pub name : BareName
   pub named : IsNameIn written name
   pub call : e ≡ ExtensionFunctionApp name (trees_of args)
+
+-- it is a call of so many arguments, whatever they are
+abbrev pub IsCallWith : Data → ℕ → BareExpr → Type 0
+IsCallWith d n e = (args : List BareExpr) × (length args ≡ n) × IsNamedCall d args e
 
 -- `{"fn": F, "arg": A}` and `{"fn": F, "args": [A, ..]}` are the call of this function, where P
 -- says what an argument may be
@@ -83,7 +91,7 @@ IsArgument d e = ArgumentBy (get (codes "__extn") d) d e
 
 -- an object with a member `__entity` or `__extn` is an entity or a call; with `__expr` it is nothing
 abbrev pub IsMarked : Option Data → Option Data → Option Data → BareExpr → Type 0
-IsMarked (Some d) c x e = (u : BareEntityUID) × IsEntity d u × (e ≡ Lit (EntityLit u))
+IsMarked (Some d) c x e = IsEntityLiteral d e
 IsMarked None (Some c) x e = IsCallOf IsArgument c e
 IsMarked None None x e = ⊥
 
@@ -129,3 +137,7 @@ abbrev mutual
   AreFields no_members (p ∷ ps) = ⊥
   AreFields (member k d ms) [] = ⊥
   AreFields (member k d ms) (p ∷ ps) = (p.0 ≡ k) × StandsFor d p.1 × AreFields ms ps
+
+-- the members are those of this record
+abbrev pub IsRecordOf : Members → BareExpr → Type 0
+IsRecordOf ms e = (ps : List (Text × BareExpr)) × AreFields ms ps × (e ≡ record_tree ps)

@@ -9,7 +9,7 @@ use serde_json::Value;
 use std::alloc::{AllocError, AllocFailed, Global};
 use thiserror::Error;
 
-/// Why a JSON text does not stand for what is wanted.
+/// Why a JSON text is refused.
 #[derive(Debug, Drop, Error)]
 pub enum JsonError {
     /// It is no JSON.
@@ -65,7 +65,7 @@ impl JsonError {
     fn of_json(text: &str, error: serde_json::Error) -> JsonError {
         if error.is_memory() {
             JsonError::Memory
-        } else if is_too_deep(text) {
+        } else if is_too_deep(text, &error) {
             JsonError::TooDeep(error)
         } else {
             JsonError::Json(error)
@@ -76,12 +76,17 @@ impl JsonError {
 // How deep objects and arrays nest at most.
 const DEEPEST: usize = 127;
 
-// Whether objects and arrays of a text nest deeper.
-fn is_too_deep(text: &str) -> bool {
+// Whether objects and arrays of a text nest deeper, up to the place of its error.
+fn is_too_deep(text: &str, error: &serde_json::Error) -> bool {
+    let mut place = (1, 0);
     let mut depth: usize = 0;
     let mut is_quoted = false;
     let mut is_escaped = false;
     for byte in text.bytes() {
+        place = place_behind(place, byte);
+        if place > (error.line(), error.column()) {
+            return false;
+        }
         match byte {
             _ if is_escaped => is_escaped = false,
             b'\\' if is_quoted => is_escaped = true,
@@ -95,6 +100,15 @@ fn is_too_deep(text: &str) -> bool {
         }
     }
     false
+}
+
+// Line and column behind a byte.
+fn place_behind((line, column): (usize, usize), byte: u8) -> (usize, usize) {
+    if byte == b'\n' {
+        (line.saturating_add(1), 0)
+    } else {
+        (line, column.saturating_add(1))
+    }
 }
 
 /// The JSON that a text is.

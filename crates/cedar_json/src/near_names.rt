@@ -1,6 +1,6 @@
 //! The known name that is nearest to a wanted one.
-ghost use Rattle.std.specs.Prelude.{IfOk, IfSome};
-ghost use Rattle.std.specs.List.{Contains};
+ghost use Rattle.std.specs.Prelude.{◌≡◌, IfOk};
+ghost use Rattle.cedar_json.specs.NearNames.{IsMeant, IsNearest, slips as slips_of};
 
 use std::alloc::{AllocError, Global};
 use strsim::levenshtein;
@@ -8,16 +8,16 @@ use strsim::levenshtein;
 // Names that are longer are not compared.
 const LONGEST: usize = 60;
 
-/// The known name to which the fewest edits lead from a wanted one, if they are few for its length.
+/// The known name that is nearest to a wanted one, if it is near.
 pub fn nearest<'a>(
     alloc: Global,
     wanted: &str,
     known: &[&'a str],
 ) -> Result<Option<&'a str>, AllocError>
-    ensures { IfOk result (λ found. IfSome found (λ name. Contains known.now name)) }
+    ensures { IfOk result (IsNearest wanted.now known.now) }
 {
     let mut found = None;
-    let mut fewest = most_edits(wanted).saturating_add(1);
+    let mut fewest = slips(wanted.len());
     for name in known {
         if wanted.len() <= LONGEST && name.len() <= LONGEST {
             let edits = levenshtein(alloc, wanted, name)?;
@@ -30,12 +30,16 @@ pub fn nearest<'a>(
     Ok(found)
 }
 
-// How many edits of a name still may be a slip.
-fn most_edits(name: &str) -> usize {
-    match name.len() {
-        0..=2 => 1,
-        3..=5 => 2,
-        _ => 3,
+// From how many edits on a name of this length is no slip.
+fn slips(len: usize) -> usize
+    ensures { result ≡ slips_of len }
+{
+    if len <= 2 {
+        2
+    } else if len <= 5 {
+        3
+    } else {
+        4
     }
 }
 
@@ -44,7 +48,9 @@ pub fn did_you_mean(
     alloc: Global,
     wanted: &str,
     known: &[&str],
-) -> Result<Option<String>, AllocError> {
+) -> Result<Option<String>, AllocError>
+    ensures { IfOk result (IsMeant wanted.now known.now) }
+{
     match nearest(alloc, wanted, known)? {
         Some(name) => Ok(Some(format!(in alloc; "did you mean `{name}`?")?)),
         None => Ok(None),

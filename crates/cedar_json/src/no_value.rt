@@ -4,7 +4,7 @@ ghost use Rattle.cedar_json.specs.declared.no_value.NoValue.TheVariants.{Memory}
 
 use std::alloc::{AllocError, AllocFailed, Global};
 
-/// Why a piece of JSON stands for no value.
+/// Why JSON stands for no value.
 #[derive(Debug, Drop)]
 pub enum NoValue {
     /// The path that leads to the member that stands for none, as `.roles[2]`, and what is wrong
@@ -34,8 +34,9 @@ impl NoValue {
 
     // The same of a piece around it, from which this step leads.
     pub(crate) fn behind(self, step: String) -> NoValue
-        ensures { (path problem : Text) → IsBecause path problem self
+        ensures because { (path problem : Text) → IsBecause path problem self
             → IsBecause (string_bytes step ++ path) problem result }
+        ensures memory { self ≡ Memory → result ≡ Memory }
     {
         match self {
             NoValue::Because { path, problem } => match joined(step, &path) {

@@ -1,28 +1,44 @@
 //! Expressions of values, from JSON in Cedar's form (its file `entities/json/value.rs`).
-ghost use Rattle.std.specs.Prelude.{◌≡◌, IfOk, List, MatchOption, OnOk, Some, codes, map};
-ghost use Rattle.serde_json.specs.Data.{array, number as number_of, string};
+ghost use Rattle.std.specs.Prelude.{
+  ◌≡◌,
+  IfOk,
+  List,
+  MatchOption,
+  MatchResult,
+  Some,
+  codes,
+  length,
+  map,
+};
+ghost use Rattle.serde_json.specs.Data.{Data, array, number as number_of, string};
 ghost use Rattle.serde_json.specs.Find.{get};
 ghost use Rattle.serde_json.specs.View.{items_view, members_view, number_view, view};
 ghost use Rattle.cedar_names.specs.PlainNames.{bare_name};
+ghost use Rattle.cedar_names.specs.declared.err.ParseErrors.TheVariants as name_errors;
 ghost use Rattle.cedar_terms.specs.Entities.{BareEntityUID, bare_entity_uid};
 ghost use Rattle.cedar_terms.specs.Literals.{EntityLit};
 ghost use Rattle.cedar_builders.specs.BareExpr.{BareExpr, Lit, Text};
 ghost use Rattle.cedar_builders.specs.Keys.{meant_pairs};
 ghost use Rattle.cedar_exprs.specs.BareExpr.{bare_expr};
+ghost use Rattle.cedar_json.specs.Refusals.{Gives, IsNothing, Reads};
+ghost use Rattle.cedar_json.specs.declared.no_value.NoValue.TheVariants.{Memory};
 ghost use Rattle.cedar_json.specs.Values.{
+  AreEach,
   AreFields,
   IsArgument,
   IsCallOf,
+  IsCallWith,
   IsEntity,
+  IsEntityLiteral,
   IsFunctionOf,
   IsLiteral,
   IsMarked,
   IsNameIn,
   IsNamedCall,
+  IsRecordOf,
   IsUnmarked,
   StandsFor,
   args_of,
-  record_tree,
   text_at,
 };
 
@@ -30,6 +46,7 @@ use crate::near_names::nearest;
 use crate::no_value::NoValue;
 use cedar_exprs::{Expr, push_item};
 use cedar_function_names::ExtensionFunction;
+use cedar_names::laws::name_texts_differ;
 use cedar_names::{FromNormalizedStr as _, Name, ParseErrors};
 use cedar_terms::{EntityType, EntityUID, Literal};
 use serde_json::{Map, Number, Value};
@@ -37,16 +54,22 @@ use std::alloc::{AllocError, Global};
 use std::rc::RcStr;
 use std::slice;
 
-/// The expression of literals, sets, records and calls that a piece of JSON stands for.
+/// The expression of literals, sets, records and calls that JSON stands for.
 ///
 /// `{"__entity": {"type": T, "id": I}}` is an entity, `{"__extn": {"fn": F, "arg": A}}` and
 /// `{"__extn": {"fn": F, "args": [A, ..]}}` are calls, and any other object is a record. `null`,
 /// numbers that are no integers of 64 bits and `{"__expr": ..}` stand for nothing.
-///
-/// It nests as deep as the JSON, which `serde_json` parses down to 127 levels.
-#[cycle(values)]
 pub fn expr_of(alloc: Global, json: &Value) -> Result<Expr, NoValue>
-    ensures { IfOk result (λ e. StandsFor (view json.now) (bare_expr e)) }
+    ensures stands { IfOk result (λ e. StandsFor (view json.now) (bare_expr e)) }
+    ensures complete { (e : BareExpr) → StandsFor (view json.now) e → Gives bare_expr e result }
+{
+    name_texts_differ();
+    meant_expr(alloc, json)
+}
+
+#[cycle(values)]
+fn meant_expr(alloc: Global, json: &Value) -> Result<Expr, NoValue>
+    ensures { Reads (StandsFor (view json.now)) bare_expr result }
 {
     match json {
         Value::Null => Err(NoValue::because(alloc, NULL)),
@@ -54,8 +77,8 @@ pub fn expr_of(alloc: Global, json: &Value) -> Result<Expr, NoValue>
         Value::Number(number) => long_of(alloc, number),
         Value::String(text) => text_of(alloc, text),
         Value::Array(items) => set_of(alloc, items),
-        Value::Object(members) => match marked(alloc, json)? {
-            Some(expr) => Ok(expr),
+        Value::Object(members) => match marked(alloc, json) {
+            Some(read) => read,
             None => record_of(alloc, members),
         },
     }
@@ -64,7 +87,7 @@ pub fn expr_of(alloc: Global, json: &Value) -> Result<Expr, NoValue>
 const NULL: &str = "`null` is no value; leave the attribute out";
 
 fn long_of(alloc: Global, number: &Number) -> Result<Expr, NoValue>
-    ensures { IfOk result (λ e. IsLiteral (number_of (number_view number.now)) (bare_expr e)) }
+    ensures { Reads (IsLiteral (number_of (number_view number.now))) bare_expr result }
 {
     match number.as_i64() {
         Some(number) => Ok(Expr::val(Literal::Long(number))),
@@ -73,7 +96,7 @@ fn long_of(alloc: Global, number: &Number) -> Result<Expr, NoValue>
 }
 
 fn text_of(alloc: Global, text: &str) -> Result<Expr, NoValue>
-    ensures { IfOk result (λ e. IsLiteral (string text.now) (bare_expr e)) }
+    ensures { Reads (IsLiteral (string text.now)) bare_expr result }
 {
     Ok(Expr::val(Literal::from_text(alloc, text)?))
 }
@@ -81,11 +104,11 @@ fn text_of(alloc: Global, text: &str) -> Result<Expr, NoValue>
 // The set of some values.
 #[cycle(values)]
 fn set_of(alloc: Global, items: &[Value]) -> Result<Expr, NoValue>
-    ensures { IfOk result (λ e. StandsFor (array (items_view items.now)) (bare_expr e)) }
+    ensures { Reads (StandsFor (array (items_view items.now))) bare_expr result }
 {
     let mut members = Vec::with_capacity(alloc, items.len())?;
     for item in items {
-        match expr_of(alloc, item) {
+        match meant_expr(alloc, item) {
             Ok(member) => push_item(&mut members, member)?,
             Err(failure) => return Err(failure.behind(item_step(alloc, members.len())?)),
         }
@@ -98,30 +121,29 @@ pub(crate) fn item_step(alloc: Global, at: usize) -> Result<String, AllocError> 
     format!(in alloc; "[{at}]")
 }
 
-// What an object stands for by a member `__entity` or `__extn`, if it has one.
-fn marked(alloc: Global, json: &Value) -> Result<Option<Expr>, NoValue>
-    ensures { let d = view json.now in IfOk result (λ found. MatchOption found
-        (IsUnmarked d)
-        (λ e. IsMarked (get (codes "__entity") d) (get (codes "__extn") d)
-        (get (codes "__expr") d) (bare_expr e))) }
+// What an object stands for by a member `__entity` or `__extn`, if it has one, or `__expr`.
+fn marked(alloc: Global, json: &Value) -> Option<Result<Expr, NoValue>>
+    ensures { let d = view json.now in MatchOption result (IsUnmarked d)
+        (λ read. (IsUnmarked d → ⊥) × Reads
+        (IsMarked (get (codes "__entity") d) (get (codes "__extn") d) (get (codes "__expr") d))
+        bare_expr read) }
 {
     if let Some(entity) = json.get("__entity") {
-        return Ok(Some(entity_of(alloc, entity)?));
+        return Some(entity_of(alloc, entity));
     }
     if let Some(call) = json.get("__extn") {
-        return Ok(Some(call_of(alloc, call)?));
+        return Some(call_of::<LiteralsAndCalls>(alloc, call));
     }
     match json.get("__expr") {
-        Some(_) => Err(NoValue::because(alloc, "`__expr` is no value")),
-        None => Ok(None),
+        Some(_) => Some(Err(NoValue::because(alloc, "`__expr` is no value"))),
+        None => None,
     }
 }
 
 // The record of some values. As a map has a key once, only memory can be wanting.
 #[cycle(values)]
 fn record_of(alloc: Global, members: &Map<String, Value>) -> Result<Expr, NoValue>
-    ensures { IfOk result (λ e. (ps : List (Text × BareExpr))
-        × AreFields (members_view members.now.entries) ps × (bare_expr e ≡ record_tree ps)) }
+    ensures { Reads (IsRecordOf (members_view members.now.entries)) bare_expr result }
 {
     let pairs = pairs_of(alloc, members)?;
     match Expr::record(alloc, pairs) {
@@ -136,12 +158,12 @@ pub(crate) fn pairs_of(
     alloc: Global,
     members: &Map<String, Value>,
 ) -> Result<Vec<(RcStr, Expr)>, NoValue>
-    ensures { IfOk result (λ ps.
-        AreFields (members_view members.now.entries) (meant_pairs bare_expr ps.items)) }
+    ensures { Reads (AreFields (members_view members.now.entries))
+        (λ ps. meant_pairs bare_expr ps.items) result }
 {
     let mut pairs = Vec::with_capacity(alloc, members.len())?;
     for (key, member) in members {
-        match expr_of(alloc, member) {
+        match meant_expr(alloc, member) {
             Ok(expr) => push_item(&mut pairs, (RcStr::from_str(alloc, key)?, expr))?,
             Err(failure) => return Err(failure.behind(step(alloc, key)?)),
         }
@@ -161,66 +183,71 @@ pub(crate) fn step(alloc: Global, key: &str) -> Result<String, AllocError> {
     }
 }
 
-// The call that the member `__extn` of an object describes. Its arguments are literals, or calls of
-// literals.
-fn call_of(alloc: Global, json: &Value) -> Result<Expr, NoValue>
-    ensures { IfOk result (λ e. IsCallOf IsArgument (view json.now) (bare_expr e)) }
+// What an argument of a call may be.
+trait Argument {
+    ghost is_argument: { Data → BareExpr → Type 0 };
+
+    fn read(alloc: Global, json: &Value) -> Result<Expr, NoValue>
+        ensures { Reads (is_argument (view json.now)) bare_expr result };
+}
+
+struct Literals;
+
+impl Argument for Literals {
+    ghost is_argument = { IsLiteral };
+
+    fn read(alloc: Global, json: &Value) -> Result<Expr, NoValue> {
+        literal_of(alloc, json)
+    }
+}
+
+struct LiteralsAndCalls;
+
+impl Argument for LiteralsAndCalls {
+    ghost is_argument = { IsArgument };
+
+    fn read(alloc: Global, json: &Value) -> Result<Expr, NoValue> {
+        match json.get("__extn") {
+            Some(call) => call_of::<Literals>(alloc, call),
+            None => literal_of(alloc, json),
+        }
+    }
+}
+
+// The call that a member `__extn` describes.
+fn call_of<A: Argument>(alloc: Global, json: &Value) -> Result<Expr, NoValue>
+    ensures { Reads (IsCallOf A.is_argument (view json.now)) bare_expr result }
 {
     match (json.get("arg"), json.get("args").and_then(Value::as_array)) {
-        (Some(arg), None) => call_with(alloc, json, slice::from_ref(arg)),
-        (None, Some(args)) => call_with(alloc, json, args),
+        (Some(arg), None) => call_with::<A>(alloc, json, slice::from_ref(arg)),
+        (None, Some(args)) => call_with::<A>(alloc, json, args),
         _ => Err(NoValue::because(alloc, NO_CALL)),
     }
 }
 
-fn call_with(alloc: Global, json: &Value, args: &[Value]) -> Result<Expr, NoValue>
+fn call_with<A: Argument>(alloc: Global, json: &Value, args: &[Value]) -> Result<Expr, NoValue>
     ensures { args_of (view json.now) ≡ Some (items_view args.now)
-        → IfOk result (λ e. IsCallOf IsArgument (view json.now) (bare_expr e)) }
+        → Reads (IsCallOf A.is_argument (view json.now)) bare_expr result }
+{
+    let exprs = each_argument::<A>(alloc, args)?;
+    named_call(alloc, json, exprs)
+}
+
+fn each_argument<A: Argument>(alloc: Global, args: &[Value]) -> Result<Vec<Expr>, NoValue>
+    ensures { Reads (AreEach A.is_argument (items_view args.now))
+        (λ es. map bare_expr es.items) result }
 {
     let mut exprs = Vec::with_capacity(alloc, args.len())?;
     for arg in args {
-        let expr = argument(alloc, arg)?;
+        let expr = A::read(alloc, arg)?;
         push_item(&mut exprs, expr)?;
     }
-    Ok(named_call(alloc, json, exprs)?)
-}
-
-// An argument of a call.
-fn argument(alloc: Global, json: &Value) -> Result<Expr, NoValue>
-    ensures { IfOk result (λ e. IsArgument (view json.now) (bare_expr e)) }
-{
-    match json.get("__extn") {
-        Some(call) => simple_call_of(alloc, call),
-        None => literal_of(alloc, json),
-    }
-}
-
-// The call of literals that the member `__extn` of an argument describes.
-fn simple_call_of(alloc: Global, json: &Value) -> Result<Expr, NoValue>
-    ensures { IfOk result (λ e. IsCallOf IsLiteral (view json.now) (bare_expr e)) }
-{
-    match (json.get("arg"), json.get("args").and_then(Value::as_array)) {
-        (Some(arg), None) => simple_call_with(alloc, json, slice::from_ref(arg)),
-        (None, Some(args)) => simple_call_with(alloc, json, args),
-        _ => Err(NoValue::because(alloc, NO_CALL)),
-    }
-}
-
-fn simple_call_with(alloc: Global, json: &Value, args: &[Value]) -> Result<Expr, NoValue>
-    ensures { args_of (view json.now) ≡ Some (items_view args.now)
-        → IfOk result (λ e. IsCallOf IsLiteral (view json.now) (bare_expr e)) }
-{
-    let mut exprs = Vec::with_capacity(alloc, args.len())?;
-    for arg in args {
-        let expr = literal_of(alloc, arg)?;
-        push_item(&mut exprs, expr)?;
-    }
-    Ok(named_call(alloc, json, exprs)?)
+    Ok(exprs)
 }
 
 // The literal that an argument of a call is.
 fn literal_of(alloc: Global, json: &Value) -> Result<Expr, NoValue>
-    ensures { IfOk result (λ e. IsLiteral (view json.now) (bare_expr e)) }
+    ensures { Reads (IsLiteral (view json.now)) bare_expr result }
 {
     match json {
         Value::Bool(truth) => Ok(Expr::val(Literal::Bool(*truth))),
@@ -237,8 +264,9 @@ fn literal_of(alloc: Global, json: &Value) -> Result<Expr, NoValue>
 
 // The call of the function that the member `fn` of a call names.
 fn named_call(alloc: Global, json: &Value, args: Vec<Expr>) -> Result<Expr, NoValue>
-    ensures { IfOk result (λ e.
-        IsNamedCall (view json.now) (map bare_expr args.items) (bare_expr e)) }
+    ensures { MatchResult result
+        (λ e. IsNamedCall (view json.now) (map bare_expr args.items) (bare_expr e))
+        (IsNothing (IsCallWith (view json.now) (length args.items))) }
 {
     match json.get("fn").and_then(Value::as_str) {
         Some(function) => call_function(alloc, json, function, args),
@@ -252,8 +280,10 @@ fn call_function(
     function: &str,
     args: Vec<Expr>,
 ) -> Result<Expr, NoValue>
-    ensures { text_at (codes "fn") (view json.now) ≡ Some function.now → IfOk result (λ e.
-        IsNamedCall (view json.now) (map bare_expr args.items) (bare_expr e)) }
+    ensures { text_at (codes "fn") (view json.now) ≡ Some function.now
+        → MatchResult result
+        (λ e. IsNamedCall (view json.now) (map bare_expr args.items) (bare_expr e))
+        (IsNothing (IsCallWith (view json.now) (length args.items))) }
 {
     check_count(alloc, function, args.len())?;
     let name = name_of(alloc, function)?;
@@ -262,7 +292,7 @@ fn call_function(
 
 // Refuses what is no function of Cedar, and another number of arguments than it takes.
 fn check_count(alloc: Global, name: &str, found: usize) -> Result<(), NoValue>
-    ensures { OnOk result (IsFunctionOf name.now found) }
+    ensures { Reads (λ _. IsFunctionOf name.now found) (λ u. u) result }
 {
     match ExtensionFunction::from_name(name) {
         Some(function) if function.arity() == found => Ok(()),
@@ -293,8 +323,7 @@ fn unknown_function(alloc: Global, name: &str) -> Result<NoValue, AllocError> {
 
 // The entity that the member `__entity` of an object describes.
 fn entity_of(alloc: Global, json: &Value) -> Result<Expr, NoValue>
-    ensures { IfOk result (λ e. (u : BareEntityUID)
-        × IsEntity (view json.now) u × (bare_expr e ≡ Lit (EntityLit u))) }
+    ensures { Reads (IsEntityLiteral (view json.now)) bare_expr result }
 {
     let uid = typed_uid(alloc, json)?;
     Ok(Expr::val(Literal::from_uid(alloc, uid)?))
@@ -302,7 +331,7 @@ fn entity_of(alloc: Global, json: &Value) -> Result<Expr, NoValue>
 
 // The entity that an object with texts `type` and `id` is.
 pub(crate) fn typed_uid(alloc: Global, json: &Value) -> Result<EntityUID, NoValue>
-    ensures { IfOk result (λ u. IsEntity (view json.now) (bare_entity_uid u)) }
+    ensures { Reads (IsEntity (view json.now)) bare_entity_uid result }
 {
     let ty = json.get("type").and_then(Value::as_str);
     let id = json.get("id").and_then(Value::as_str);
@@ -315,14 +344,24 @@ pub(crate) fn typed_uid(alloc: Global, json: &Value) -> Result<EntityUID, NoValu
 
 // The name that a text is.
 fn name_of(alloc: Global, text: &str) -> Result<Name, NoValue>
-    ensures { IfOk result (λ n. IsNameIn text.now (bare_name n)) }
+    ensures { Reads (IsNameIn text.now) bare_name result }
 {
+    name_texts_differ();
     match Name::from_normalized_str(alloc, text) {
         Ok(name) => Ok(name),
-        Err(ParseErrors::Memory) => Err(NoValue::Memory),
-        Err(_) => {
-            let problem = format!(in alloc; "{text:?} is no name of Cedar")?;
-            Err(NoValue::because(alloc, &problem))
-        }
+        Err(error) => Err(no_name(alloc, text, error)),
+    }
+}
+
+// Why a text is no name.
+fn no_name(alloc: Global, text: &str, error: ParseErrors) -> NoValue
+    ensures { error ≡ name_errors.Memory → result ≡ Memory }
+{
+    match error {
+        ParseErrors::Memory => NoValue::Memory,
+        _ => match format!(in alloc; "{text:?} is no name of Cedar") {
+            Ok(problem) => NoValue::because(alloc, &problem),
+            Err(_) => NoValue::Memory,
+        },
     }
 }

@@ -1,7 +1,6 @@
-use Rattle.std.proofs.Common.{IfSome}
-use Rattle.std.specs.List.{Contains}
+use Rattle.cedar_json.proofs.Near.{IsSoFar}
 use Rattle.cedar_json.proofs.near_names.nearest.Given as goal
 
--- the name found so far is one of the known
+-- the nearest of the names so far
 abbrev pub invariant-loop-name : goal.invariant-loop-name
-invariant-loop-name l = IfSome l.found (λ name. Contains l.known name)
+invariant-loop-name l = IsSoFar l.wanted l.known l.name-index l.fewest l.found
