@@ -4,5 +4,4 @@ pub mod Members
 pub mod Paths
 pub mod Calls
 pub mod Trees
-pub mod KeyedValues
 pub mod Bindings

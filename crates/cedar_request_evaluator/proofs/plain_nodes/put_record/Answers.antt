@@ -3,7 +3,7 @@ use Rattle.cedar_builders.specs.NodeByNode.{keyed}
 use Rattle.cedar_exprs.specs.BareExpr.{bare_fields}
 use Rattle.semantics_eval.specs.Rows.{record_outcome}
 use Rattle.cedar_evaluator.specs.Outcomes.{meaning_of}
-use Rattle.cedar_request_evaluator.proofs.KeyedValues.{meant_keyed}
+use Rattle.cedar_exprs.proofs.KeyedValues.{meant_keyed}
 use Rattle.cedar_request_evaluator.proofs.plain_nodes.put_record.Goals as goal
 
 pub returns : goal.returns

@@ -3,7 +3,7 @@ use Rattle.cedar_builders.specs.NodeByNode.{keyed}
 use Rattle.cedar_exprs.specs.BareExpr.{bare_fields}
 use Rattle.semantics_simplify.specs.Simplifier.{simplifier_ops}
 use Rattle.cedar_simplifier.specs.Simplified.{meaning_of}
-use Rattle.cedar_request_evaluator.proofs.KeyedValues.{meant_keyed}
+use Rattle.cedar_exprs.proofs.KeyedValues.{meant_keyed}
 use Rattle.cedar_request_simplifier.proofs.plain_nodes.put_record.Goals as goal
 
 pub returns-in-Ok : goal.returns-in-Ok
