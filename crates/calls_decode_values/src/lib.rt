@@ -1,5 +1,5 @@
-//! The values that the arguments of recorded calls stand for, and what the functions answer that are
-//! stored for their extension values. `docs/CALLS.md` describes the language.
+//! The values that the arguments of recorded calls stand for, and what the functions answer that
+//! are stored for their extension values. `docs/CALLS.md` describes the language.
 #![tactic(auto)]
 
 mod keyed;

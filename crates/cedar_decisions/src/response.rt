@@ -19,8 +19,8 @@ use cedar_request_evaluator::RequestEvaluator;
 use std::alloc::{AllocError, Global};
 
 /// The response to a request, by what is known and by the policies of a text in Cedar's syntax.
-/// Templates do not decide, until they are linked. Refuses a text that is no policies, or has two with
-/// the same identifier.
+/// Templates do not decide, until they are linked. Refuses a text that is no policies, or has two
+/// with the same identifier.
 ///
 /// ```rust
 /// let evaluator = RequestEvaluator::new(&request, &entities, &BuiltinFunctions, &values);

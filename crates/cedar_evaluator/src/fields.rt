@@ -17,7 +17,7 @@ pub(crate) struct Fields {
 }
 
 impl Fields {
-    // The record that a value at no place is. Any other value comes back: what has a place keeps it.
+    // The record that a value at no place is. Any other comes back: what has a place keeps it.
     pub(crate) fn of(value: Value<NoExtension>) -> Result<Fields, Value<NoExtension>>
         requires { IsTrue (well_formed ⟦<NoExtension as Ord>⟧.cmp value) }
         ensures { MatchResult result

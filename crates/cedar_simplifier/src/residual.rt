@@ -100,7 +100,7 @@ impl<X: ExtensionValue + Ord> SimplifierOf<X> {
         Ok(self.residual(Tree::unary(alloc, op, arg)?))
     }
 
-    /// An operator on two arguments, as a residual with the builder's place, whatever is known of them.
+    /// An operator on two arguments, as a residual with the builder's place, whatever is known.
     pub fn residual_binary(
         self,
         alloc: Global,

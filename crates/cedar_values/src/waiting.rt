@@ -1,5 +1,5 @@
-//! What waits while a walk looks at the values inside of a value: the sets' members and the records'
-//! values, on the heap, so that no depth ends the walk.
+//! What waits while a walk looks at the values inside of a value: the sets' members and the
+//! records' values, on the heap, so that no depth ends the walk.
 ghost use Rattle.std.specs.Prelude.{◌≡◌, ◌++◌, OnOk, map};
 ghost use Rattle.cedar_exprs.specs.Walks.{referents};
 ghost use Rattle.cedar_values.specs.BareValues.{kind_of};

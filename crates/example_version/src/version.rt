@@ -11,7 +11,7 @@ use cedar_terms::Literal;
 use cedar_values::ExtensionValue;
 use std::alloc::{AllocError, Global};
 
-/// A version, as `2.10`: numbers, so it is behind `2.9`. It compares by the two, and shows its text.
+/// A version, as `2.10`: numbers, so it is behind `2.9`. Compares by the two, shows its text.
 #[derive(Debug, Drop)]
 #[derive_where(PartialEq, Eq, PartialOrd, Ord)]
 pub struct Version {
