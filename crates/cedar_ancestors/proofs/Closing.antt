@@ -4,8 +4,9 @@ use Rattle.std.specs.List.{All, Contains}
 use Rattle.std.specs.Global.{Global}
 use Rattle.std.specs.declared.vec.Vec.{Vec}
 use Rattle.std.proofs.lemmas.List.{get_or_default, get_or_read, get_or_append_left, get_or_push}
+use Rattle.std.proofs.lemmas.List.Sorted.{Contains-permutation, IsPermutation-sym}
 use Rattle.std.proofs.lemmas.Bool.{cases_lt}
-use Rattle.std.specs.List.Sorted.{IsNonDecreasing}
+use Rattle.std.specs.List.Sorted.{IsNonDecreasing, IsPermutation}
 use borrow.Author.Count.{below_more}
 use Rattle.cedar_ancestors.specs.Marks.{IsAdded}
 use Rattle.cedar_ancestors.specs.Reaching.{Reaches-trans, Reaches, one, more}
@@ -66,6 +67,13 @@ module _ (table : List (Vec ℕ Global)) (i : ℕ) (row : Vec ℕ Global) (items
   pub row_within : (n : ℕ) → n ≡ length table → IsWithin table → All (λ (k : ℕ). k < n) items
   row_within n e w = subst (λ (xs : List ℕ). All (λ (k : ℕ). k < n) xs) (sym (read ∙ ap (λ (v : Vec ℕ Global). v.items) is))
       (λ k d h. subst (λ (m : ℕ). get_or (get_or table i row).items k d < m) (sym e) (w i row lt k d h))
+
+-- a row in another order has the same indexes
+pub all_in_any_order : (table : List (Vec ℕ Global)) (x : ℕ) (found row : List ℕ) → IsPermutation found row → HasAllAbove table x found → HasAllAbove table x row
+all_in_any_order table x found row same all y = (
+  (λ h. (all y).0 (Contains-permutation row found y (IsPermutation-sym found row same) h)),
+  (λ h. Contains-permutation found row y same ((all y).1 h)),
+)
 
 -- the rows that were closed so far
 pub record IsClosed (table : List (Vec ℕ Global)) (x : ℕ) (row : List ℕ) : Type 0 where

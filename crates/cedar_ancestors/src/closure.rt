@@ -1,11 +1,10 @@
 //! What is above each index of a table, made once, so that a question is one look-up.
-ghost use Rattle.std.specs.Prelude.{◌≡◌, ◌↔◌, ℕ, ◌<◌, [], length, IfErr, IfOk, IsTrue, OnOk};
+ghost use Rattle.std.specs.Prelude.{◌≡◌, ◌↔◌, ℕ, ◌<◌, IfErr, IfOk, IsTrue, OnOk};
 ghost use Rattle.cedar_ancestors.specs.Refusals.{IsRefusalOf};
 ghost use Rattle.std.specs.List.{All, Contains};
 ghost use Rattle.std.specs.List.Sorted.{IsNonDecreasing};
 ghost use Rattle.cedar_ancestors.specs.declared.closure.Refusal.TheVariants.{Memory};
-ghost use Rattle.cedar_ancestors.specs.Marks.{IsMarked};
-ghost use Rattle.cedar_ancestors.specs.Tables.{AllAscend, HasAllAbove, IsAcyclic, IsClosureOf, IsInRow, IsWithin, row_at};
+ghost use Rattle.cedar_ancestors.specs.Tables.{AllAscend, IsAcyclic, IsClosureOf, IsInRow, IsWithin, row_at};
 
 use crate::walking::above;
 use std::alloc::{AllocError, AllocFailed, Global};
@@ -46,26 +45,6 @@ fn is_in(row: &[usize], index: usize) -> bool
     row.binary_search(&index).is_ok()
 }
 
-// What is above an index, ascending.
-fn ascending_above(
-    alloc: Global,
-    table: &[Vec<usize>],
-    seen: &mut [bool],
-    index: usize,
-) -> Result<Vec<usize>, AllocError>
-    requires within { IsWithin table.now }
-    requires index { index < length table.now }
-    requires long { length seen.old ≡ length table.now }
-    requires unmarked { IsMarked seen.old [] }
-    ensures unmarked { OnOk result (IsMarked seen.new []) }
-    ensures all { IfOk result (λ row. HasAllAbove table.now index row.items) }
-    ensures ascending { IfOk result (λ row. IsNonDecreasing row.items) }
-{
-    let mut row = above(alloc, table, seen, index)?;
-    row.sort_unstable();
-    Ok(row)
-}
-
 // The closure of a table, each row ascending, or an index that is above itself. All rows together
 // have at most so many indexes.
 fn close(alloc: Global, table: &[Vec<usize>], most: usize) -> Result<Vec<Vec<usize>>, Refusal>
@@ -79,7 +58,8 @@ fn close(alloc: Global, table: &[Vec<usize>], most: usize) -> Result<Vec<Vec<usi
     let mut rows = Vec::new(alloc);
     let mut left = most;
     for index in 0..table.len() {
-        let row = ascending_above(alloc, table, &mut seen, index)?;
+        let mut row = above(alloc, table, &mut seen, index)?;
+        row.sort_unstable();
         if is_in(&row, index) {
             return Err(Refusal::Cycle(index));
         }
