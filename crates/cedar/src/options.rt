@@ -26,13 +26,22 @@ on what is not known yet";
 
 const AFTER_EVALUATE: &str = "\
 Not known are the parts of the request that are not given, unknowns that are not bound, and, without
---entities, all that entities alone decide: `in`, attributes, tags. A residual may be evaluated again,
-once more is known. --bind binds unknowns, as `unknown(\"limit\")`, and parts of the request:
+--entities, all that entities alone decide: `in`, attributes, tags. What may have a fault stays in
+the residual, as `false || context.mfa`. A residual may be evaluated again, once more is known.
+--bind binds unknowns, as `unknown(\"limit\")`, and parts of the request:
 
     {\"principal\": \"User::\\\"alice\\\"\", \"context\": {\"mfa\": true}, \"limit\": 3}
 
-Answers go to standard output, everything else to standard error. With --batch the status is the
-greatest of the lines'.";
+Answers go to standard output, everything else to standard error. A FILE may be `-`, standard input,
+once. The status is, with --batch the greatest of the lines',
+
+    0  a value was printed
+    1  it can't be done: options, or a file
+    2  the value is `false`, with --exit-status
+    3  memory ran out
+    4  a residual was printed, or with --strict refused
+    5  the text is no condition
+    6  the condition has a fault";
 
 const CHECK: &str = "Checks that policies, entities or an expression can be parsed";
 
