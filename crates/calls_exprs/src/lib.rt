@@ -32,7 +32,7 @@ pub fn answer(alloc: Global, call: &str, args: &[Sexpr]) -> Result<String, CallE
         "data" => data::tree(alloc, args),
         "data-set" => data::set_data(alloc, args),
         "data-rebuild" => data::rebuild(alloc, args),
-        "rising" => shapes::ascending(alloc, args),
+        "ascending" => shapes::ascending(alloc, args),
         "restricted-call" => restricted::call(alloc, args),
         _ => match args {
             [] => of_nothing(alloc, call),

@@ -168,7 +168,7 @@ fn about(alloc: Global, v: &KeyedValue) -> Result<String, CallError> {
 fn counted(alloc: Global, pairs: &BTreeMap<RcStr, KeyedValue>) -> Result<String, CallError> {
     Answer::new(alloc)
         .labelled("keys=", &pairs.len())
-        .labelled("rising=", &ascends(pairs))
+        .labelled("ascending=", &ascends(pairs))
         .labelled("numbered=", &numbered(pairs))
         .end()
 }
