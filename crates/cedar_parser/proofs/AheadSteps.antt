@@ -19,7 +19,7 @@ use Rattle.cedar_parser.specs.Meant.{AreLexemes, IsNoMinus, IsTestKind, first_ki
 use Rattle.cedar_parser.proofs.Operators.{none_some, some_one}
 use Rattle.cedar_parser.proofs.Rising.{operator_fits, operator_looser, rest_dead}
 use Rattle.cedar_parser.proofs.Onward.{IsNoNumber, LooserThan, behind_first, rest_steps, waits_more}
-use Rattle.cedar_parser.proofs.Words.{word_named}
+use Rattle.semantics_grammar.proofs.Words.{word_named}
 
 -- ---- tokens behind an operand
 

@@ -8,7 +8,7 @@ use Rattle.std.proofs.lemmas.Bool.Decides.{nat_tests}
 use Rattle.cedar_lexer.specs.Grammar.{IsTokenText, word, digits, slot, quoted, sign}
 use Rattle.cedar_lexer.specs.declared.token.TokenKind.{TokenKind}
 use Rattle.cedar_lexer.specs.declared.token.TokenKind.TheVariants as kinds
-use Rattle.semantics_round_trip.proofs.Words.{kind_of_word, kind_of_sign}
+use Rattle.semantics_grammar.proofs.Words.{kind_of_word, kind_of_sign}
 
 abbrev is_digits : TokenKind → Bool
 is_digits kinds.Digits = true
