@@ -152,7 +152,7 @@ fn show_response(rt: &HostRuntime, response: &Response) -> io::Result<()> {
     Ok(())
 }
 
-// The policies that are left where nothing is decided.
+// The residual policies, where nothing is decided.
 fn residual(response: PartialResponse, alloc: Global) -> Vec<Policy> {
     match response {
         PartialResponse::Residual(policies) => policies,
