@@ -25,5 +25,6 @@ pub mod CompleteSteps
 pub mod CompleteRows
 pub mod CompleteTokens
 pub mod CompleteTexts
+pub mod CompleteNames
 pub mod CompleteLeaves
 pub mod CompleteWhole

@@ -3,13 +3,13 @@ use Rattle.std.proofs.Common.{ap, refl, sym, subst, length, rules}
 use Rattle.cedar_lexer.specs.declared.token.TokenKind.TheVariants as kinds
 use Rattle.cedar_terms.specs.declared.precedence.Precedence.TheVariants as precedences
 use Rattle.cedar_parser.specs.Ahead.{Rest, RowGoesOn}
-use Rattle.cedar_parser.specs.Meant.{AreLexemes, first_kind, here, open_groups, waits}
+use Rattle.cedar_parser.specs.Meant.{AreLexemes, here, open_groups, waits}
 use Rattle.cedar_parser.specs.Waiting.{arguments}
 use Rattle.cedar_parser.proofs.CompleteSteps.{operand_ahead}
+use Rattle.cedar_parser.proofs.CompleteNames.{entity_next, variable_next}
 use Rattle.cedar_parser.proofs.CompleteRows.{WordIs, word_begins}
-use Rattle.cedar_parser.proofs.CompleteTokens.{first_other, no_end}
 use Rattle.cedar_parser.proofs.TakenSteps.{end_kept, taken_is, untouched_here}
-use Rattle.cedar_parser.proofs.WordSteps.{call_behind, entity_behind, variable_behind}
+use Rattle.cedar_parser.proofs.WordSteps.{call_behind}
 use Rattle.std.proofs.Common.{◌∙◌, string_bytes, sym}
 use Rattle.cedar_names.specs.PlainNames.{bare_name}
 use Rattle.cedar_parser.proofs.NameSteps.{entity_step, function_opens, variable_step}
@@ -62,14 +62,12 @@ returns-clause-parses c ts end h =
 
 pub returns-then-is_some-clause-complete : goal.returns-then-is_some-clause-complete
 returns-then-is_some-clause-complete c word end a =
-    let r = c.args.self.now in
-    let path = string_bytes c.in_ok-path.path.text in
-    let t1 = c.parse.new.tokens in
-    let t2 = c.take_if.new.self in
-    let b = word_begins r c.args.first path c.args.tokens.now t1 a word c.in_ok-path.ensures.parses c.in_ok-path.ensures.complete in
+    let b = word_begins c.args.self.now c.args.first (string_bytes c.in_ok-path.path.text) c.args.tokens.now c.parse.new.tokens a word
+    c.in_ok-path.ensures.parses c.in_ok-path.ensures.complete in
     let o = one_taken _ _ c.take_if.result c.take_if.ensures.gives (sym c.is_some.ensures ∙ c.if-is_some.true) in
-    let same = taken_is t1 t2 o.0 kinds.Colons o.1.0 o.1.1 in
-    let x = entity_behind (open_groups r) (waits r) path o.0.text.now (here t2) (subst (WordIs (open_groups r) (waits r) path) same b.goes_on) in
+    let x = entity_next c.args.self.now (string_bytes c.in_ok-path.path.text) c.parse.new.tokens c.take_if.new.self b o.0 o.1.0 o.1.1 in
+    let r = c.args.self.now in
+    let same = taken_is c.parse.new.tokens c.take_if.new.self o.0 kinds.Colons o.1.0 o.1.1 in
     let k = c.in_ok-expr.ensures.takes x.0 x.2 x.3 in (
       operand_ahead r c.member.result precedences.Member (here c.entity.new.tokens)
           (record {
@@ -81,14 +79,10 @@ returns-then-is_some-clause-complete c word end a =
 
 pub returns-in_err-expr-clause-complete : goal.returns-in_err-expr-clause-complete
 returns-in_err-expr-clause-complete c word end a =
-    let r = c.args.self.now in
-    let path = string_bytes c.in_ok-path.path.text in
-    let t1 = c.parse.new.tokens in
-    let t2 = c.take_if.new.self in
-    let b = word_begins r c.args.first path c.args.tokens.now t1 a word c.in_ok-path.ensures.parses c.in_ok-path.ensures.complete in
+    let b = word_begins c.args.self.now c.args.first (string_bytes c.in_ok-path.path.text) c.args.tokens.now c.parse.new.tokens a word
+    c.in_ok-path.ensures.parses c.in_ok-path.ensures.complete in
     let o = one_taken _ _ c.take_if.result c.take_if.ensures.gives (sym c.is_some.ensures ∙ c.if-is_some.true) in
-    let same = taken_is t1 t2 o.0 kinds.Colons o.1.0 o.1.1 in
-    let x = entity_behind (open_groups r) (waits r) path o.0.text.now (here t2) (subst (WordIs (open_groups r) (waits r) path) same b.goes_on) in
+    let x = entity_next c.args.self.now (string_bytes c.in_ok-path.path.text) c.parse.new.tokens c.take_if.new.self b o.0 o.1.0 o.1.1 in
     let e = c.in_err-expr.field-0.0 in
     let failed : c.from_residual-in_err-expr.result ≡ Err e = search rules in
     rw failed (c.in_err-expr.ensures.complete b.name x.1 x.0 x.2 b.named b.plain x.3 x.4)
@@ -97,13 +91,13 @@ pub returns-then-is_some-2-clause-complete : goal.returns-then-is_some-2-clause-
 returns-then-is_some-2-clause-complete c word end a =
     let r = c.args.self.now in
     let path = string_bytes c.in_ok-path.path.text in
-    let t1 = c.parse.new.tokens in
     let t2 = c.take_if.new.self in
     let t3 = c.take_if-2.new.self in
-    let b = word_begins r c.args.first path c.args.tokens.now t1 a word c.in_ok-path.ensures.parses c.in_ok-path.ensures.complete in
+    let b = word_begins c.args.self.now c.args.first (string_bytes c.in_ok-path.path.text) c.args.tokens.now c.parse.new.tokens a word
+    c.in_ok-path.ensures.parses c.in_ok-path.ensures.complete in
     let u = none_taken _ _ c.take_if.result c.take_if.ensures.gives (sym c.is_some.ensures ∙ c.if-is_some.false) in
     let o = one_taken _ _ c.take_if-2.result c.take_if-2.ensures.gives (sym c.is_some-2.ensures ∙ c.if-is_some-2.true) in
-    let same = untouched_here t1 t2 u ∙ taken_is t2 t3 o.0 kinds.OpenRound o.1.0 o.1.1 in
+    let same = untouched_here c.parse.new.tokens t2 u ∙ taken_is t2 t3 o.0 kinds.OpenRound o.1.0 o.1.1 in
     let n = bare_name c.in_ok-name.field-0 in
     let x = call_behind (open_groups r) (waits r) path o.0.text.now (here t3) n (subst (WordIs (open_groups r) (waits r) path) same b.goes_on) in
     c.item.ensures.complete (end_kept c.args.tokens.now t3 (o.1.1.1 ∙ (u.1 ∙ c.in_ok-path.ensures.end)) end)
@@ -122,22 +116,19 @@ returns-in_err-name-clause-complete c word end a =
 
 pub returns-clause-complete : goal.returns-clause-complete
 returns-clause-complete c word end a =
-    let r = c.args.self.now in
-    let path = string_bytes c.in_ok-path.path.text in
-    let t1 = c.parse.new.tokens in
-    let t2 = c.take_if.new.self in
-    let t3 = c.take_if-2.new.self in
-    let b = word_begins r c.args.first path c.args.tokens.now t1 a word c.in_ok-path.ensures.parses c.in_ok-path.ensures.complete in
+    let b = word_begins c.args.self.now c.args.first (string_bytes c.in_ok-path.path.text) c.args.tokens.now c.parse.new.tokens a word
+    c.in_ok-path.ensures.parses c.in_ok-path.ensures.complete in
     let u = none_taken _ _ c.take_if.result c.take_if.ensures.gives (sym c.is_some.ensures ∙ c.if-is_some.false) in
     let v = none_taken _ _ c.take_if-2.result c.take_if-2.ensures.gives (sym c.is_some-2.ensures ∙ c.if-is_some-2.false) in
-    let same = untouched_here t2 t3 v in
-    let first = first_other kinds.Colons t1 t2 (λ x. search rules) (no_end kinds.Colons refl) u in
-    let second = first_other kinds.OpenRound t2 t3 (λ x. search rules) (no_end kinds.OpenRound refl) v in
-    let x = variable_behind (open_groups r) (waits r) path (here t2) first (λ e. second (ap first_kind (sym same) ∙ e))
-    (subst (WordIs (open_groups r) (waits r) path) (untouched_here t1 t2 u) b.goes_on) in (
+    let x = variable_next c.args.self.now (string_bytes c.in_ok-path.path.text) c.parse.new.tokens c.take_if.new.self b c.take_if-2.new.self u v
+    (λ x. search rules) (λ x. search rules) in
+    let r = c.args.self.now in
+    let t2 = c.take_if.new.self in
+    let t3 = c.take_if-2.new.self in
+    let same = untouched_here t2 t3 v in (
       operand_ahead r c.member-2.result precedences.Member (here t3)
           (record {
-            lexemes = subst AreLexemes (untouched_here t1 t2 u ∙ same) b.lexemes;
+            lexemes = subst AreLexemes (untouched_here c.parse.new.tokens t2 u ∙ same) b.lexemes;
             goes_on = subst (Rest (open_groups r) (waits r) precedences.Member) same x.2;
           }) c.member-2.ensures.precedence,
       end_kept c.args.tokens.now t3 (v.1 ∙ (u.1 ∙ c.in_ok-path.ensures.end)) end,
@@ -145,18 +136,12 @@ returns-clause-complete c word end a =
 
 pub returns-in_err-variable-clause-complete : goal.returns-in_err-variable-clause-complete
 returns-in_err-variable-clause-complete c word end a =
-    let r = c.args.self.now in
-    let path = string_bytes c.in_ok-path.path.text in
-    let t1 = c.parse.new.tokens in
-    let t2 = c.take_if.new.self in
-    let t3 = c.take_if-2.new.self in
-    let b = word_begins r c.args.first path c.args.tokens.now t1 a word c.in_ok-path.ensures.parses c.in_ok-path.ensures.complete in
+    let b = word_begins c.args.self.now c.args.first (string_bytes c.in_ok-path.path.text) c.args.tokens.now c.parse.new.tokens a word
+    c.in_ok-path.ensures.parses c.in_ok-path.ensures.complete in
     let u = none_taken _ _ c.take_if.result c.take_if.ensures.gives (sym c.is_some.ensures ∙ c.if-is_some.false) in
     let v = none_taken _ _ c.take_if-2.result c.take_if-2.ensures.gives (sym c.is_some-2.ensures ∙ c.if-is_some-2.false) in
-    let first = first_other kinds.Colons t1 t2 (λ x. search rules) (no_end kinds.Colons refl) u in
-    let second = first_other kinds.OpenRound t2 t3 (λ x. search rules) (no_end kinds.OpenRound refl) v in
-    let x = variable_behind (open_groups r) (waits r) path (here t2) first (λ e. second (ap first_kind (sym (untouched_here t2 t3 v)) ∙ e))
-    (subst (WordIs (open_groups r) (waits r) path) (untouched_here t1 t2 u) b.goes_on) in
+    let x = variable_next c.args.self.now (string_bytes c.in_ok-path.path.text) c.parse.new.tokens c.take_if.new.self b c.take_if-2.new.self u v
+    (λ x. search rules) (λ x. search rules) in
     let e = c.in_err-variable.field-0.0 in
     let failed : c.from_residual-in_err-variable.result ≡ Err e = search rules in
     rw failed (c.in_err-variable.ensures.complete x.0 x.1)
