@@ -125,7 +125,7 @@ impl Nodes<'_> {
     {
         match only(args) {
             Some(arg) => Ok(self.at(span)?.unary_app(self.alloc, UnaryOp::IsEmpty, arg)?),
-            None => Err(ParseFailure::Syntax(span, WRONG_COUNT)),
+            None => Err(ParseFailure::Syntax(span, "`isEmpty` takes no argument")),
         }
     }
 
@@ -137,7 +137,7 @@ impl Nodes<'_> {
     {
         match only_two(args) {
             Some((first, last)) => Ok(self.at(span)?.binary_app(self.alloc, op, first, last)?),
-            None => Err(ParseFailure::Syntax(span, WRONG_COUNT)),
+            None => Err(ParseFailure::Syntax(span, wrong_count(op))),
         }
     }
 }
@@ -182,7 +182,17 @@ fn method_operator(method: &str) -> Option<BinaryOp>
     }
 }
 
-const WRONG_COUNT: &str = "this method takes another number of arguments";
+// How many arguments a method takes.
+fn wrong_count(op: BinaryOp) -> &'static str {
+    match op {
+        BinaryOp::Contains => "`contains` takes 1 argument",
+        BinaryOp::ContainsAll => "`containsAll` takes 1 argument",
+        BinaryOp::ContainsAny => "`containsAny` takes 1 argument",
+        BinaryOp::GetTag => "`getTag` takes 1 argument",
+        BinaryOp::HasTag => "`hasTag` takes 1 argument",
+        _ => "this method takes another number of arguments",
+    }
+}
 
 // The name of the unknown that a call stands for, if it stands for one.
 fn unknown_name(name: &Name, args: &[Expr]) -> Result<Option<RcStr>, AllocError>
