@@ -1,5 +1,5 @@
 -- The answer, by what the evaluator gave.
-use Rattle.std.proofs.Common.{◌≡◌, ◌≢◌, Bool, Result, Ok, Err, IfOk, refl, ◌∙◌, ap, subst, sym}
+use Rattle.std.proofs.Common.{◌≡◌, ◌≢◌, inl, inr, Bool, Result, Ok, Err, IfOk, refl, ◌∙◌, ap, subst, sym}
 use Rattle.std.specs.Prelude.{string_bytes}
 use Rattle.std.specs.declared.cmp.Ordering.{Ordering}
 use Rattle.cedar_names.specs.Names.{BareName}
@@ -19,8 +19,12 @@ use Rattle.semantics_request.specs.Residuals.{residual}
 use Rattle.cedar_evaluator.specs.Outcomes.{bare_fault}
 use Rattle.cedar_evaluator.specs.declared.fault.EvalFault.{EvalFault}
 use Rattle.cedar_evaluator.specs.declared.fault.EvalFault.TheVariants.{Open, WrongType, Overflow, Missing, Store}
+use Rattle.cedar_lexer.specs.declared.error.ParseError.{ParseError}
+use Rattle.cedar_lexer.specs.declared.error.ParseError.TheVariants.{Memory as NoMemory, Syntax}
+use Rattle.cedar_lexer.specs.declared.error.SyntaxError.{SyntaxError}
 use Rattle.cedar_parser.specs.Meant.{IsParse}
 use Rattle.cedar_bindings.specs.Names.{Names, named}
+use Rattle.cedar_conditions.specs.Conditions.{IsRefused, IsTaken}
 use Rattle.cedar_conditions.specs.Answers.{IsAnswerOf, IsAnswerTo, IsNoCondition, IsUndecided, IsValueText}
 use Rattle.cedar_conditions.specs.declared.answer.Answer.{Answer}
 use Rattle.cedar_conditions.specs.declared.answer.Residual.{Residual as Left}
@@ -47,6 +51,10 @@ undecided_by_refusal name_of o b d is h =
 pub undecided_by_fault : {X : Type 0} (o : Result (meant.Outcome X) BareName) → o ≡ Ok (Err meant.Open) → IsUndecided o
 undecided_by_fault o is = subst IsUndecided (sym is) tt
 
+-- a mistake is no want of memory
+no_mistake : (s : SyntaxError) → Syntax s ≡ NoMemory → ⊥
+no_mistake s is = absurd (cc)
+
 module _ {X : Type 0} (R : X → X → Ordering) (E : X → X → Bool) (C : X → BareCall) (T : Functions X) (k : Knowledge X) where
   pub value_answer : (e : BareExpr) (v : BareValue X) (a : Answer)
       → evaluated R E T k e ≡ Ok (Ok v) → IsValueText C v a → IsAnswerOf R E C T k e a
@@ -71,14 +79,27 @@ module _ {X : Type 0} (R : X → X → Ordering) (E : X → X → Bool) (C : X �
   answer_of e f r same h = subst (λ x. IfOk r (IsAnswerOf R E C T k x)) same h
 
   pub answer_to : (names : Names) (text : Text) (e : BareExpr) (a : Answer) → IsParse text e
-      → IsAnswerOf R E C T k (named names e) a → IsAnswerTo R E C T k names text a
-  answer_to names text e (NoCondition p) is h = tt
-  answer_to names text e (Value s) is h = (e, is, h)
-  answer_to names text e (Residual r) is h = (e, is, h)
-  answer_to names text e (Fault p) is h = (e, is, h)
+      → IsTaken text e → IsAnswerOf R E C T k (named names e) a → IsAnswerTo R E C T k names text a
+  answer_to names text e (NoCondition p) is taken h = elim h [ ]
+  answer_to names text e (Value s) is taken h = (e, is, taken, h)
+  answer_to names text e (Residual r) is taken h = (e, is, taken, h)
+  answer_to names text e (Fault p) is taken h = (e, is, taken, h)
 
-  pub no_condition : (names : Names) (text : Text) (a : Answer) → IsNoCondition a → IsAnswerTo R E C T k names text a
-  no_condition names text (NoCondition p) h = tt
-  no_condition names text (Value s) h = elim h [ ]
-  no_condition names text (Residual r) h = elim h [ ]
-  no_condition names text (Fault p) h = elim h [ ]
+  pub no_expression : (names : Names) (text : Text) (a : Answer)
+      → ((e : BareExpr) → IsParse text e → ⊥) → IsNoCondition a → IsAnswerTo R E C T k names text a
+  no_expression names text (NoCondition p) none h = inl none
+  no_expression names text (Value s) none h = elim h [ ]
+  no_expression names text (Residual r) none h = elim h [ ]
+  no_expression names text (Fault p) none h = elim h [ ]
+
+  -- a text with a mistake stands for nothing
+  pub refused_text : {Z : Type 0} (names : Names) (text : Text) (f : ParseError) (s : SyntaxError)
+      (r : Result Answer Z) → f ≡ Syntax s → ((e : BareExpr) → IsParse text e → f ≡ NoMemory)
+      → IfOk r IsNoCondition → IfOk r (IsAnswerTo R E C T k names text)
+  refused_text names text f s (Ok a) is complete h =
+      no_expression names text a (λ e parsed. no_mistake s (sym is ∙ complete e parsed)) h
+  refused_text names text f s (Err e) is complete h = tt
+
+  pub refused_tree : (names : Names) (text : Text) (e : BareExpr) (p : Problem) → IsParse text e
+      → IsRefused text e → IsAnswerTo R E C T k names text (NoCondition p)
+  refused_tree names text e p is refused = inr (e, is, refused)

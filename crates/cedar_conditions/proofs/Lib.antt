@@ -1,1 +1,6 @@
 mod Answering
+mod Waiting
+mod Pushing
+mod CallTrees
+mod Refusing
+mod OtherStyles

@@ -1,5 +1,5 @@
 -- What the answer to a condition says.
-use Rattle.std.specs.Prelude.{◌≡◌, Bool, Result, Ok, Err, string_bytes, ⊤}
+use Rattle.std.specs.Prelude.{◌≡◌, ◌⊎◌, Bool, Result, Ok, Err, string_bytes, ⊤}
 use Rattle.std.specs.declared.cmp.Ordering.{Ordering}
 use Rattle.cedar_names.specs.Names.{BareName}
 use Rattle.cedar_terms.specs.declared.precedence.Precedence.{Precedence}
@@ -15,6 +15,7 @@ use Rattle.semantics_request.specs.Requests.{Functions, Knowledge}
 use Rattle.semantics_request.specs.Residuals.{residual}
 use Rattle.cedar_parser.specs.Meant.{IsParse}
 use Rattle.cedar_bindings.specs.Names.{Names, named}
+use Rattle.cedar_conditions.specs.Conditions.{IsRefused, IsTaken}
 use Rattle.cedar_conditions.specs.declared.answer.Answer.{Answer}
 use Rattle.cedar_conditions.specs.declared.answer.Answer.TheVariants.{Value, Residual, Fault, NoCondition}
 
@@ -58,8 +59,11 @@ module _ {X : Type 0} (R : X → X → Ordering) (E : X → X → Bool) (C : X �
   IsAnswerOf e (Fault p) = (m : Mistake) × (evaluated R E T k e ≡ Ok (Err (By m)))
   IsAnswerOf e (NoCondition p) = ⊥
 
-  -- the answer to a text: that of a tree which the text stands for, in which each variable and each
-  -- unknown is what its name stands for; or that the text is no condition
+  -- the answer to a text: that of a tree which the text stands for and which is not refused, in which
+  -- each variable and each unknown is what its name stands for; or that the text is no condition: it
+  -- stands for no tree, or for one that is refused
   abbrev pub IsAnswerTo : Names → Text → Answer → Type 0
-  IsAnswerTo names text (NoCondition p) = ⊤
-  IsAnswerTo names text a = (e : BareExpr) × IsParse text e × IsAnswerOf (named names e) a
+  IsAnswerTo names text (NoCondition p) =
+      ((e : BareExpr) → IsParse text e → ⊥) ⊎ ((e : BareExpr) × IsParse text e × IsRefused text e)
+  IsAnswerTo names text a =
+      (e : BareExpr) × IsParse text e × IsTaken text e × IsAnswerOf (named names e) a

@@ -14,11 +14,10 @@ ghost use Rattle.cedar_conditions.specs.Answers.{
   IsValueText,
 };
 
-use crate::calls::wrong_call;
 use crate::faults::fault_words;
 use crate::hints::syntax_words;
 use crate::problem::Problem;
-use crate::size::{Node, nodes_of, too_deep};
+use crate::refusals::refused;
 use crate::unknowns::unknowns_of;
 use cedar_bindings::put_names;
 use cedar_builders::BuildFault;
@@ -81,7 +80,7 @@ impl fmt::Display for Answer {
 /// or, where a part of it is not known, the residual of the tree. A call of what is no function or
 /// method of Cedar makes a text no condition, and so do sets and records that nest more than 1,000
 /// deep.
-#[tactic(auto, using(crate::proofs::Answering::answer_to))]
+#[tactic(auto, using(crate::proofs::Answering::answer_to, crate::proofs::Answering::no_expression, crate::proofs::Answering::refused_tree))]
 pub fn evaluate_condition<X: ExtensionValue + Ord, S: EntityStore<X>, T: CallableFunctions<X>>(
     alloc: Global,
     text: &str,
@@ -112,29 +111,6 @@ fn no_condition(
 {
     let words = syntax_words(alloc, text, error, names)?;
     Ok(Answer::NoCondition(Problem::new(alloc, error.excerpt(text), words)?))
-}
-
-// Why an expression is no condition, though its text is in the grammar: it has too many nodes, or a
-// node, the first from outside, stands in too many sets and records, or is a call of what is no
-// function or method.
-fn refused(alloc: Global, text: &str, expr: &Expr) -> Result<Option<Problem>, AllocError> {
-    let nodes = match nodes_of(alloc, text, expr)? {
-        Ok(nodes) => nodes,
-        Err(problem) => return Ok(Some(problem)),
-    };
-    for node in nodes {
-        if let Some(problem) = refused_node(alloc, text, node)? {
-            return Ok(Some(problem));
-        }
-    }
-    Ok(None)
-}
-
-fn refused_node(alloc: Global, text: &str, node: Node<'_>) -> Result<Option<Problem>, AllocError> {
-    match too_deep(alloc, text, node)? {
-        Some(problem) => Ok(Some(problem)),
-        None => wrong_call(alloc, text, node.expr),
-    }
 }
 
 // The answer to what a text was parsed as.

@@ -1,16 +1,24 @@
 //! Calls of what is no function or method of Cedar.
+ghost use Rattle.std.specs.Prelude.{◌≡◌, IfOk, length, not};
+ghost use Rattle.std.specs.Option.{is_some};
+ghost use Rattle.cedar_names.specs.Names.{name_text};
+ghost use Rattle.cedar_names.specs.PlainNames.{bare_name};
+ghost use Rattle.cedar_exprs.specs.BareExpr.{bare_expr};
+ghost use Rattle.cedar_conditions.specs.Conditions.{is_function_of, is_wrong_call};
+
 use crate::layout::from_on;
 use crate::problem::{Problem, Words};
+use crate::size::piece_of;
 use cedar_exprs::{Expr, ExprKind};
 use cedar_function_names::ExtensionFunction;
 use cedar_json::nearest;
-use cedar_names::Loc;
+use cedar_names::Name;
 use cedar_parser::Excerpt;
 use std::alloc::{AllocError, Global};
 
 // How a function is called.
 #[derive(Clone, Copy, Debug, PartialEq, Eq)]
-enum Style {
+pub(crate) enum Style {
     // Before all its arguments.
     Function,
     // Behind its first argument and a dot.
@@ -18,7 +26,7 @@ enum Style {
 }
 
 impl Style {
-    fn of(function: ExtensionFunction) -> Style {
+    pub(crate) fn of(function: ExtensionFunction) -> Style {
         if function.is_method() {
             Style::Method
         } else {
@@ -60,18 +68,32 @@ pub(crate) fn wrong_call(
     alloc: Global,
     text: &str,
     node: &Expr,
-) -> Result<Option<Problem>, AllocError> {
-    let ExprKind::ExtensionFunctionApp { fn_name, args } = node.expr_kind() else {
-        return Ok(None);
-    };
-    let Some(place) = node.source_loc() else {
-        return Ok(None);
-    };
+) -> Result<Option<Problem>, AllocError>
+    ensures { IfOk result (λ found. is_some found ≡ is_wrong_call (bare_expr node.now)) }
+{
+    match node.expr_kind() {
+        ExprKind::ExtensionFunctionApp { fn_name, args } => {
+            wrong_call_of(alloc, text, node, fn_name, args)
+        }
+        _ => Ok(None),
+    }
+}
+
+fn wrong_call_of(
+    alloc: Global,
+    text: &str,
+    node: &Expr,
+    fn_name: &Name,
+    args: &[Expr],
+) -> Result<Option<Problem>, AllocError>
+    ensures { IfOk result (λ found. is_some found
+        ≡ not (is_function_of (name_text (bare_name fn_name.now)) (length args.now))) }
+{
     let name = fn_name.to_string(alloc)?;
-    let style = written_style(text, place, args);
+    let style = written_style(text, node, args);
     match wrong_words(alloc, &name, style, args.len())? {
         Some(words) => {
-            let piece = name_piece(text, place, &name, args);
+            let piece = name_piece(text, node, &name, args);
             Ok(Some(Problem::new(alloc, piece, words)?))
         }
         None => Ok(None),
@@ -84,12 +106,14 @@ fn wrong_words(
     name: &str,
     style: Style,
     count: usize,
-) -> Result<Option<Words>, AllocError> {
+) -> Result<Option<Words>, AllocError>
+    ensures { IfOk result (λ words. is_some words ≡ not (is_function_of name.now count)) }
+{
     match ExtensionFunction::from_name(name) {
+        Some(function) if function.arity() == count => Ok(None),
         Some(function) if Style::of(function) != style => {
             Ok(Some(wrong_style(alloc, name, Style::of(function))?))
         }
-        Some(function) if function.arity() == count => Ok(None),
         Some(function) => Ok(Some(wrong_count(
             alloc,
             name,
@@ -119,7 +143,7 @@ fn wrong_count(
     Ok(Words::message(message))
 }
 
-fn wrong_style(alloc: Global, name: &str, known: Style) -> Result<Words, AllocError> {
+pub(crate) fn wrong_style(alloc: Global, name: &str, known: Style) -> Result<Words, AllocError> {
     let message = match known {
         Style::Function => format!(in alloc; "`{name}` is a function, and no method")?,
         Style::Method => format!(in alloc; "`{name}` is a method, and no function")?,
@@ -172,19 +196,21 @@ fn meant_call(alloc: Global, name: &str, style: Style) -> Result<String, AllocEr
 }
 
 // How a call is written: the first argument of a method stands before its name.
-fn written_style(text: &str, place: &Loc, args: &[Expr]) -> Style {
-    let is_bracketed = from_on(text, place.start).starts_with('(');
+fn written_style(text: &str, node: &Expr, args: &[Expr]) -> Style {
+    let start = piece_of(text, node).start;
+    let is_bracketed = from_on(text, start).starts_with('(');
     match args.first().and_then(Expr::source_loc) {
-        Some(first) if is_bracketed || first.start == place.start => Style::Method,
+        Some(first) if is_bracketed || first.start == start => Style::Method,
         _ => Style::Function,
     }
 }
 
 // The piece of a text in which the name of a call stands, or the whole call.
-fn name_piece<'a>(text: &'a str, place: &Loc, name: &str, args: &[Expr]) -> Excerpt<'a> {
+fn name_piece<'a>(text: &'a str, node: &Expr, name: &str, args: &[Expr]) -> Excerpt<'a> {
+    let call = piece_of(text, node);
     let behind = match args.first().and_then(Expr::source_loc) {
-        Some(first) if written_style(text, place, args) == Style::Method => first.stop,
-        _ => place.start,
+        Some(first) if written_style(text, node, args) == Style::Method => first.stop,
+        _ => call.start,
     };
     match from_on(text, behind).split_once(name) {
         Some((between, _)) => {
@@ -192,10 +218,6 @@ fn name_piece<'a>(text: &'a str, place: &Loc, name: &str, args: &[Expr]) -> Exce
             let stop = start.saturating_add(name.len());
             Excerpt { text, start, stop }
         }
-        None => Excerpt {
-            text,
-            start: place.start,
-            stop: place.stop,
-        },
+        None => call,
     }
 }

@@ -7,7 +7,9 @@ mod faults;
 mod hints;
 mod layout;
 mod problem;
+mod refusals;
 mod size;
+mod styles;
 mod unknowns;
 
 pub use answer::{Answer, Residual, evaluate_condition};
