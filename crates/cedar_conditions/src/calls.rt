@@ -34,6 +34,13 @@ impl Style {
         }
     }
 
+    fn other(self) -> Style {
+        match self {
+            Style::Function => Style::Method,
+            Style::Method => Style::Function,
+        }
+    }
+
     // What is called so without being a function of an extension: `unknown` stands for what is not
     // known yet, and the methods are those of sets and tags.
     fn other_names(self) -> &'static [&'static str] {
@@ -159,6 +166,9 @@ pub(crate) fn wrong_style(alloc: Global, name: &str, known: Style) -> Result<Wor
 }
 
 fn unknown_name(alloc: Global, name: &str, style: Style) -> Result<Words, AllocError> {
+    if style.other().other_names().contains(&name) {
+        return wrong_style(alloc, name, style.other());
+    }
     let message = match style {
         Style::Function if name == "unknown" => {
             String::from_str(alloc, "`unknown` takes one text in quotes")?

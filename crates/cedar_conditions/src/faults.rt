@@ -1,10 +1,11 @@
 //! Faults in words: which type was found and which is wanted, what is missing.
+use crate::call_faults::call_words;
 use crate::problem::Words;
 use cedar_builders::BuildFault;
 use cedar_evaluator::{EvalFault, EvaluationFault};
 use cedar_exprs::{Expr, ExprKind};
 use cedar_json::did_you_mean;
-use cedar_names::{Loc, Name, NonEmpty};
+use cedar_names::{Loc, NonEmpty};
 use cedar_request::{CallableFunctions, EntityStore};
 use cedar_request_evaluator::RequestEvaluator;
 use cedar_terms::{BinaryOp, Literal, UnaryOp};
@@ -22,7 +23,7 @@ struct Wish {
 
 // The types of values, as a message names them.
 #[derive(Clone, Copy, Debug, PartialEq, Eq)]
-enum Type {
+pub(crate) enum Type {
     Boolean,
     Integer,
     Text,
@@ -37,7 +38,7 @@ enum Type {
 }
 
 impl Type {
-    fn words(self) -> &'static str {
+    pub(crate) fn words(self) -> &'static str {
         match self {
             Type::Boolean => "a Boolean",
             Type::Integer => "an integer",
@@ -59,7 +60,7 @@ impl Type {
         }
     }
 
-    fn of<X: Ord>(value: &Value<X>) -> Type {
+    pub(crate) fn of<X: Ord>(value: &Value<X>) -> Type {
         match value.value_kind() {
             ValueKind::Lit(Literal::Bool(_)) => Type::Boolean,
             ValueKind::Lit(Literal::Long(_)) => Type::Integer,
@@ -156,6 +157,7 @@ fn second_operand(kind: &ExprKind) -> Option<&Expr> {
     match kind {
         ExprKind::And { right, .. } | ExprKind::Or { right, .. } => Some(right),
         ExprKind::BinaryApp { arg2, .. } => Some(arg2),
+        ExprKind::ExtensionFunctionApp { args, .. } => args.get(1),
         _ => None,
     }
 }
@@ -170,9 +172,9 @@ fn type_words<X: ExtensionValue + Ord>(
     match kind {
         ExprKind::GetAttr { attr, .. } => attribute_words(alloc, attr, Type::of(first)),
         ExprKind::HasAttr { attrs, .. } => has_words(alloc, first, attrs),
-        ExprKind::ExtensionFunctionApp { fn_name, .. } => Ok(Some(call_words(
-            alloc, fn_name, first,
-        )?)),
+        ExprKind::ExtensionFunctionApp { fn_name, .. } => {
+            call_words(alloc, fn_name, first, second)
+        }
         ExprKind::BinaryApp { op, .. } => binary_words(alloc, *op, first, second),
         _ => match wish_of(kind) {
             Some(wish) => operand_words(alloc, wish, [Some(first), second]),
@@ -189,21 +191,6 @@ fn attribute_words(alloc: Global, attr: &str, found: Type) -> Result<Option<Word
     let (wanted, found) = (wanted.words(), found.words());
     let message = format!(in alloc; "attribute {attr:?} wants {wanted}, not {found}")?;
     Ok(Some(Words::message(message)))
-}
-
-// That a function has no value for its arguments, of which this is the first.
-fn call_words<X: ExtensionValue + Ord>(
-    alloc: Global,
-    fn_name: &Name,
-    first: &Value<X>,
-) -> Result<Words, AllocError> {
-    let message = match first.value_kind() {
-        ValueKind::Lit(Literal::String(text)) => {
-            format!(in alloc; "`{fn_name}` has no value for the text {text:?}")?
-        }
-        _ => format!(in alloc; "`{fn_name}` does not take arguments of these types")?,
-    };
-    Ok(Words::message(message))
 }
 
 // Which operand of an operator has the wrong type.

@@ -48,7 +48,10 @@ fn no_variable(
     let hint = match near {
         _ if name.contains("::") => entity_hint(alloc, name)?,
         _ if names.contains_key(name) => {
-            format!(in alloc; "the bound name `{name}` is written `unknown(\"{name}\")`")?
+            format!(in alloc;
+                "the bound name `{name}` is written `unknown(\"{name}\")`; the variables are \
+                principal, action, resource and context"
+            )?
         }
         Some(near) => format!(in alloc; "did you mean `{near}`?")?,
         None => format!(in alloc;

@@ -2,6 +2,7 @@
 #![tactic(auto)]
 
 mod answer;
+mod call_faults;
 mod calls;
 mod faults;
 mod hints;
