@@ -1,11 +1,10 @@
 //! The cases of decisions.
 use crate::fault::{CaseFault, expect};
-use crate::nodes::{Store, shared_uid, tree};
+use crate::nodes::{CHILDREN, Store, shared_uid, store};
 use crate::policies::text_of_policies;
 use cedar_authorizer::Decision;
 use cedar_bench_runner::Stopwatch;
 use cedar_decisions::decide_by;
-use cedar_entities::Entities;
 use cedar_functions::{BuiltinExtension, BuiltinFunctions};
 use cedar_policies::PolicySet;
 use cedar_policy_parser::parse_policies;
@@ -43,7 +42,7 @@ fn time_decisions(
 ) -> Result<Duration, CaseFault> {
     let policies = parse_policies(rt.alloc(), policies)?;
     let requests = requests_over(rt.alloc(), entities, requests)?;
-    let store = Entities::from_entities(rt.alloc(), tree(rt.alloc(), entities)?)?;
+    let store = store(rt.alloc(), entities, CHILDREN)?;
     let watch = Stopwatch::start(rt);
     watch.stop(decide_all(rt.alloc(), &policies, &store, &requests))
 }

@@ -1,6 +1,6 @@
 //! The cases of stores of entities.
 use crate::fault::{CaseFault, expect};
-use crate::nodes::{Store, tree, uid};
+use crate::nodes::{CHILDREN, Store, store, tree, uid};
 use cedar_bench_runner::Stopwatch;
 use cedar_entities::Entities;
 use cedar_terms::EntityUID;
@@ -9,7 +9,7 @@ use std::time::Duration;
 
 /// Makes the store of so many entities, a tree.
 pub fn time_make(rt: &HostRuntime, count: usize) -> Result<Duration, CaseFault> {
-    let nodes = tree(rt.alloc(), count)?;
+    let nodes = tree(rt.alloc(), count, CHILDREN)?;
     let watch = Stopwatch::start(rt);
     watch.stop(Entities::from_entities(rt.alloc(), nodes))
 }
@@ -17,7 +17,7 @@ pub fn time_make(rt: &HostRuntime, count: usize) -> Result<Duration, CaseFault> 
 /// Asks of each entity of that store whether the first one is among its ancestors.
 pub fn time_ask(rt: &HostRuntime, count: usize) -> Result<Duration, CaseFault> {
     let uids = uids(rt.alloc(), count)?;
-    let store = Entities::from_entities(rt.alloc(), tree(rt.alloc(), count)?)?;
+    let store = store(rt.alloc(), count, CHILDREN)?;
     let watch = Stopwatch::start(rt);
     watch.stop(ask(rt.alloc(), &store, &uids))
 }

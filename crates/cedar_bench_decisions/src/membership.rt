@@ -1,6 +1,6 @@
 //! The cases of `in`.
 use crate::fault::{CaseFault, expect};
-use crate::nodes::{Store, chain, shared_uid, well_formed};
+use crate::nodes::{Store, shared_uid, store, well_formed};
 use cedar_bench_runner::Stopwatch;
 use cedar_exprs::Expr;
 use cedar_functions::{BuiltinExtension, BuiltinFunctions};
@@ -36,7 +36,7 @@ fn time_condition(
     times: usize,
 ) -> Result<Duration, CaseFault> {
     let condition = parse_expr(rt.alloc(), condition)?;
-    let store = chain(rt.alloc(), ANCESTORS + 1)?;
+    let store = store(rt.alloc(), ANCESTORS + 1, 1)?;
     let watch = Stopwatch::start(rt);
     watch.stop(holds(rt.alloc(), &store, request, &condition, times))
 }

@@ -15,36 +15,35 @@ pub type Node = Entity<WellFormedValue<BuiltinExtension>>;
 /// A store of entities.
 pub type Store = Entities<WellFormedValue<BuiltinExtension>>;
 
-/// A tree of so many nodes: a node's parent has a tenth of its number.
-pub fn tree(alloc: Global, count: usize) -> Result<Vec<Node>, CaseFault> {
+/// How many children a node of a usual tree has.
+pub const CHILDREN: usize = 10;
+
+/// A tree of so many nodes, with so many children each; a chain if there is one child each.
+pub fn tree(alloc: Global, count: usize, children: usize) -> Result<Vec<Node>, CaseFault> {
     let mut nodes = Vec::new(alloc);
     for number in 0..count {
-        nodes.push(node(alloc, number, number / 10)?)?;
+        nodes.push(node(alloc, number, children)?)?;
     }
     Ok(nodes)
 }
 
-/// The store of a chain of so many nodes: a node's parent has the number before.
-pub fn chain(alloc: Global, count: usize) -> Result<Store, CaseFault> {
-    let mut nodes = Vec::new(alloc);
-    for number in 0..count {
-        nodes.push(node(alloc, number, number.saturating_sub(1))?)?;
-    }
-    Ok(Entities::from_entities(alloc, nodes)?)
+/// The store of that tree.
+pub fn store(alloc: Global, count: usize, children: usize) -> Result<Store, CaseFault> {
+    Ok(Entities::from_entities(alloc, tree(alloc, count, children)?)?)
 }
 
-// The node of a number. The first one has no parent.
-fn node(alloc: Global, number: usize, parent: usize) -> Result<Node, CaseFault> {
+fn node(alloc: Global, number: usize, children: usize) -> Result<Node, CaseFault> {
     let uid = uid(alloc, "Node", number)?;
     let ages = ages(alloc, number)?;
-    let parents = parents(alloc, number, parent)?;
+    let parents = parents(alloc, number, children)?;
     Ok(Entity::new(uid, ages, BTreeMap::new(alloc), parents))
 }
 
-fn parents(alloc: Global, number: usize, parent: usize) -> Result<Vec<EntityUID>, CaseFault> {
+// The first node has no parent, and is that of the next ones.
+fn parents(alloc: Global, number: usize, children: usize) -> Result<Vec<EntityUID>, CaseFault> {
     let mut parents = Vec::new(alloc);
-    if number > 0 {
-        parents.push(uid(alloc, "Node", parent)?)?;
+    if let Some(before) = number.checked_sub(1) {
+        parents.push(uid(alloc, "Node", before.checked_div(children).unwrap_or(0))?)?;
     }
     Ok(parents)
 }
