@@ -77,9 +77,10 @@ impl fmt::Display for Answer {
 /// ```
 ///
 /// It is what the condition's tree evaluates to, in which each name stands for what it is bound to;
-/// or, where a part of it is not known, the residual of the tree. A call of what is no function or
-/// method of Cedar makes a text no condition, and so do sets and records that nest more than 1,000
-/// deep.
+/// or, where a part of it is not known, the residual of the tree. An expression is no condition if
+/// it calls what is no function or method of Cedar, or one with another number of arguments, or a
+/// function as a method or a method as a function; if sets and records nest more than 1,000 deep;
+/// or if `is .. in` makes too many nodes of it.
 #[tactic(auto, using(crate::proofs::Answering::answer_to, crate::proofs::Answering::no_expression, crate::proofs::Answering::refused_tree))]
 pub fn evaluate_condition<X: ExtensionValue + Ord, S: EntityStore<X>, T: CallableFunctions<X>>(
     alloc: Global,
