@@ -150,8 +150,8 @@ impl<X: Ord + Drop, S: EntityStore<X>, T: CallableFunctions<X>> PostOrder<()>
         (knowledge_of S.bare_entities w) };
 }
 
-// The value that a node is bound to, where it is an unknown.
-fn bound_value<'a>(
+/// The value that a node is bound to, where it is an unknown.
+pub fn bound_value<'a>(
     values: &'a HashMap<RcStr, WellFormedValue>,
     node: &Expr,
 ) -> Option<&'a WellFormedValue>

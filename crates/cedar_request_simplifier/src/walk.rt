@@ -1,13 +1,12 @@
 //! The walk that simplifies by what is known.
-ghost use Rattle.std.specs.Prelude.{◌≡◌, IfOk, option_map};
+ghost use Rattle.std.specs.Prelude.{◌≡◌, IfOk};
 ghost use Rattle.cedar_builders.specs.Answers.{never};
 ghost use Rattle.cedar_builders.specs.Environment.{bound, empty, fold, own};
 ghost use Rattle.cedar_builders.specs.NodeByNode.{IsBuiltOf, fold_by_nodes};
-ghost use Rattle.cedar_exprs.specs.BareExpr.{bare_expr, expr_place};
+ghost use Rattle.cedar_exprs.specs.BareExpr.{expr_place};
 ghost use Rattle.cedar_exprs.specs.PostOrder.{IsPut};
-ghost use Rattle.cedar_exprs.specs.RestrictedExprs.{binding_of};
-ghost use Rattle.cedar_values.specs.Holders.{held_call, held_name};
-ghost use Rattle.cedar_values.specs.WellFormedValues.{tree_of, type_of, well_formed_env};
+ghost use Rattle.cedar_values.specs.Holders.{held_call};
+ghost use Rattle.cedar_values.specs.WellFormedValues.{tree_of};
 ghost use Rattle.semantics_simplify.specs.Simplified as meant;
 ghost use Rattle.semantics_request.specs.Residuals.{residual_ops};
 ghost use Rattle.cedar_request_evaluator.specs.Knowledge.{knowledge_of};
@@ -23,12 +22,11 @@ use cedar_exprs::{Expr, ExprKind, PostOrder, PostOrderFault, SubstituteValue, pu
 use cedar_names::Loc;
 use cedar_request::{CallableFunctions, EntityStore};
 use cedar_request_evaluator::RequestEvaluator;
+use cedar_request_evaluator::operations::bound_value;
 use cedar_simplifier::{Simplified, SimplifierOf};
 use cedar_values::{ExtensionValue, WellFormedValue};
 use std::alloc::{AllocError, Global};
-use std::collections::HashMap;
 use std::convert::Infallible;
-use std::rc::RcStr;
 
 // What an evaluator knows.
 #[derive(Drop)]
@@ -160,20 +158,6 @@ fn builder_at<X: ExtensionValue + Ord>(
         ⟦<SimplifierOf<X> as ExprBuilder>⟧.place_of b ≡ expr_place node.now) }
 {
     Ok(SimplifierOf::new().with_maybe_source_loc(Loc::clone_option(alloc, node.source_loc())?))
-}
-
-// The value that a node is bound to, where it is an unknown.
-fn bound_value<'a>(
-    values: &'a HashMap<RcStr, WellFormedValue>,
-    node: &Expr,
-) -> Option<&'a WellFormedValue>
-    ensures { option_map (λ v. (type_of held_name v.now, tree_of held_call v.now)) result
-        ≡ binding_of (well_formed_env values.now) (bare_expr node.now) }
-{
-    match node.expr_kind() {
-        ExprKind::Unknown(unknown) => values.get(unknown.name.as_str()),
-        _ => None,
-    }
 }
 
 // Puts what a value's expression is simplified to.

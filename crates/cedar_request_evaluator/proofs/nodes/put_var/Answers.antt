@@ -1,10 +1,6 @@
-use Rattle.std.proofs.Common.{[], Ok, refl, ap, sym, append-nil}
+use Rattle.std.proofs.Common.{Ok, ap}
+use Rattle.cedar_request_evaluator.proofs.Puts.{put_none}
 use Rattle.cedar_request_evaluator.proofs.nodes.put_var.Goals as goal
 
 pub returns : goal.returns
-returns g c = (
-  c.in_ok-outcome.outcome,
-  c.args.done.now.items,
-  c.in_ok-push_item.ensures,
-  ([], sym (append-nil c.args.done.now.items), refl, ap Ok c.in_ok-outcome.ensures),
-)
+returns g c = put_none _ c.in_ok-push_item.ensures (ap Ok c.in_ok-outcome.ensures)

@@ -1,15 +1,8 @@
-use Rattle.std.proofs.Common.{[], ◌∷◌, Ok, ap, refl}
+use Rattle.std.proofs.Common.{Ok, ap}
+use Rattle.cedar_request_evaluator.proofs.Puts.{put_one}
 use Rattle.cedar_request_evaluator.proofs.plain_nodes.put_like.Goals as goal
 
 pub returns : goal.returns
-returns g c = (
-  c.like-outcome.result,
-  c.take_last-child.new.self.items,
-  c.in_ok-push_item.ensures,
-  (
-    c.take_last-child.result ∷ [],
-    c.take_last-child.ensures.items,
-    refl,
-    ap Ok c.like-outcome.ensures,
-  ),
-)
+returns g c =
+    put_one _ _ _ c.take_last-child.ensures.items c.in_ok-push_item.ensures
+    (ap Ok c.like-outcome.ensures)

@@ -1,20 +1,12 @@
-use Rattle.std.proofs.Common.{[], ◌∷◌, Ok, ap, refl, ◌∙◌}
+use Rattle.std.proofs.Common.{Ok, ap, ◌∙◌}
 use Rattle.semantics_simplify.specs.Simplifier.{simplifier_ops}
 use Rattle.cedar_simplifier.specs.Simplified.{meaning_of}
+use Rattle.cedar_request_evaluator.proofs.Puts.{put_one}
 use Rattle.cedar_request_simplifier.proofs.plain_nodes.put_like.Goals as goal
 
 pub returns : goal.returns
 returns g c =
-    let B = simplifier_ops g.X.Ord.cmp g.X.PartialEq.eq g.X.ExtensionValue.canonical in (
-      c.in_ok-made.made,
-      c.take_last-child.new.self.items,
-      c.in_ok-push_item.ensures,
-      (
-        c.take_last-child.result ∷ [],
-        c.take_last-child.ensures.items,
-        refl,
-        ap Ok (c.in_ok-made.ensures tt
-            ∙ ap (B.like_of
-            (meaning_of c.take_last-child.result)) c.in_ok-clone.ensures),
-      ),
-    )
+    let B = simplifier_ops g.X.Ord.cmp g.X.PartialEq.eq g.X.ExtensionValue.canonical in
+    put_one _ _ _ c.take_last-child.ensures.items c.in_ok-push_item.ensures
+    (ap Ok (c.in_ok-made.ensures tt
+    ∙ ap (B.like_of (meaning_of c.take_last-child.result)) c.in_ok-clone.ensures))

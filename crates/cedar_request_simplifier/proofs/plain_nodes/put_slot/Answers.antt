@@ -1,10 +1,6 @@
-use Rattle.std.proofs.Common.{[], Ok, ap, append-nil, refl, sym}
+use Rattle.std.proofs.Common.{Ok, ap}
+use Rattle.cedar_request_evaluator.proofs.Puts.{put_none}
 use Rattle.cedar_request_simplifier.proofs.plain_nodes.put_slot.Goals as goal
 
 pub returns : goal.returns
-returns g c = (
-  c.in_ok-made.made,
-  c.args.done.now.items,
-  c.in_ok-push_item.ensures,
-  ([], sym (append-nil c.args.done.now.items), refl, ap Ok (c.in_ok-made.ensures tt)),
-)
+returns g c = put_none _ c.in_ok-push_item.ensures (ap Ok (c.in_ok-made.ensures tt))

@@ -1,19 +1,10 @@
-use Rattle.std.proofs.Common.{[], Ok, ap, append-nil, refl, sym, ◌∙◌}
+use Rattle.std.proofs.Common.{Ok, ap, ◌∙◌}
 use Rattle.semantics_simplify.specs.Simplifier.{simplifier_ops}
+use Rattle.cedar_request_evaluator.proofs.Puts.{put_none}
 use Rattle.cedar_request_simplifier.proofs.plain_nodes.put_unknown.Goals as goal
 
 pub returns : goal.returns
 returns g c =
-    let B = simplifier_ops g.X.Ord.cmp g.X.PartialEq.eq g.X.ExtensionValue.canonical in (
-      c.in_ok-made.made,
-      c.args.done.now.items,
-      c.in_ok-push_item.ensures,
-      (
-        [],
-        sym (append-nil c.args.done.now.items),
-        refl,
-        ap Ok (c.in_ok-made.ensures tt
-            ∙ ap (λ u. B.unknown_of
-            u.name u.annotation) c.in_ok-clone.ensures.bare),
-      ),
-    )
+    let B = simplifier_ops g.X.Ord.cmp g.X.PartialEq.eq g.X.ExtensionValue.canonical in
+    put_none _ c.in_ok-push_item.ensures (ap Ok (c.in_ok-made.ensures tt
+    ∙ ap (λ u. B.unknown_of u.name u.annotation) c.in_ok-clone.ensures.bare))
