@@ -4,7 +4,8 @@ ghost use Rattle.cedar_ancestors.specs.Refusals.{IsRefusalOf};
 ghost use Rattle.std.specs.List.{All, Contains};
 ghost use Rattle.std.specs.List.Sorted.{IsNonDecreasing};
 ghost use Rattle.cedar_ancestors.specs.declared.closure.Refusal.TheVariants.{Memory};
-ghost use Rattle.cedar_ancestors.specs.Tables.{AllAscend, IsAcyclic, IsClosureOf, IsInRow, IsWithin, row_at};
+ghost use Rattle.cedar_ancestors.specs.Tables.{AllAscend, IsAcyclic, IsClosureOf, IsInRow};
+ghost use Rattle.cedar_ancestors.specs.Tables.{IsWithin, row_at};
 
 use crate::walking::above;
 use std::alloc::{AllocError, AllocFailed, Global};
@@ -37,7 +38,7 @@ impl<T: Drop> From<AllocFailed<T>> for Refusal {
     }
 }
 
-// Whether a ascending row has an index: a search by halving.
+// Whether an ascending row has an index: a search by halving.
 fn is_in(row: &[usize], index: usize) -> bool
     requires { IsNonDecreasing row.now }
     ensures { IsTrue result ↔ Contains row.now index }

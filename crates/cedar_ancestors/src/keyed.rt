@@ -3,8 +3,10 @@ ghost use Rattle.std.specs.Prelude.{◌≡◌, ◌↔◌, ◌<◌, length, IfErr
 ghost use Rattle.std.specs.List.{IsDistinct};
 ghost use Rattle.std.specs.Option.{is_some};
 ghost use Rattle.cedar_sorted_slices.specs.Classes.{has_class};
-ghost use Rattle.cedar_ancestors.specs.Keyed.{AreKnown, ClonesAreAlike, IsAncestorOf, IsAt, IsBelowIn, IsRowBy, IsTableOf, is_listed, lists};
-ghost use Rattle.cedar_ancestors.specs.Hierarchies.{HasNoCycle, IsCyclicAmong, IsCyclicBy, IsHierarchyOf};
+ghost use Rattle.cedar_ancestors.specs.Keyed.{AreKnown, ClonesAreAlike, IsAncestorOf, IsAt};
+ghost use Rattle.cedar_ancestors.specs.Keyed.{IsBelowIn, IsRowBy, IsTableOf, is_listed, lists};
+ghost use Rattle.cedar_ancestors.specs.Hierarchies.{HasNoCycle, IsCyclicAmong, IsCyclicBy};
+ghost use Rattle.cedar_ancestors.specs.Hierarchies.{IsHierarchyOf};
 ghost use Rattle.cedar_ancestors.specs.declared.keyed.Cyclic.TheVariants.{Memory};
 
 use crate::collecting::{HasParents, keys_of};

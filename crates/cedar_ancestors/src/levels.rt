@@ -1,5 +1,6 @@
 //! Whether a table has a cycle: told in one pass where it has none.
-ghost use Rattle.std.specs.Prelude.{◌≡◌, ℕ, ◌<◌, [], length, slice_index, IfErr, IfOk, IsTrue, MatchOption, vec_len};
+ghost use Rattle.std.specs.Prelude.{◌≡◌, ℕ, ◌<◌, [], length, slice_index, IfErr, IfOk, IsTrue};
+ghost use Rattle.std.specs.Prelude.{MatchOption, vec_len};
 ghost use Rattle.std.specs.List.{All, Contains};
 ghost use Rattle.cedar_ancestors.specs.Marks.{IsMarked};
 ghost use Rattle.cedar_ancestors.specs.Tables.{IsAbove, IsAcyclic, IsInRow, IsWithin};

@@ -71,7 +71,8 @@ impl fmt::Display for Answer {
 /// unknowns stand for.
 ///
 /// ```rust
-/// let evaluator = RequestEvaluator::new(&request, &entities, &BuiltinFunctions, bindings.values());
+/// let functions = &BuiltinFunctions;
+/// let evaluator = RequestEvaluator::new(&request, &entities, functions, bindings.values());
 /// let text = "principal in resource.viewers";
 /// let answer = evaluate_condition(alloc, text, bindings.named(), &evaluator)?;
 /// ```

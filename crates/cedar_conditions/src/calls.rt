@@ -34,6 +34,7 @@ impl Style {
         }
     }
 
+    // The one that is meant where this one is wrong.
     fn other(self) -> Style {
         match self {
             Style::Function => Style::Method,

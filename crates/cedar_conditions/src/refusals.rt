@@ -15,8 +15,8 @@ use cedar_exprs::Expr;
 use cedar_lexer::Token;
 use std::alloc::{AllocError, Global};
 
-/// Why an expression is no condition, though its text is in the grammar: it has too many nodes; or a
-/// node, the first from outside, is in too many sets and records, or is a call of what is no
+/// Why an expression is no condition, though its text is in the grammar: it has too many nodes; or
+/// a node, the first from outside, is in too many sets and records, or is a call of what is no
 /// function or method; or a function is called as a method, or a method as a function.
 pub(crate) fn refused(alloc: Global, text: &str, expr: &Expr) -> Result<Option<Problem>, AllocError>
     requires { (ts : List Token) × AreTokens text.now ts }

@@ -14,7 +14,8 @@ ghost use Rattle.std.specs.Prelude.{
 ghost use Rattle.std.specs.Option.{is_some};
 ghost use Rattle.cedar_exprs.specs.BareExpr.{bare_expr, kind_of};
 ghost use Rattle.cedar_exprs.specs.Walks.{children};
-ghost use Rattle.cedar_conditions.specs.Conditions.{around_children, is_container as is_set_or_record};
+ghost use Rattle.cedar_conditions.specs.Conditions.{around_children};
+ghost use Rattle.cedar_conditions.specs.Conditions.{is_container as is_set_or_record};
 ghost use Rattle.cedar_conditions.specs.Nodes.{AreNodesOf, ArePushed, is_container_kind};
 
 use crate::problem::{Problem, Words};

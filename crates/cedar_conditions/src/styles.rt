@@ -34,7 +34,7 @@ pub(crate) fn other_style(alloc: Global, text: &str) -> Result<Option<Problem>, 
     }
 }
 
-#[tactic(auto, using(crate::proofs::OtherStyles::passed, crate::proofs::OtherStyles::found, crate::proofs::OtherStyles::none_left,))]
+#[tactic(auto, using(crate::proofs::OtherStyles::passed, crate::proofs::OtherStyles::found, crate::proofs::OtherStyles::none_left))]
 fn first_other_style(
     alloc: Global,
     text: &str,
@@ -53,8 +53,8 @@ fn first_other_style(
     Ok(None)
 }
 
-// The function that is called by a token, and is written in the other style, where the tokens from a
-// place on follow.
+// The function that is called by a token, and is written in the other style, where the tokens from
+// a place on follow.
 fn called_otherwise(
     is_dotted: bool,
     token: Token<'_>,

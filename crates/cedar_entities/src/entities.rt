@@ -4,7 +4,8 @@ ghost use Rattle.std.specs.Option.{option_copied};
 ghost use Rattle.cedar_ancestors.specs.Hierarchies.{HasNoCycle};
 ghost use Rattle.cedar_ancestors.specs.Stores.{HasMore};
 ghost use Rattle.cedar_terms.specs.Entities.{bare_entity_uid};
-ghost use Rattle.cedar_entities.specs.Listings.{EntitiesStay, HasAllParents, entity_at, is_ancestor_in};
+ghost use Rattle.cedar_entities.specs.Listings.{EntitiesStay, HasAllParents, entity_at};
+ghost use Rattle.cedar_entities.specs.Listings.{is_ancestor_in};
 ghost use Rattle.cedar_entities.specs.Parts.{parents_of, uid_of};
 ghost use Rattle.cedar_entities.specs.Stores.{
   IsRefused,

@@ -9,7 +9,8 @@ ghost use Rattle.cedar_values.specs.BareValues.{bare_value};
 ghost use Rattle.cedar_values.specs.Sets.{members};
 ghost use Rattle.cedar_values.specs.WellFormed.{set_well_formed, well_formed};
 ghost use Rattle.semantics_eval.specs.Outcomes.{truth_of};
-ghost use Rattle.cedar_evaluator.specs.Kinds.{entity_of, extension_in, long_of, members_of, pairs_in, text_of};
+ghost use Rattle.cedar_evaluator.specs.Kinds.{entity_of, extension_in, long_of, members_of};
+ghost use Rattle.cedar_evaluator.specs.Kinds.{pairs_in, text_of};
 
 use cedar_terms::{EntityUID, Integer, Literal};
 use cedar_values::laws::{trees_of_values, values_by_kind};

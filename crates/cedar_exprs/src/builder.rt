@@ -1,5 +1,6 @@
 //! The builder of expressions (the struct `ExprBuilder` of `expr.rs`).
-ghost use Rattle.std.specs.Prelude.{◌≡◌, None, [], ◌∷◌, IfOk, IfErr, OnOk, IsTrue, codes, Ok, map, refl, ⊤};
+ghost use Rattle.std.specs.Prelude.{◌≡◌, None, [], ◌∷◌, IfOk, IfErr, OnOk, IsTrue, codes, Ok};
+ghost use Rattle.std.specs.Prelude.{map, refl, ⊤};
 ghost use Rattle.std.specs.Option.{option_copied};
 ghost use Rattle.std.specs.Rc.{rc_str_bytes};
 ghost use Rattle.cedar_names.specs.PlainNames.{bare_name};
@@ -7,11 +8,13 @@ ghost use Rattle.cedar_terms.specs.Entities.{bare_entity_type};
 ghost use Rattle.cedar_terms.specs.Literals.{bare_literal, BoolLit};
 ghost use Rattle.cedar_terms.specs.Unknowns.{bare_unknown};
 ghost use Rattle.cedar_builders.specs.BareExpr.{BareExpr, Lit, ExtensionFunctionApp, Set, Record};
-ghost use Rattle.cedar_builders.specs.Keys.{keys_of, are_distinct, meant_pairs, IsAscending, HasRepeat, IsFirstRepeat};
+ghost use Rattle.cedar_builders.specs.Keys.{keys_of, are_distinct, meant_pairs, IsAscending};
+ghost use Rattle.cedar_builders.specs.Keys.{HasRepeat, IsFirstRepeat};
 ghost use Rattle.cedar_builders.specs.Errors.{key_of, context_of, OnDuplicateKey};
 ghost use Rattle.cedar_builders.specs.declared.expression_construction_errors.ExpressionConstructionError.TheVariants as error;
 ghost use Rattle.cedar_builders.specs.Trees.{tree_ops};
-ghost use Rattle.cedar_exprs.specs.BareExpr.{bare_expr, bare_expr_kind, bare_exprs, bare_fields, expr_place, further, kind_of, unknown_tree};
+ghost use Rattle.cedar_exprs.specs.BareExpr.{bare_expr, bare_expr_kind, bare_exprs, bare_fields};
+ghost use Rattle.cedar_exprs.specs.BareExpr.{expr_place, further, kind_of, unknown_tree};
 ghost use Rattle.cedar_exprs.specs.RecordPairs.{record_fields, record_values};
 ghost use Rattle.cedar_builders.specs.Answers.{never, IfBuilt};
 ghost use Rattle.cedar_exprs.specs.Walks.{kind_children};

@@ -10,7 +10,8 @@ ghost use Rattle.cedar_builders.specs.BareExpr.{ExtensionFunctionApp, Set, Recor
 ghost use Rattle.cedar_builders.specs.Keys.{keys_of, are_distinct, IsFirstRepeat};
 ghost use Rattle.cedar_builders.specs.Errors.{key_of, context_of, OnDuplicateKey};
 ghost use Rattle.cedar_builders.specs.Trees.{tree_ops};
-ghost use Rattle.cedar_exprs.specs.BareExpr.{bare_expr, bare_exprs, bare_fields, further, unknown_tree};
+ghost use Rattle.cedar_exprs.specs.BareExpr.{bare_expr, bare_exprs, bare_fields, further};
+ghost use Rattle.cedar_exprs.specs.BareExpr.{unknown_tree};
 ghost use Rattle.cedar_exprs.specs.RecordPairs.{record_fields, record_values};
 ghost use Rattle.cedar_exprs.specs.MadeNode.{of_connective, IsPlain, IsPlainNegation};
 

@@ -1,7 +1,9 @@
 //! Questions about expressions.
 ghost use Rattle.std.specs.Prelude.{◌≡◌, IfOk};
 ghost use Rattle.std.specs.List.{list_all};
-ghost use Rattle.cedar_builders.specs.Queries.{is_ref, is_slot, is_unknown, is_ref_set, is_projectable_node, is_projectable, contains_unknown};
+ghost use Rattle.cedar_builders.specs.Queries.{is_ref, is_slot, is_unknown, is_ref_set};
+ghost use Rattle.cedar_builders.specs.Queries.{is_projectable_node, is_projectable};
+ghost use Rattle.cedar_builders.specs.Queries.{contains_unknown};
 ghost use Rattle.cedar_exprs.specs.BareExpr.{bare_expr};
 
 use crate::expr::{Expr, ExprKind};

@@ -28,8 +28,8 @@ impl RestrictedExpr {
     ghost use Rattle.cedar_exprs.specs.RestrictedExprs.{expr_of, bare_restricted_expr};
     ghost use Rattle.cedar_exprs.specs.NotRestricted.{first_not_restricted, IsRefusalOf};
 
-    /// The same expression, known to be restricted. Memory is taken for the walk alone. Where that is
-    /// refused memory, it begins again, by recursion.
+    /// The same expression, known to be restricted. Memory is taken for the walk alone. Where that
+    /// is refused memory, it begins again, by recursion.
     pub fn new(alloc: Global, expr: Expr) -> Result<RestrictedExpr, RestrictedExprError>
         ensures outcome { MatchResult result
             (λ r. expr_of r ≡ expr) (IsRefusalOf (first_not_restricted expr)) }

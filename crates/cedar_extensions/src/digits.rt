@@ -15,7 +15,8 @@ ghost use Rattle.std.specs.Int.{w64};
 ghost use Rattle.std.specs.List.{list_all, prefix_len};
 ghost use Rattle.std.specs.Option.{SomeIff};
 ghost use Rattle.std.specs.Char.{is_ascii_digit};
-ghost use Rattle.cedar_extensions.specs.Numbers.{begins_with, is_no_digit, number_of, signed, with_sign};
+ghost use Rattle.cedar_extensions.specs.Numbers.{begins_with, is_no_digit, number_of, signed};
+ghost use Rattle.cedar_extensions.specs.Numbers.{with_sign};
 
 // Whether a minus sign stands in front, and what follows it.
 pub(crate) fn split_sign(text: &[u8]) -> (bool, &[u8])

@@ -161,8 +161,8 @@ impl<'a> TokenStream<'a> {
         }
     }
 
-    /// Takes the tokens up to the bracket that closes what they stand in, and gives their stream; if
-    /// `ends_at_comma`, up to the first comma outside brackets. The stream ends where the token
+    /// Takes the tokens up to the bracket that closes what they stand in, and gives their stream;
+    /// if `ends_at_comma`, up to the first comma outside brackets. The stream ends where the token
     /// begins that follows.
     pub fn take_group(&mut self, ends_at_comma: bool) -> TokenStream<'a>
         ensures all { rest_of self.old ≡ rest_of result ++ rest_of self.new }

@@ -1,5 +1,6 @@
 //! Operands, and the operations that wait for one.
-ghost use Rattle.std.specs.Prelude.{◌≡◌, ◌<◌, ◌≤◌, IfErr, IfOk, IfSome, IsTrue, MatchOption, MatchResult, Some};
+ghost use Rattle.std.specs.Prelude.{◌≡◌, ◌<◌, ◌≤◌, IfErr, IfOk, IfSome, IsTrue, MatchOption};
+ghost use Rattle.std.specs.Prelude.{MatchResult, Some};
 ghost use Rattle.cedar_terms.specs.declared.precedence.Precedence.TheVariants as precedences;
 ghost use Rattle.cedar_parser.specs.Ahead.{TakesNoSign};
 ghost use Rattle.cedar_parser.specs.Meant.{IsMinus, IsNoMinus, waiting};

@@ -48,7 +48,7 @@ module _ {X : Type 0} (R : X → X → Ordering) (E : X → X → Bool) where
       → authorized R E T k (map (with_condition (λ e. tree_of C (simplified R E C e))) ps)
       ≡ authorized R E T k ps
 
-  -- nor, where more is known, to take the residual policies that were made before
+  -- nor, where more is known, to take the residual conditions that were made before
   abbrev pub ResidualFirst : Type 0
   ResidualFirst =
       (C : X → BareCall) (T : Functions X) (k l : Knowledge X) → IsFuller k l
@@ -56,7 +56,7 @@ module _ {X : Type 0} (R : X → X → Ordering) (E : X → X → Bool) where
       → authorized R E T l (map (with_condition (λ e. tree_of C (residual R E C k e))) ps)
       ≡ authorized R E T l ps
 
-  -- nor, where more is known, to take the policies that were left before
+  -- nor, where more is known, to take the residual policies that were made before
   abbrev pub ResidualPoliciesFirst : Type 0
   ResidualPoliciesFirst =
       (C : X → BareCall) (T : Functions X) (k l : Knowledge X) → IsFuller k l

@@ -9,7 +9,7 @@ use Rattle.semantics_authorize.specs.Policies.{Policy, Verdict, Satisfied, Unsat
 abbrev pub always : BareExpr
 always = Lit (BoolLit true)
 
--- what is left of a policy, by what its condition comes to: nothing of one that is false; one that
+-- the residual of a policy, by what its condition comes to: none of one that is false; one that
 -- is true applies whatever else comes to be known; one that has an error or is not decided stays
 abbrev pub residual_policy : Policy → Verdict → Option Policy
 residual_policy p Satisfied = Some (record p { condition = always })
@@ -17,6 +17,6 @@ residual_policy p Unsatisfied = None
 residual_policy p (Failed f) = Some p
 residual_policy p Undecided = Some p
 
--- the policies that are left, where J says what a condition comes to
+-- the residual policies, where J says what a condition comes to
 abbrev pub residual_policies : (BareExpr → Verdict) → List Policy → List Policy
 residual_policies J = filter_map (λ p. residual_policy p (J p.condition))

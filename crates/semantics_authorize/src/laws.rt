@@ -95,16 +95,16 @@ pub fn simplified_first<X: Ord>()
     outcomes::simplified_first::<X>();
 }
 
-/// The residual policies, made where something is known of the request, of the entities and of the
-/// unknowns, have the response of the policies wherever more is known.
+/// Policies with residual conditions, made where something is known of the request, of the entities
+/// and of the unknowns, have the response of the policies wherever more is known.
 pub fn residual_first<X: Ord>()
     ensures { ResidualFirst X.cmp X.eq }
 {
     outcomes::residual_first::<X>();
 }
 
-/// The policies that are left, where something is known of the request, of the entities and of the
-/// unknowns, have the response of all the policies wherever more is known.
+/// The residual policies, without those that are known not to apply, have the response of all the
+/// policies wherever more is known.
 pub fn residual_policies_first<X: Ord>()
     ensures { ResidualPoliciesFirst X.cmp X.eq }
 {

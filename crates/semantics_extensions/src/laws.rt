@@ -1,7 +1,8 @@
 //! The laws of readings, of written texts and of tests.
 ghost use Rattle.std.specs.Int.{w64};
 ghost use Rattle.std.specs.Net.Addr.{IsIpv4Addr, IsIpv6Addr, MatchIp};
-ghost use Rattle.std.specs.Prelude.{◌≡◌, ◌↔◌, ◌<◌, ◌^◌, FitsSigned, IsTrue, List, Some, codes, pos, ℕ};
+ghost use Rattle.std.specs.Prelude.{◌≡◌, ◌↔◌, ◌<◌, ◌^◌, FitsSigned, IsTrue, List, Some, codes};
+ghost use Rattle.std.specs.Prelude.{pos, ℕ};
 ghost use Rattle.cedar_extensions.specs.declared.datetime.Datetime.{Datetime};
 ghost use Rattle.cedar_extensions.specs.declared.decimal.Decimal.{Decimal};
 ghost use Rattle.cedar_extensions.specs.declared.duration.Duration.{Duration};
@@ -44,8 +45,8 @@ pub fn readings_are_exact()
 }
 
 /// The text of a decimal, of a duration and of a range is read as the value that it was written of,
-/// if 64 bits hold the number, or the address is one of its version. The first day of 1970 is read as
-/// the moment from which others are counted.
+/// if 64 bits hold the number, or the address is one of its version. The first day of 1970 is read
+/// as the moment from which others are counted.
 pub fn written_texts_are_read()
     ensures decimals { (d : Decimal) → FitsSigned w64 d.ten_thousandths →
         decimal_in (decimal_text d.ten_thousandths) ≡ Some d }

@@ -29,7 +29,9 @@ pub record IsPatternOf (word : List ℕ) (es : List PatternElem) : Type 0 where
 
 -- identifiers with `::` between, their text without blanks, and then the rest
 pub data ArePathIds : List Lexeme → Text → List Lexeme → Type 0 where
+  -- e.g. principal is User
   last_id : {w : List ℕ} {rest : List Lexeme} → ArePathIds (lexeme kinds.Word w ∷ rest) w rest
+  -- e.g. principal is Org::User
   in_namespace : {w c : List ℕ} {t : Text} {ts rest : List Lexeme} → ArePathIds ts t rest
       → ArePathIds (lexeme kinds.Word w ∷ lexeme kinds.Colons c ∷ ts) (w ++ (codes "::" ++ t)) rest
 
@@ -41,12 +43,16 @@ pub record IsPath (ts : List Lexeme) (n : BareName) (rest : List Lexeme) : Type 
 
 -- a key: an identifier, or a text in quotes
 pub data IsKey : Lexeme → Text → Type 0 where
+  -- e.g. principal has age
   id_key : {w : List ℕ} → IsKey (lexeme kinds.Word w) w
+  -- e.g. principal has "first name"
   text_key : {w : List ℕ} {k : Text} → IsTextOf w k → IsKey (lexeme kinds.Quoted w) k
 
 -- what stands behind `has`: a key, or several with dots between, and then the rest
 pub data AreKeys : List Lexeme → Text → List Text → List Lexeme → Type 0 where
+  -- e.g. principal has age
   last_key : {l : Lexeme} {k : Text} {rest : List Lexeme} → IsKey l k → AreKeys (l ∷ rest) k [] rest
+  -- e.g. principal has address.city
   first_key : {l : Lexeme} {d : List ℕ} {k k2 : Text} {ks : List Text} {ts rest : List Lexeme} → IsKey l k
       → AreKeys ts k2 ks rest → AreKeys (l ∷ lexeme kinds.Dot d ∷ ts) k (k2 ∷ ks) rest
 

@@ -10,7 +10,8 @@ ghost use Rattle.cedar_terms.specs.Literals.{bare_literal};
 ghost use Rattle.cedar_terms.specs.Unknowns.{bare_unknown};
 ghost use Rattle.cedar_builders.specs.Answers.{Gives};
 ghost use Rattle.cedar_builders.specs.Environment.{empty, fold, own};
-ghost use Rattle.cedar_builders.specs.NodeByNode.{OfOne, OfTwo, OfThree, IsBuiltOf, keyed, fold_by_nodes};
+ghost use Rattle.cedar_builders.specs.NodeByNode.{OfOne, OfTwo, OfThree, IsBuiltOf, keyed};
+ghost use Rattle.cedar_builders.specs.NodeByNode.{fold_by_nodes};
 ghost use Rattle.cedar_exprs.specs.BareExpr.{bare_expr, bare_fields, further};
 ghost use Rattle.cedar_exprs.specs.PostOrder.{IsPut};
 

@@ -4,7 +4,8 @@ ghost use Rattle.std.specs.Hash as fed;
 ghost use Rattle.std.specs.Rc.{rc_str_bytes};
 ghost use Rattle.cedar_builders.specs.ShapeFeed.{attributes_fed, shape_fed, row_fed, fields_fed};
 ghost use Rattle.cedar_builders.specs.Shapes.{has_number, kind_number, row_count, field_count};
-ghost use Rattle.cedar_exprs.specs.BareExpr.{bare_expr, bare_expr_kind, bare_exprs, bare_fields, further};
+ghost use Rattle.cedar_exprs.specs.BareExpr.{bare_expr, bare_expr_kind, bare_exprs, bare_fields};
+ghost use Rattle.cedar_exprs.specs.BareExpr.{further};
 
 use crate::expr::{Expr, ExprKind};
 use cedar_names::NonEmpty;

@@ -5,8 +5,10 @@ ghost use Rattle.std.specs.Ordering.{nat_cmp};
 ghost use Rattle.std.specs.Rc.{rc_str_bytes};
 ghost use Rattle.cedar_terms.specs.Ops.{unary_op_number, binary_op_number};
 ghost use Rattle.cedar_terms.specs.Unknowns.{bare_unknown};
-ghost use Rattle.cedar_builders.specs.Shapes.{◌or_else◌, has_number, kind_number, row_count, field_count, shape_cmp, row_cmp, fields_cmp};
-ghost use Rattle.cedar_exprs.specs.BareExpr.{bare_expr, bare_exprs, bare_fields, further, unknown_tree};
+ghost use Rattle.cedar_builders.specs.Shapes.{◌or_else◌, has_number, kind_number, row_count};
+ghost use Rattle.cedar_builders.specs.Shapes.{field_count, shape_cmp, row_cmp, fields_cmp};
+ghost use Rattle.cedar_exprs.specs.BareExpr.{bare_expr, bare_exprs, bare_fields, further};
+ghost use Rattle.cedar_exprs.specs.BareExpr.{unknown_tree};
 
 use crate::expr::{Expr, ExprKind};
 use crate::shapes::hashing::{has_number, kind_number};

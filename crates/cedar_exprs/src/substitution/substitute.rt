@@ -2,7 +2,8 @@
 //!
 //! `substitute_node` has a small function for each kind: one function would keep room for the
 //! locals of all kinds.
-ghost use Rattle.std.specs.Prelude.{◌≡◌, ◌≤◌, Option, Some, Ok, IfOk, [], ◌∷◌, length, map, vec_len};
+ghost use Rattle.std.specs.Prelude.{◌≡◌, ◌≤◌, Option, Some, Ok, IfOk, [], ◌∷◌, length, map};
+ghost use Rattle.std.specs.Prelude.{vec_len};
 ghost use Rattle.std.specs.Rc.{rc_str_bytes};
 ghost use Rattle.cedar_names.specs.PlainNames.{bare_name};
 ghost use Rattle.cedar_terms.specs.Entities.{bare_entity_type};
@@ -12,11 +13,13 @@ ghost use Rattle.cedar_builders.specs.BareExpr.{BareExpr};
 ghost use Rattle.cedar_builders.specs.Environment.{empty, fold};
 ghost use Rattle.cedar_builders.specs.Keys.{keys_of, IsAscending};
 ghost use Rattle.cedar_builders.specs.NodeByNode.{OfOne, OfTwo, OfThree, keyed};
-ghost use Rattle.cedar_builders.specs.Rebuilding.{checked_ops, new_or, all_new_or, renewed, IsRenewedOf, renewed_by_nodes};
+ghost use Rattle.cedar_builders.specs.Rebuilding.{checked_ops, new_or, all_new_or, renewed};
+ghost use Rattle.cedar_builders.specs.Rebuilding.{IsRenewedOf, renewed_by_nodes};
 ghost use Rattle.cedar_builders.specs.Trees.{tree_ops, bound_tree, substituted, sure};
 ghost use Rattle.cedar_builders.specs.TypeClash.{TwoTypes, refused_binding, first_refusal};
 ghost use Rattle.cedar_builders.specs.Walks.{children, members_of, values_of};
-ghost use Rattle.cedar_exprs.specs.BareExpr.{bare_expr, bare_expr_kind, bare_exprs, bare_fields, further, unknown_tree};
+ghost use Rattle.cedar_exprs.specs.BareExpr.{bare_expr, bare_expr_kind, bare_exprs, bare_fields};
+ghost use Rattle.cedar_exprs.specs.BareExpr.{further, unknown_tree};
 ghost use Rattle.cedar_exprs.specs.PostOrder.{IsMade};
 ghost use Rattle.cedar_exprs.specs.Refusals.{Refuses};
 ghost use Rattle.cedar_exprs.specs.Substituting.{new_tree, IsRenewedOfLast};

@@ -1,10 +1,12 @@
 //! Walks over trees that take no stack: their tasks and their results lie on the heap.
-ghost use Rattle.std.specs.Prelude.{◌≡◌, ◌≤◌, ◌++◌, IsTrue, List, [], ◌∷◌, map, length, Result, IfOk, IfSome, vec_len};
+ghost use Rattle.std.specs.Prelude.{◌≡◌, ◌≤◌, ◌++◌, IsTrue, List, [], ◌∷◌, map, length, Result};
+ghost use Rattle.std.specs.Prelude.{IfOk, IfSome, vec_len};
 ghost use Rattle.cedar_builders.specs.BareExpr.{BareExpr};
 ghost use Rattle.cedar_builders.specs.NodeByNode.{IsMadeByNodes};
 ghost use Rattle.cedar_builders.specs.Walks.{children};
 ghost use Rattle.cedar_exprs.specs.BareExpr.{bare_expr};
-ghost use Rattle.cedar_exprs.specs.PostOrder.{IsAnswer, IsBegun, IsPut, bare_tasks, children_of, last_first};
+ghost use Rattle.cedar_exprs.specs.PostOrder.{IsAnswer, IsBegun, IsPut, bare_tasks, children_of};
+ghost use Rattle.cedar_exprs.specs.PostOrder.{last_first};
 ghost use Rattle.cedar_exprs.specs.declared.walks.post_order.PostOrderFault.TheVariants.{Memory};
 
 use crate::expr::{Expr, ExprKind};
@@ -41,8 +43,8 @@ impl<R, X: Drop> From<AllocFailed<X>> for PostOrderFault<R> {
 
 /// A walk from the children up: what each node gives, by what its children gave.
 ///
-/// `Building` is the walk of a builder. A walk that needs more than a builder has, as a request or a
-/// store, holds it, makes some nodes itself, and leaves the others to a `Building`.
+/// `Building` is the walk of a builder. A walk that needs more than a builder has, as a request or
+/// a store, holds it, makes some nodes itself, and leaves the others to a `Building`.
 pub trait PostOrder<T> {
     /// What a node gives.
     type Out: Drop;
