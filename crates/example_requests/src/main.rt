@@ -22,93 +22,83 @@ use std::collections::HashMap;
 use std::io;
 use std::rc::{Rc, RcStr};
 
+// Shown with their outcomes.
+const CONDITIONS: [&str; 23] = [
+    // alice is in the group of friends.
+    "principal in Group::\"friends\"",
+    "principal in principal",
+    "principal in resource",
+    "principal in [resource, Group::\"friends\"]",
+    "principal in [Group::\"friends\", 1]",
+    "1 in Group::\"friends\"",
+    // carol is not in the store: she is in herself alone.
+    "User::\"carol\" in User::\"carol\"",
+    "User::\"carol\" in Group::\"friends\"",
+    "User::\"carol\" has age",
+    "User::\"carol\".age",
+    "User::\"carol\".hasTag(\"team\")",
+    "User::\"carol\".getTag(\"team\")",
+    // Nothing is known of bob, nor of the context.
+    "User::\"bob\" in Group::\"friends\"",
+    "User::\"bob\" has age",
+    "context.age < 3",
+    "principal == resource && context.age < 3",
+    // Attributes, tags and a call.
+    "resource.owner == principal",
+    "resource.rating",
+    "resource has owner.age",
+    "{a: {b: 1}} has a.b",
+    "principal.getTag(\"team\")",
+    "principal.hasTag(1)",
+    "decimal(\"1.0\")",
+];
+
+// Shown with their residuals: what is known is put in, and what depends on the context stays.
+const OPEN_CONDITIONS: [&str; 6] = [
+    "principal in Group::\"friends\" && context.age < 3",
+    "principal.getTag(\"team\") == context.team",
+    "if resource.owner == principal then context.mfa else false",
+    "User::\"bob\" has age && context.mfa",
+    "resource has owner.age || context.mfa",
+    "resource has owner || context.mfa",
+];
+
 fn main(rt: HostRuntime) -> Result<()> {
     let alloc = rt.alloc();
     let photos = Photos {
         alice: Entry::Alice(text_value(alloc, "blue")?),
         beach: Entry::Beach(entity_value(alloc, "User", "alice")?),
     };
-    let request = Request::new(
-        Some(entity(alloc, "User", "alice")?),
-        Some(entity(alloc, "Action", "view")?),
-        Some(entity(alloc, "Photo", "beach")?),
-        None,
-    );
+    let request = viewing(alloc, None)?;
     let values = HashMap::new(alloc);
     let evaluator = RequestEvaluator::new(&request, &photos, &NoFunctions, &values);
-
-    // alice is in the group of friends.
-    show(&rt, &evaluator, "principal in Group::\"friends\"")?;
-    show(&rt, &evaluator, "principal in principal")?;
-    show(&rt, &evaluator, "principal in resource")?;
-    show(
-        &rt,
-        &evaluator,
-        "principal in [resource, Group::\"friends\"]",
-    )?;
-    show(&rt, &evaluator, "principal in [Group::\"friends\", 1]")?;
-    show(&rt, &evaluator, "1 in Group::\"friends\"")?;
-
-    // carol is not in the store: she is in herself alone.
-    show(&rt, &evaluator, "User::\"carol\" in User::\"carol\"")?;
-    show(&rt, &evaluator, "User::\"carol\" in Group::\"friends\"")?;
-    show(&rt, &evaluator, "User::\"carol\" has age")?;
-    show(&rt, &evaluator, "User::\"carol\".age")?;
-    show(&rt, &evaluator, "User::\"carol\".hasTag(\"team\")")?;
-    show(&rt, &evaluator, "User::\"carol\".getTag(\"team\")")?;
-
-    // Nothing is known of bob, nor of the context.
-    show(&rt, &evaluator, "User::\"bob\" in Group::\"friends\"")?;
-    show(&rt, &evaluator, "User::\"bob\" has age")?;
-    show(&rt, &evaluator, "context.age < 3")?;
-    show(&rt, &evaluator, "principal == resource && context.age < 3")?;
-
-    // Attributes, tags and a call.
-    show(&rt, &evaluator, "resource.owner == principal")?;
-    show(&rt, &evaluator, "resource.rating")?;
-    show(&rt, &evaluator, "resource has owner.age")?;
-    show(&rt, &evaluator, "{a: {b: 1}} has a.b")?;
-    show(&rt, &evaluator, "principal.getTag(\"team\")")?;
-    show(&rt, &evaluator, "principal.hasTag(1)")?;
-    show(&rt, &evaluator, "decimal(\"1.0\")")?;
-
-    // Residuals: what is known is put in, and what depends on the context stays.
-    show_residual(
-        &rt,
-        &evaluator,
-        "principal in Group::\"friends\" && context.age < 3",
-    )?;
-    show_residual(
-        &rt,
-        &evaluator,
-        "principal.getTag(\"team\") == context.team",
-    )?;
-    show_residual(
-        &rt,
-        &evaluator,
-        "if resource.owner == principal then context.mfa else false",
-    )?;
-    show_residual(&rt, &evaluator, "User::\"bob\" has age && context.mfa")?;
-    show_residual(&rt, &evaluator, "resource has owner.age || context.mfa")?;
-    show_residual(&rt, &evaluator, "resource has owner || context.mfa")?;
-
-    // Decisions: while nothing is known of the context, with what is left of the policies, ..
+    for text in CONDITIONS {
+        show(&rt, &evaluator, text)?;
+    }
+    for text in OPEN_CONDITIONS {
+        show_residual(&rt, &evaluator, text)?;
+    }
+    // Decisions: while nothing is known of the context, with the residual policies, ..
     let policies = policies(alloc)?;
     show_response(&rt, &is_authorized(alloc, &evaluator, &policies)?)?;
     let residual = residual(is_authorized_partial(alloc, &evaluator, &policies)?, alloc);
     show_policies(&rt, &residual)?;
-
-    // .. and with an empty context, by all the policies and by those that were left.
-    let request = Request::new(
-        Some(entity(alloc, "User", "alice")?),
-        Some(entity(alloc, "Action", "view")?),
-        Some(entity(alloc, "Photo", "beach")?),
-        Some(Context::empty(alloc)?),
-    );
+    // .. and with an empty context, by all the policies and by the residual ones.
+    let request = viewing(alloc, Some(Context::empty(alloc)?))?;
     let evaluator = RequestEvaluator::new(&request, &photos, &NoFunctions, &values);
     show_response(&rt, &is_authorized(alloc, &evaluator, &policies)?)?;
     show_response(&rt, &is_authorized(alloc, &evaluator, &residual)?)?;
     Ok(())
+}
+
+// alice asks to view the photo.
+fn viewing(alloc: Global, context: Option<Context>) -> Result<Request> {
+    Ok(Request::new(
+        Some(entity(alloc, "User", "alice")?),
+        Some(entity(alloc, "Action", "view")?),
+        Some(entity(alloc, "Photo", "beach")?),
+        context,
+    ))
 }
 
 // Friends may view, and bob; so may all a photo of more than three stars; but no blocked user.
@@ -160,10 +150,10 @@ fn residual(response: PartialResponse, alloc: Global) -> Vec<Policy> {
     }
 }
 
-// Prints which policies are left.
+// Prints which policies are residual.
 fn show_policies(rt: &HostRuntime, policies: &[Policy]) -> io::Result<()> {
     for policy in policies {
-        println!(rt; "  left: {}", policy.id())?;
+        println!(rt; "  residual: {}", policy.id())?;
     }
     Ok(())
 }
