@@ -2,6 +2,7 @@
 pub use Rattle.cedar_builders.specs.Laws.{both}
 pub use Rattle.cedar_values.specs.BareValues.{bare_value}
 pub use Rattle.cedar_values.specs.Holders.{NoExtension, plain_env}
+pub use Rattle.cedar_values.specs.WellFormedValues.{value_of, well_formed_env}
 pub use Rattle.semantics_eval.specs.Evaluator.{evaluator_ops}
 pub use Rattle.semantics_eval.specs.Laws.{is_closed}
 pub use Rattle.cedar_evaluator.specs.Laws.{HasValue, IsDecided}

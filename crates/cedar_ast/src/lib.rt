@@ -21,7 +21,7 @@ pub use cedar_calls::{
 pub use cedar_exprs::{
     CallStyle, Expr, ExprBuilder, ExprIterator, ExprKind, ExprShapeOnly, ExprValidationError,
     FunctionTable, KindOf, RestrictedExpr, RestrictedExprError, SlotRef, Slots, SubstituteValue,
-    TypedBuildFault, Unknowns,
+    ThroughExpr, TypedBuildFault, Unknowns, ValueBuilder,
 };
 pub use cedar_names::{
     AllDefs, AnyId, ConditionalName, FromNormalizedStr, Id, InternalName, Loc, Name, NonEmpty,
@@ -35,7 +35,7 @@ pub use cedar_terms::{
 pub use cedar_values::{
     BoundedDisplay, BoundedToString, ContainsUnknown, ExtensionValue, NoExtension, NotValue,
     PartialValue, PartialValueToValueError, RepresentableExtensionValue, Set, Value, ValueKind,
-    split, substitute_typed_values_into_expr, substitute_values_into_expr,
+    WellFormedValue, split, substitute_typed_values_into_expr, substitute_values_into_expr,
     try_into_expr_with_values,
 };
 pub use either;

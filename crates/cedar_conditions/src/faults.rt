@@ -5,7 +5,7 @@ use cedar_builders::BuildFault;
 use cedar_evaluator::{EvalFault, EvaluationFault};
 use cedar_exprs::{Expr, ExprKind};
 use cedar_json::did_you_mean;
-use cedar_names::NonEmpty;
+use cedar_names::{Loc, NonEmpty};
 use cedar_request::{CallableFunctions, EntityStore};
 use cedar_request_evaluator::RequestEvaluator;
 use cedar_terms::{BinaryOp, Literal, UnaryOp};
@@ -73,15 +73,19 @@ impl Type {
     }
 }
 
-/// A fault in words, which no more knowledge takes away. It came up in an expression.
+/// A fault in words, which no more knowledge takes away. It came up in an expression, or, without a
+/// place, in what a name stands for.
 pub(crate) fn fault_words<X: ExtensionValue + Ord, S: EntityStore<X>, T: CallableFunctions<X>>(
     alloc: Global,
     expr: &Expr,
     fault: &EvaluationFault,
     evaluator: &RequestEvaluator<'_, X, S, T>,
 ) -> Result<Words, AllocError> {
+    let Some(place) = fault.source_loc() else {
+        return Ok(Words::message(String::from_str(alloc, "a name stands for what has no value")?));
+    };
     for node in expr.subexpressions(alloc)? {
-        if may_have(alloc, node, fault, evaluator)? {
+        if stands_at(node, place) {
             let told = node_words(alloc, node, fault.fault(), evaluator)?;
             if let Some(words) = told {
                 return Ok(words);
@@ -102,20 +106,10 @@ fn general_words(fault: EvalFault) -> &'static str {
     }
 }
 
-// Whether a fault may have come up at a node: both are at one place, or at none, as what a name
-// stands for is, where a call alone may have no value.
-fn may_have<X: ExtensionValue + Ord, S: EntityStore<X>, T: CallableFunctions<X>>(
-    alloc: Global,
-    node: &Expr,
-    fault: &EvaluationFault,
-    evaluator: &RequestEvaluator<'_, X, S, T>,
-) -> Result<bool, AllocError> {
-    match (node.source_loc(), fault.source_loc()) {
-        (Some(loc), Some(place)) => Ok(loc.start == place.start && loc.stop == place.stop),
-        (None, None) if matches!(node.expr_kind(), ExprKind::ExtensionFunctionApp { .. }) => {
-            Ok(value_of(alloc, node, evaluator)?.is_none())
-        }
-        _ => Ok(false),
+fn stands_at(node: &Expr, place: &Loc) -> bool {
+    match node.source_loc() {
+        Some(loc) => loc.start == place.start && loc.stop == place.stop,
+        None => false,
     }
 }
 

@@ -1,5 +1,5 @@
 //! The builder of texts in Cedar's own syntax.
-ghost use Rattle.std.specs.Prelude.{◌≡◌, IfOk, IfErr, Ok, map};
+ghost use Rattle.std.specs.Prelude.{◌≡◌, IfOk, IfErr, Ok, map, string_bytes};
 ghost use Rattle.cedar_builders.specs.Answers.{Gives, never};
 ghost use Rattle.cedar_builders.specs.BareExpr.{Text};
 ghost use Rattle.cedar_builders.specs.Environment.{empty, fold};
@@ -11,6 +11,8 @@ ghost use Rattle.cedar_names.specs.PlainNames.{bare_name};
 ghost use Rattle.cedar_printer.specs.Phrases.{phrase_of, rope_phrase};
 ghost use Rattle.cedar_terms.specs.declared.precedence.Precedence.{Precedence};
 ghost use Rattle.semantics_printing.specs.PolicyTexts.{policy_text_ops};
+ghost use Rattle.semantics_printing.specs.Texts.{IsTextOfTree};
+ghost use Rattle.semantics_printing.specs.Writable.{IsWritable};
 
 use crate::phrase::{
     Phrase, RopePhrase, make_attribute, make_call, make_conditional, make_fields, make_infix,
@@ -24,6 +26,7 @@ use cedar_names::{Loc, Name, NonEmpty, SlotId};
 use cedar_terms::{
     BinaryOp, EntityType, Escaped, Literal, Pattern, Precedence, UnaryOp, Unknown, Var,
 };
+use semantics_printing::laws::printed_texts_stand;
 use std::alloc::{AllocError, Global};
 use std::convert::Infallible;
 use std::rc::RcStr;
@@ -33,12 +36,15 @@ use std::rc::RcStr;
 /// The contract is that of `into_expr` at the builder `PolicyText`: the fold of the expression's
 /// bare tree at the builder's operations. A text keeps `true && false` as it is, where substitution
 /// makes `false` of it: so the builder is not lawful, and texts are made of what was substituted
-/// before. An unknown's annotation is not written. A call of a function `unknown` on one text is
-/// parsed as an unknown.
+/// before. The text is one of the grammar's, and stands for the expression's tree; but an unknown's
+/// annotation is not written, and a call of a function `unknown` on one text is parsed as an unknown.
 pub fn policy_text(alloc: Global, expr: &Expr) -> Result<Phrase, AllocError>
-    ensures { IfOk result (λ p.
+    ensures text { IfOk result (λ p.
         fold policy_text_ops empty (bare_expr expr.now) ≡ Ok (phrase_of p)) }
+    ensures stands { IfOk result (λ p. IsWritable (bare_expr expr.now)
+        → IsTextOfTree (string_bytes p.text) (bare_expr expr.now)) }
 {
+    printed_texts_stand();
     let phrase = expr.into_expr::<PolicyText>(alloc)?;
     phrase.to_phrase(alloc)
 }

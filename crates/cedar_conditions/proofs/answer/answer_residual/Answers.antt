@@ -16,4 +16,4 @@ returns g c = λ none.
     (record { text = printed.text; unknowns = c.in_ok-unknowns_of.field-0 })
     printed.precedence none
     (c.in_ok-residual.ensures ∙ ap (tree_of C) c.in_ok-simplify.ensures.residual)
-    c.in_ok-policy_text.ensures
+    c.in_ok-policy_text.ensures.text
