@@ -3,18 +3,19 @@
 //!
 //! The first argument names a file of conditions, one a line: each is shown with its answer. The
 //! second names a file of conditions that have a fault, each with the answer that a reference
-//! evaluator gives (`tools/fault_places`): those that get another answer are shown. Each
-//! line of standard input is a tree, written as `docs/CALLS.md` says: it is printed, what was
-//! printed is parsed, and the two trees are compared. The third argument names a file of texts
-//! with blank lines between them: each is parsed, and the program shows its tree, and how it is
-//! printed again, or why it is no expression. At last it parses a text as many levels deep as the
-//! fourth argument says.
+//! evaluator gives (`tools/fault_places`): those that get another answer are shown. Each line of
+//! standard input is a tree, written as `docs/CALLS.md` says: it is printed, what was printed is
+//! parsed, the two trees are compared, and each node with the piece of text at its place. The third
+//! argument names a file of texts with blank lines between them: each is parsed, and the program
+//! shows its tree, and how it is printed again, or why it is no expression. At last it parses a text
+//! as many levels deep as the fourth argument says.
 #![tactic(auto)]
 
 mod conditions;
 mod deep;
 mod faults;
 mod known;
+mod places;
 mod texts;
 mod trees;
 

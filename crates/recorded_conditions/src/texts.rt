@@ -1,4 +1,5 @@
 //! Texts that are parsed.
+use crate::places::are_pieces;
 use cedar_exprs::Expr;
 use cedar_parser::{ParseError, SyntaxError, parse_expr};
 use cedar_printer::policy_text;
@@ -12,7 +13,7 @@ pub fn show(rt: &HostRuntime, texts: &str) -> io::Result<()> {
         let text = text.trim_end();
         println!(rt; "\n{text}")?;
         match parse_expr(rt.alloc(), text) {
-            Ok(expr) => show_tree(rt, &expr)?,
+            Ok(expr) => show_tree(rt, text, &expr)?,
             Err(ParseError::Syntax(error)) => show_error(rt, text, &error)?,
             Err(ParseError::Memory) => return Err(AllocError.into()),
         }
@@ -20,8 +21,11 @@ pub fn show(rt: &HostRuntime, texts: &str) -> io::Result<()> {
     Ok(())
 }
 
-// Shows a tree, and how it is printed.
-fn show_tree(rt: &HostRuntime, expr: &Expr) -> io::Result<()> {
+// Shows a tree, how it is printed, and whether a node has another place than what it was parsed from.
+fn show_tree(rt: &HostRuntime, text: &str, expr: &Expr) -> io::Result<()> {
+    if !are_pieces(rt.alloc(), text, expr)? {
+        println!(rt; "  has a node at another place")?;
+    }
     println!(rt; "  is {}", tree_text(rt.alloc(), expr)?)?;
     println!(rt; "  or {}", policy_text(rt.alloc(), expr)?.text)
 }

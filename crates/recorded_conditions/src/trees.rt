@@ -1,4 +1,5 @@
 //! Trees that are printed and parsed again.
+use crate::places::are_pieces;
 use calls_decode::expr;
 use calls_syntax::{CallError, sexprs};
 use cedar_exprs::Expr;
@@ -31,6 +32,8 @@ enum Failure {
     Differs,
     #[error("what is printed is not read, {0}")]
     Refused(SyntaxError),
+    #[error("a node has another place")]
+    Misplaced,
     #[error("this is no tree")]
     NoTree,
 }
@@ -47,8 +50,9 @@ fn compare(alloc: Global, line: &str) -> Result<Option<Failure>, AllocError> {
 fn compare_tree(alloc: Global, tree: &Expr) -> Result<Option<Failure>, AllocError> {
     let text = policy_text(alloc, tree)?.text;
     match parse_expr(alloc, &text) {
-        Ok(read) if tree.eq_shape(&read) => Ok(None),
-        Ok(_) => Ok(Some(Failure::Differs)),
+        Ok(read) if !tree.eq_shape(&read) => Ok(Some(Failure::Differs)),
+        Ok(read) if !are_pieces(alloc, &text, &read)? => Ok(Some(Failure::Misplaced)),
+        Ok(_) => Ok(None),
         Err(ParseError::Syntax(error)) => Ok(Some(Failure::Refused(error))),
         Err(ParseError::Memory) => Err(AllocError),
     }
