@@ -13,24 +13,24 @@ pub struct Style {
     pub is_strict: bool,
 }
 
-/// Prints an answer. `name` says of which condition, before an error.
-pub fn print(rt: &HostRuntime, style: Style, name: &str, answer: &Answer) -> Result<(), Failure> {
+/// Prints an answer; before an error, at which place the condition stands.
+pub fn print(rt: &HostRuntime, style: Style, place: &str, answer: &Answer) -> Result<(), Failure> {
     if style.is_json {
         let text = json_of(rt.alloc(), answer)?.to_string(rt.alloc())?;
         println!(rt; "{text}")?;
         return Ok(());
     }
     match answer {
-        Answer::Residual(residual) if style.is_strict => print_unknowns(rt, name, residual),
+        Answer::Residual(residual) if style.is_strict => print_unknowns(rt, place, residual),
         Answer::Value(_) | Answer::Residual(_) => Ok(println!(rt; "{answer}")?),
         Answer::Fault(problem) | Answer::NoCondition(problem) => {
-            Ok(eprintln!(rt; "error: {name}{problem}")?)
+            Ok(eprintln!(rt; "error: {place}{problem}")?)
         }
     }
 }
 
 // Says what is not known.
-fn print_unknowns(rt: &HostRuntime, name: &str, residual: &Residual) -> Result<(), Failure> {
+fn print_unknowns(rt: &HostRuntime, place: &str, residual: &Residual) -> Result<(), Failure> {
     let mut unknowns = String::new(rt.alloc());
     for unknown in &residual.unknowns {
         if !unknowns.is_empty() {
@@ -39,7 +39,7 @@ fn print_unknowns(rt: &HostRuntime, name: &str, residual: &Residual) -> Result<(
         unknowns.push_str(unknown)?;
     }
     let text = residual.text.as_str();
-    eprintln!(rt; "error: {name}there is no value yet, since these are not known: {unknowns}")?;
+    eprintln!(rt; "error: {place}there is no value yet, since these are not known: {unknowns}")?;
     Ok(eprintln!(rt; "    residual: {text}")?)
 }
 

@@ -28,10 +28,11 @@ pub fn run(rt: &HostRuntime, options: &ArgMatches<'_>) -> Result<Status, Failure
     }
     let known = Known::read(rt, options)?;
     let text = inputs::condition(rt, options)?;
+    let place = inputs::place_of_condition(rt.alloc(), options)?;
     if options.get_flag("batch") {
-        answer_lines(rt, options, &text, &known)
+        answer_lines(rt, options, &place, &text, &known)
     } else {
-        answer_alone(rt, options, &text, &known)
+        answer_alone(rt, options, &place, &text, &known)
     }
 }
 
@@ -70,10 +71,11 @@ impl Known {
 fn answer_alone(
     rt: &HostRuntime,
     options: &ArgMatches<'_>,
+    place: &str,
     text: &str,
     known: &Known,
 ) -> Result<Status, Failure> {
-    let status = answer(rt, options, "", text, known)?;
+    let status = answer(rt, options, place, text, known)?;
     if status != Status::NoCondition {
         warn_of_unused(rt, &[text], &known.bindings)?;
     }
@@ -84,6 +86,7 @@ fn answer_alone(
 fn answer_lines(
     rt: &HostRuntime,
     options: &ArgMatches<'_>,
+    place: &str,
     text: &str,
     known: &Known,
 ) -> Result<Status, Failure> {
@@ -93,8 +96,12 @@ fn answer_lines(
         if is_blank(line) {
             println!(rt)?;
         } else {
-            let name = format!(in rt.alloc(); "condition {}: ", at.saturating_add(1))?;
-            status = status.max(answer(rt, options, &name, line, known)?);
+            let place = format!(in rt.alloc(); "{place}condition {}: ", at.saturating_add(1))?;
+            let answered = answer(rt, options, &place, line, known)?;
+            if is_error(answered, style_of(options)) {
+                println!(rt)?;
+            }
+            status = status.max(answered);
         }
     }
     warn_of_unused(rt, &lines, &known.bindings)?;
@@ -107,25 +114,24 @@ fn is_blank(line: &str) -> bool {
     line.is_empty() || line.starts_with("//")
 }
 
-// Prints the answer to a condition.
+// Prints the answer to a condition, which stands at this place.
 fn answer(
     rt: &HostRuntime,
     options: &ArgMatches<'_>,
-    name: &str,
+    place: &str,
     text: &str,
     known: &Known,
 ) -> Result<Status, Failure> {
-    let style = Style {
+    let answer = known.answer(rt.alloc(), text)?;
+    answers::print(rt, style_of(options), place, &answer)?;
+    Ok(status_of(&answer, options.get_flag("exit-status")))
+}
+
+fn style_of(options: &ArgMatches<'_>) -> Style {
+    Style {
         is_json: options.get_str("format") == Some("json"),
         is_strict: options.get_flag("strict"),
-    };
-    let answer = known.answer(rt.alloc(), text)?;
-    answers::print(rt, style, name, &answer)?;
-    let status = status_of(&answer, options.get_flag("exit-status"));
-    if !name.is_empty() && !style.is_json && is_error(status, style) {
-        println!(rt)?;
     }
-    Ok(status)
 }
 
 // The status of an answer; `false` is told apart if `tells_false`.
@@ -143,8 +149,8 @@ fn status_of(answer: &Answer, tells_false: bool) -> Status {
 fn is_error(status: Status, style: Style) -> bool {
     match status {
         Status::Success | Status::Deny => false,
-        Status::Unknown => style.is_strict,
-        Status::Failure | Status::Memory | Status::NoCondition | Status::Fault => true,
+        Status::Unknown => style.is_strict && !style.is_json,
+        Status::Failure | Status::Memory | Status::NoCondition | Status::Fault => !style.is_json,
     }
 }
 

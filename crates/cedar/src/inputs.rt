@@ -82,6 +82,14 @@ pub fn condition(rt: &HostRuntime, options: &ArgMatches<'_>) -> Result<String, F
     }
 }
 
+/// Where the condition stands, before a message: in a file, or in an argument, which goes unnamed.
+pub fn place_of_condition(alloc: Global, options: &ArgMatches<'_>) -> Result<String, Failure> {
+    match options.get_str("file") {
+        Some(file) => Ok(format!(in alloc; "{}: ", shown(file))?),
+        None => Ok(String::new(alloc)),
+    }
+}
+
 /// What the files of `--bind` and then the arguments `--arg` bind.
 pub fn bindings(rt: &HostRuntime, options: &ArgMatches<'_>) -> Result<Bindings, Failure> {
     let mut bindings = Bindings::new(rt.alloc());
