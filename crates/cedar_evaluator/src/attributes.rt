@@ -28,7 +28,10 @@ fn no_record<X>(value: &Value<X>) -> EvalFault
 }
 
 // The value at a key of a record, if it has the key.
-fn look_up<'a, X: Ord>(pairs: &'a BTreeMap<RcStr, Value<X>>, key: &RcStr) -> Option<&'a Value<X>>
+pub(crate) fn look_up<'a, X: Ord>(
+    pairs: &'a BTreeMap<RcStr, Value<X>>,
+    key: &RcStr,
+) -> Option<&'a Value<X>>
     ensures found { option_map (λ v. bare_value v.now) result
         ≡ kinds.at_key (rc_str_bytes key.now) (meant_pairs bare_value pairs.now.entries) }
     ensures well_formed { IsTrue (list_all (λ e. well_formed X.cmp e.1) pairs.now.entries)

@@ -1,22 +1,28 @@
 //! Outcomes in little room, as they are handed on while an expression is evaluated.
 ghost use Rattle.std.specs.Int.{w64};
 ghost use Rattle.std.specs.Prelude.{◌≡◌, ℤ, FitsSigned, IfOk, IfSome, IsTrue, Ok, SomeIff};
+ghost use Rattle.std.specs.Rc.{rc_str_bytes};
 ghost use Rattle.cedar_terms.specs.Literals.{LongLit, bare_literal};
-ghost use Rattle.cedar_values.specs.BareValues.{bare_value};
+ghost use Rattle.cedar_values.specs.BareValues.{bare_value, bare_value_kind};
 ghost use Rattle.cedar_values.specs.WellFormed.{well_formed};
+ghost use Rattle.cedar_values.specs.declared.value.ValueKind.TheVariants as kinds;
 ghost use Rattle.semantics_values.specs.BareValue.{LitValue};
+ghost use Rattle.semantics_eval.specs.Attributes.{get_in};
 ghost use Rattle.semantics_eval.specs.Longs.{long};
 ghost use Rattle.semantics_eval.specs.Operators.{apply_two as two};
-ghost use Rattle.semantics_eval.specs.Outcomes.{settled, strict_two, truth};
+ghost use Rattle.semantics_eval.specs.Outcomes.{settled, strict, strict_two, truth};
 ghost use Rattle.cedar_evaluator.specs.Compact.{compact_meaning};
 ghost use Rattle.cedar_evaluator.specs.Outcomes.{meaning_of};
 
+use crate::fault::EvalFault;
 use crate::fields::Fields;
 use crate::outcome::Outcome;
+use cedar_names::Loc;
 use cedar_terms::{BinaryOp, Integer, Literal};
 use cedar_values::{NoExtension, Value};
 use semantics_eval::laws::longs_fit;
 use std::alloc::{AllocError, Global};
+use std::rc::RcStr;
 
 // An outcome: Booleans and integers, which most are, in place; a record at no place by what it
 // shares; any other behind a pointer.
@@ -121,6 +127,26 @@ impl CompactOutcome {
             CompactOutcome::Long(number) => Outcome::lit(Literal::Long(number)),
             CompactOutcome::Record(fields) => Outcome::of_value(fields.into_value()),
             CompactOutcome::Whole(outcome) => Box::into_inner(outcome),
+        }
+    }
+}
+
+impl Fields {
+    // The value of an attribute, or that it is missing at this place.
+    #[inline(always)]
+    pub(crate) fn get(
+        &self,
+        alloc: Global,
+        key: &RcStr,
+        source_loc: Option<Loc>,
+    ) -> Result<CompactOutcome, AllocError>
+        ensures { IfOk result (λ c. compact_meaning c
+            ≡ strict (get_in (rc_str_bytes key.now))
+            (Ok (bare_value_kind (kinds.Record self.now.pairs)))) }
+    {
+        match self.at(key) {
+            Some(value) => CompactOutcome::copy_of(alloc, value),
+            None => CompactOutcome::whole(alloc, Outcome::fail(EvalFault::Missing, source_loc)),
         }
     }
 }

@@ -200,8 +200,12 @@ impl ExprBuilder for CompactEvaluator {
         expr: CompactOutcome,
         attr: RcStr,
     ) -> Result<CompactOutcome, AllocError> {
-        expr.into_outcome()
-            .get_compact(alloc, &attr, self.source_loc)
+        match expr {
+            CompactOutcome::Record(fields) => fields.get(alloc, &attr, self.source_loc),
+            other => other
+                .into_outcome()
+                .get_compact(alloc, &attr, self.source_loc),
+        }
     }
 
     fn extended_has_attr(

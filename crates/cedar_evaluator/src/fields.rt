@@ -1,9 +1,13 @@
 //! Records as they are handed on while an expression is evaluated.
-ghost use Rattle.std.specs.Prelude.{◌≡◌, IsTrue, MatchResult};
+ghost use Rattle.std.specs.Prelude.{◌≡◌, IfSome, IsTrue, MatchResult, ok_or, option_map};
+ghost use Rattle.std.specs.Rc.{rc_str_bytes};
 ghost use Rattle.cedar_values.specs.BareValues.{bare_value, bare_value_kind};
 ghost use Rattle.cedar_values.specs.WellFormed.{kind_well_formed, well_formed};
 ghost use Rattle.cedar_values.specs.declared.value.ValueKind.TheVariants as kinds;
+ghost use Rattle.semantics_eval.specs.Attributes.{get_in};
+ghost use Rattle.semantics_eval.specs.Outcomes.{Missing};
 
+use crate::attributes::look_up;
 use cedar_values::laws::values_by_kind;
 use cedar_values::{NoExtension, Value, ValueKind};
 use std::collections::BTreeMap;
@@ -39,5 +43,16 @@ impl Fields {
     {
         values_by_kind::<NoExtension>();
         Value::record_arc(self.pairs, None)
+    }
+
+    // The value at a key.
+    pub(crate) fn at(&self, key: &RcStr) -> Option<&Value<NoExtension>>
+        ensures found { ok_or (option_map (λ v. bare_value v.now) result) Missing
+            ≡ get_in (rc_str_bytes key.now) (bare_value_kind (kinds.Record self.now.pairs)) }
+        ensures well_formed { IfSome result (λ v.
+            IsTrue (well_formed ⟦<NoExtension as Ord>⟧.cmp v.now)) }
+    {
+        values_by_kind::<NoExtension>();
+        look_up(&self.pairs, key)
     }
 }
