@@ -167,3 +167,105 @@ true &&
   && true
 
 a::b(1)::c
+
+if true then 1 else 2
+
+true || false
+
+true || false || true
+
+true && false && true
+
+1 + 2 < 3
+
+1 + 2 - 3
+
+2 * 3 * 4
+
+principal.age
+
+--principal.age
+
+principal.address["zip code"]
+
+1
+
+true && false
+
+1 + 2
+
+1 - 2
+
+2 * 3
+
+1 == 2
+
+1 != 2
+
+1 < 2
+
+1 <= 2
+
+1 > 2
+
+1 >= 2
+
+principal in resource
+
+principal has address.city
+
+"report.pdf" like "*.pdf"
+
+principal is Org::User
+
+principal is User in Group::"staff"
+
+!true
+
+-5
+
+--5
+
+principal
+
+principal["first name"]
+
+[1, 2].contains(1)
+
+true
+
+false
+
+42
+
+"a\n"
+
+?principal
+
+context
+
+Org::User::"alice"
+
+ip("10.0.0.1")
+
+(1 + 2)
+
+[1, 2]
+
+{name: "a", age: 2}
+
+[]
+
+[1]
+
+[1, 2,]
+
+{}
+
+{"first name": "a"}
+
+{name: "a", age: 2,}
+
+principal has age
+
+principal has "first name"
