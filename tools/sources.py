@@ -203,10 +203,30 @@ WORD = re.compile(
 )
 
 
-def read_words(crate: str) -> dict[str, tuple[str, str]]:
-    """What a crate's definitions mean, by their comments: a module and a comment each."""
-    found: dict[str, tuple[str, str]] = {}
+# How the line of a comment begins that has an example of a rule of a grammar.
+EXAMPLE = "e.g. "
+
+
+def read_words(crate: str) -> dict[tuple[str, str], str]:
+    """What a crate's definitions mean: the comment of each, by its module and its name. A rule of
+    a grammar is no definition of its own."""
+    found: dict[tuple[str, str], str] = {}
     for file, text in files_below(crate, "specs", ending=".antt").items():
         for said, word in WORD.findall(text):
-            found.setdefault(word, (module_of(file), " ".join(comment(said, "--"))))
+            lines = comment(said, "--")
+            if not any(line.startswith(EXAMPLE) for line in lines):
+                found.setdefault((module_of(file), word), " ".join(lines))
+    return found
+
+
+USES = re.compile(r"^ *(?:ghost|pub) use Rattle\.(\w+)\.specs\.(\w+)\.\{([^}]*)\}", re.M)
+
+
+def uses_of(text: str) -> dict[str, tuple[str, str, str]]:
+    """The words that a file takes from definitions, or passes on: the crate, the module and the
+    name of each."""
+    found = {}
+    for crate, module, names in USES.findall(text):
+        for name, _, other in (part.partition(" as ") for part in parted(names)):
+            found[other or name] = (crate, module, name)
     return found

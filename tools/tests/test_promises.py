@@ -1,5 +1,6 @@
 """What tools/promises.txt says of a library, and what its page shows."""
 import unittest
+from types import SimpleNamespace
 
 import promises
 from sources import Item, Library
@@ -48,6 +49,45 @@ class OfThePages(unittest.TestCase):
         self.assertEqual(api_reference.first_sentence(lines), "A name, as `a.b`.")
         paragraph = "A name, as `a.b`. It is short and plain."
         self.assertEqual(api_reference.paragraph(lines), paragraph)
+
+    def test_contracts_as_guides_quote_them(self) -> None:
+        clauses = ["requires { IsTrue x }", "ensures sides { IfOk result (λ s.", "    s ≡ 0) }"]
+        clauses += ["", "// A note.", "ensures { result ≡ record { n = x } }"]
+        signature = "pub const fn len(&self) -> usize"
+        call = Item("fn", "len", "src/shapes.rt", [], "", "", [], [], signature, clauses, "Shape")
+        wanted = ["const fn Shape::len(&self) -> usize", "  requires: IsTrue x"]
+        wanted += ["  ensures sides: IfOk result (λ s.", "      s ≡ 0)"]
+        wanted += ["  ensures: result ≡ record { n = x }", ""]
+        self.assertEqual(list(api_reference.entry(call)), wanted)
+
+    def test_contracts_in_words(self) -> None:
+        sources = SimpleNamespace(promises=promises.read_promises(TEXT))
+        docs = ["Its first side. It is long."]
+        calls = [Item("fn", it, "src/shapes.rt", docs, "", "", owner="Shape") for it in ("new", "a")]
+        said = [api_reference.in_words(call, "cedar_shapes", sources) for call in calls]
+        self.assertEqual(said, ["It has so many sides.", "Its first side."])
+
+    def test_contracts_of_one_word(self) -> None:
+        matches = api_reference.ONE_WORD.match
+        self.assertTrue(matches("ensures { IsTotal X.cmp X.eq }"))
+        self.assertTrue(matches("ensures total { IsTotal }"))
+        self.assertFalse(matches("ensures { IsTotal a → IsTotal b }"))
+
+    def test_other_types_and_calls_by_name(self) -> None:
+        calls = [Item("fn", it, "src/shapes.rt", [], "", "", owner="Shape") for it in ("new", "a")]
+        shape = Item("struct", "Shape", "src/shapes.rt", [], "", "", calls=calls)
+        kind = Item("enum", "Kind", "src/kind.rt", [], "", "")
+        free = Item("fn", "round", "src/flat.rt", [], "", "")
+        library = Library("cedar_shapes", [], [shape, kind], [free], {}, {})
+        at = "](../../crates/cedar_shapes/src/"
+        wanted = [f"- [`Shape`{at}shapes.rt): `a`", f"- Functions: [`round`{at}flat.rt)"]
+        wanted.append(f"- Other types: [`Kind`{at}kind.rt)")
+        self.assertEqual(list(api_reference.in_short(library, {"Shape::new"})), wanted)
+
+    def test_what_a_library_is_in_short(self) -> None:
+        brief = api_reference.brief
+        self.assertEqual(brief("Stores of entities, by name: more."), "Stores of entities, by name")
+        self.assertEqual(brief("Values, sets of values and records of values, of a type."), "Values")
 
     def test_what_is_made_stands_between_marks(self) -> None:
         page = "By hand.\n<!-- pages -->\nold\n<!-- end -->\nBy hand too.\n"

@@ -141,6 +141,9 @@ count xs = length xs
 -- whether it is a shape
 mutual
   pub data IsShape : Set where
+    -- one with sides
+    -- e.g. a square
+    sided : IsShape
 
 count-not-said : ℕ
 '''
@@ -248,7 +251,22 @@ class OfALibrary(unittest.TestCase):
         with mock.patch.object(sources, "files_below", return_value=texts):
             words = sources.read_words("shapes")
         shapes = {"count": "how many there are", "IsShape": "whether it is a shape"}
-        self.assertEqual(words, {word: ("Shapes", said) for word, said in shapes.items()})
+        self.assertEqual(words, {("Shapes", word): said for word, said in shapes.items()})
+
+    def test_words_that_a_file_takes(self) -> None:
+        text = (
+            "ghost use Rattle.shapes.specs.Shapes.{count, IsShape as IsOne};\n"
+            "    ghost use Rattle.other.specs.Kinds.{\n      flat,\n    };\n"
+            "pub use Rattle.other.specs.Kinds.{round}\n"
+            "ghost use Rattle.other.specs.Kinds as kinds;\n"
+        )
+        wanted = {
+            "count": ("shapes", "Shapes", "count"),
+            "IsOne": ("shapes", "Shapes", "IsShape"),
+            "flat": ("other", "Kinds", "flat"),
+            "round": ("other", "Kinds", "round"),
+        }
+        self.assertEqual(sources.uses_of(text), wanted)
 
 
 class OfTexts(unittest.TestCase):
