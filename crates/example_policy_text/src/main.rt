@@ -2,6 +2,12 @@
 //! text is shown where it stands, and a builder of one's own tells how deep the trees are.
 #![tactic(auto)]
 
+ghost use Rattle.std.specs.Prelude.{IfOk, IsUtf8, string_bytes};
+ghost use Rattle.cedar_builders.specs.BareExpr.{Text};
+ghost use Rattle.cedar_exprs.specs.BareExpr.{bare_expr};
+ghost use Rattle.semantics_printing.specs.Texts.{IsTextOfTree};
+ghost use Rattle.semantics_round_trip.specs.Parsed.{IsPlain};
+
 mod depth;
 
 use crate::depth::depth_of;
@@ -9,6 +15,7 @@ use anyhow::Result;
 use cedar_ast::{Expr, Literal, Unknown, Var};
 use cedar_parser::{ParseError, parse_expr};
 use cedar_printer::policy_text;
+use semantics_round_trip::laws::parsed_trees_read_back;
 use std::alloc::{AllocError, Global};
 use std::io;
 use std::rc::RcStr;
@@ -60,8 +67,18 @@ fn show(rt: &HostRuntime, text: &str) -> io::Result<()> {
 }
 
 fn show_condition(rt: &HostRuntime, expr: &Expr) -> io::Result<()> {
-    println!(rt; "{}", policy_text(rt.alloc(), expr)?.text)?;
+    println!(rt; "{}", printed(rt.alloc(), expr)?)?;
     show_depth(rt, expr)
+}
+
+// The text of a condition: where it was parsed, what is printed for it stands for it again.
+fn printed(alloc: Global, expr: &Expr) -> Result<String, AllocError>
+    ensures { IfOk result (λ printed. (text : Text) → IsUtf8 text
+        → IsTextOfTree text (bare_expr expr.now) → IsPlain (bare_expr expr.now)
+        → IsTextOfTree (string_bytes printed) (bare_expr expr.now)) }
+{
+    parsed_trees_read_back();
+    Ok(policy_text(alloc, expr)?.text)
 }
 
 // A program that takes conditions from strangers may limit this.
