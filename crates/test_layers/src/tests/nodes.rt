@@ -2,9 +2,10 @@
 use crate::tests::made::{is_equal, long, made, name, shared};
 use cedar_builders::ExprBuilder as _;
 use cedar_exprs::{Expr, ExprBuilder, ExprKind, ExprValidationError};
-use cedar_terms::Literal;
+use cedar_names::Loc;
+use cedar_terms::{EntityType, EntityUID, Literal};
 use std::process::Abort;
-use std::rc::Rc;
+use std::rc::{Rc, RcStr};
 use test_support::{AsTheyStand, Nothing, Refusing};
 
 // Makes each node as it stands. It is no lawful builder.
@@ -63,8 +64,29 @@ fn faults_of_one_name_differ(rt: HostRuntime) {
     assert!(rt; !is_equal(unknown, without));
 }
 
+fn text(rt: &(impl Abort + AllocGlobal), s: &str) -> RcStr {
+    made(rt, RcStr::from_str(rt.alloc(), s))
+}
+
+// `Org::User::"a".age`, at a place.
+fn age_of_a_user(rt: &(impl Abort + AllocGlobal)) -> Expr {
+    let alloc = rt.alloc();
+    let user = EntityUID::new(EntityType::from(name(rt, "Org::User")), text(rt, "a"));
+    let entity = Expr::val(Literal::EntityUID(made(rt, Rc::new(alloc, user))));
+    let place = Loc::new(3, 7, text(rt, "the text"));
+    let age = Expr::get_attr(alloc, entity, text(rt, "age"));
+    made(rt, age).with_maybe_source_loc(Some(place))
+}
+
+// What `{:?}` shows of it.
+const DEBUG_TEXT: &str =
+    "Expr { expr_kind: GetAttr { expr: Expr { expr_kind: Lit(EntityUID(EntityUID { \
+     ty: EntityType(Name(InternalName { id: Id(\"User\"), path: [Id(\"Org\")] })), \
+     eid: Eid(\"a\") })), source_loc: None, data: () }, attr: \"age\" }, \
+     source_loc: Some(Loc { start: 3, stop: 7, src: \"the text\" }), data: () }";
+
 #[test]
 fn expressions_have_debug_texts(rt: HostRuntime) {
-    let text = made(&rt, format!(in rt.alloc(); "{:?}", of_one(&rt)));
-    assert!(rt; !text.as_str().is_empty());
+    let text = made(&rt, format!(in rt.alloc(); "{:?}", age_of_a_user(&rt)));
+    assert!(rt; text.as_str() == DEBUG_TEXT);
 }
