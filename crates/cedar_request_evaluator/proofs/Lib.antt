@@ -5,4 +5,4 @@ pub mod Paths
 pub mod Calls
 pub mod Puts
 pub mod Trees
-pub mod Bindings
+pub mod Kept

@@ -4,3 +4,4 @@ pub mod Refusals
 pub mod Known
 pub mod Knowledge
 pub mod Nodes
+pub mod Bound

@@ -1,25 +1,19 @@
 //! The evaluator over what is known (Cedar's `Evaluator`).
-ghost use Rattle.std.specs.Prelude.{◌≡◌, option_map};
+ghost use Rattle.std.specs.Prelude.{◌≡◌};
 ghost use Rattle.cedar_builders.specs.Answers.{Gives};
-ghost use Rattle.cedar_names.specs.Names.{BareName};
 ghost use Rattle.cedar_exprs.specs.BareExpr.{bare_expr};
-ghost use Rattle.cedar_exprs.specs.PostOrder.{IsPut};
-ghost use Rattle.cedar_exprs.specs.RestrictedExprs.{binding_of};
-ghost use Rattle.cedar_values.specs.Holders.{held_call, held_name};
-ghost use Rattle.cedar_values.specs.WellFormedValues.{tree_of, type_of, well_formed_env};
-ghost use Rattle.semantics_eval.specs.Outcomes as meant;
+ghost use Rattle.cedar_values.specs.WellFormedValues.{well_formed_env};
 ghost use Rattle.semantics_request.specs.Evaluator.{evaluated};
 ghost use Rattle.cedar_evaluator.specs.Outcomes.{meaning_of};
 ghost use Rattle.cedar_request_evaluator.specs.Refusals.{refused_name};
 ghost use Rattle.cedar_request_evaluator.specs.Knowledge.{functions_of, knowledge_of};
-ghost use Rattle.cedar_request_evaluator.specs.Known.{functions_known_to, known_to};
-ghost use Rattle.cedar_request_evaluator.specs.Nodes.{IsEvaluatedOf, evaluated_by_nodes};
 ghost use Rattle.cedar_request.specs.Requests.{bare_request};
 
+use crate::bound::post_order_with_values;
 use crate::known::Known;
 use cedar_builders::BuildFault;
 use cedar_evaluator::{CallRefused, Outcome};
-use cedar_exprs::{Expr, ExprKind, PostOrder, PostOrderFault, SubstituteValue, push_item};
+use cedar_exprs::{Expr, PostOrderFault};
 use cedar_request::{CallableFunctions, EntityStore, Request};
 use cedar_values::WellFormedValue;
 use std::alloc::Global;
@@ -105,81 +99,10 @@ impl<'a, X: Ord + Drop, S: EntityStore<X>, T: CallableFunctions<X>> RequestEvalu
             (evaluated X.cmp X.eq (functions_of T.bare_functions self.now)
             (knowledge_of S.bare_entities self.now) (bare_expr condition.now)) result }
     {
-        match condition.post_order(alloc, self) {
+        match post_order_with_values(alloc, &self.known, self.values, condition) {
             Ok(outcome) => Ok(outcome),
             Err(PostOrderFault::Refused(refused)) => Err(BuildFault::Build(refused)),
             Err(PostOrderFault::Memory) => Err(BuildFault::Memory),
         }
-    }
-}
-
-// An unknown that is bound by its value's expression, any other node as where nothing is bound.
-impl<X: Ord + Drop, S: EntityStore<X>, T: CallableFunctions<X>> PostOrder<()>
-    for RequestEvaluator<'_, X, S, T> {
-    type Out = Outcome<X>;
-
-    type Refusal = CallRefused;
-
-    ghost Meaning = { meant.Outcome X };
-
-    ghost Fault = { BareName };
-
-    ghost meaning_of = { meaning_of };
-
-    ghost fault_of = { refused_name };
-
-    ghost answer = { λ w e. evaluated X.cmp X.eq (functions_of T.bare_functions w)
-        (knowledge_of S.bare_entities w) e };
-
-    ghost is_made_of = { λ w e. IsEvaluatedOf X.cmp X.eq (functions_of T.bare_functions w)
-        (knowledge_of S.bare_entities w) e };
-
-    fn make(
-        &self,
-        alloc: Global,
-        node: &Expr,
-        done: &mut Vec<Outcome<X>>,
-    ) -> Result<(), PostOrderFault<CallRefused>> {
-        match bound_value(self.values, node) {
-            Some(value) => put_value(alloc, &self.known, value, done),
-            None => self.known.make(alloc, node, done),
-        }
-    }
-
-    ghost by_nodes = { λ w. evaluated_by_nodes X.cmp X.eq (functions_of T.bare_functions w)
-        (knowledge_of S.bare_entities w) };
-}
-
-/// The value that a node is bound to, where it is an unknown.
-pub fn bound_value<'a>(
-    values: &'a HashMap<RcStr, WellFormedValue>,
-    node: &Expr,
-) -> Option<&'a WellFormedValue>
-    ensures { option_map (λ v. (type_of held_name v.now, tree_of held_call v.now)) result
-        ≡ binding_of (well_formed_env values.now) (bare_expr node.now) }
-{
-    match node.expr_kind() {
-        ExprKind::Unknown(unknown) => values.get(unknown.name.as_str()),
-        _ => None,
-    }
-}
-
-// Puts the outcome of a value's expression.
-fn put_value<X: Ord + Drop, S: EntityStore<X>, T: CallableFunctions<X>>(
-    alloc: Global,
-    known: &Known<'_, X, S, T>,
-    value: &WellFormedValue,
-    done: &mut Vec<Outcome<X>>,
-) -> Result<(), PostOrderFault<CallRefused>>
-    ensures { IsPut meaning_of refused_name
-        (λ ms r. r ≡ evaluated X.cmp X.eq (functions_known_to T.bare_functions known.now)
-        (known_to S.bare_entities known.now) (tree_of held_call value.now)) 0
-        done.old.items done.new.items result }
-{
-    let expr = value.value_expr(alloc)?;
-    match expr.as_expr().post_order(alloc, known) {
-        Ok(outcome) => Ok(push_item(done, outcome)?),
-        Err(PostOrderFault::Refused(refused)) => Err(PostOrderFault::Refused(refused)),
-        Err(PostOrderFault::Memory) => Err(PostOrderFault::Memory),
     }
 }

@@ -1,22 +1,24 @@
 //! What an evaluator knows of a request, of entities and of functions, where no unknown is bound.
+ghost use Rattle.std.specs.Prelude.{Ok};
 ghost use Rattle.cedar_names.specs.Names.{BareName};
 ghost use Rattle.semantics_eval.specs.Outcomes as meant;
-ghost use Rattle.semantics_request.specs.Evaluator.{evaluated};
+ghost use Rattle.semantics_request.specs.Evaluator.{request_ops};
 ghost use Rattle.cedar_evaluator.specs.Outcomes.{meaning_of};
 ghost use Rattle.cedar_request_evaluator.specs.Refusals.{refused_name};
 ghost use Rattle.cedar_request_evaluator.specs.Known.{functions_known_to, known_to};
-ghost use Rattle.cedar_request_evaluator.specs.Nodes.{IsEvaluatedOf, evaluated_by_nodes};
 
+use crate::bound::ValueWalk;
 use crate::nodes::{put_binary, put_call, put_get, put_has, put_var};
 use crate::plain_nodes::{
     put_and, put_if, put_is, put_like, put_literal, put_open, put_or, put_record, put_set,
     put_unary,
 };
 use cedar_evaluator::{CallRefused, Outcome};
-use cedar_exprs::{Expr, ExprKind, PostOrder, PostOrderFault};
+use cedar_exprs::{Expr, ExprKind, PostOrderFault};
 use cedar_names::Loc;
 use cedar_request::{CallableFunctions, EntityStore, Request};
-use std::alloc::Global;
+use cedar_values::WellFormedValue;
+use std::alloc::{AllocError, Global};
 
 // The request, the entities and the functions.
 #[derive(Drop)]
@@ -27,7 +29,7 @@ pub(crate) struct Known<'a, X: Ord, S, T> {
 }
 
 // Each node by what its children gave.
-impl<X: Ord + Drop, S: EntityStore<X>, T: CallableFunctions<X>> PostOrder<()>
+impl<X: Ord + Drop, S: EntityStore<X>, T: CallableFunctions<X>> ValueWalk<X>
     for Known<'_, X, S, T> {
     type Out = Outcome<X>;
 
@@ -41,11 +43,10 @@ impl<X: Ord + Drop, S: EntityStore<X>, T: CallableFunctions<X>> PostOrder<()>
 
     ghost fault_of = { refused_name };
 
-    ghost answer = { λ w e. evaluated X.cmp X.eq (functions_known_to T.bare_functions w)
-        (known_to S.bare_entities w) e };
+    ghost ops = { λ w. request_ops X.cmp X.eq (functions_known_to T.bare_functions w)
+        (known_to S.bare_entities w).request (known_to S.bare_entities w).entities };
 
-    ghost is_made_of = { λ w e. IsEvaluatedOf X.cmp X.eq (functions_known_to T.bare_functions w)
-        (known_to S.bare_entities w) e };
+    ghost value_meaning = { λ t. Ok t };
 
     fn make(
         &self,
@@ -78,6 +79,11 @@ impl<X: Ord + Drop, S: EntityStore<X>, T: CallableFunctions<X>> PostOrder<()>
         }
     }
 
-    ghost by_nodes = { λ w. evaluated_by_nodes X.cmp X.eq (functions_known_to T.bare_functions w)
-        (known_to S.bare_entities w) };
+    fn into_value(outcome: Outcome<X>) -> Option<WellFormedValue<X>> {
+        outcome.into_value().ok()
+    }
+
+    fn share(alloc: Global, value: &WellFormedValue<X>) -> Result<Outcome<X>, AllocError> {
+        Ok(Outcome::of_value(value.clone(alloc)?.into_value()))
+    }
 }

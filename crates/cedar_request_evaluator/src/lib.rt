@@ -4,6 +4,7 @@
 
 mod attributes;
 mod binary;
+mod bound;
 mod evaluator;
 mod known;
 mod membership;

@@ -1,4 +1,4 @@
-//! What a store answers of values and bindings of nodes, for walks that evaluate in part.
+//! What a store answers of values, and bound unknowns, for walks that evaluate in part.
 pub use crate::attributes::find_attribute;
 pub use crate::binary::apply_to_values;
-pub use crate::evaluator::bound_value;
+pub use crate::bound::{ValueWalk, post_order_with_values};

@@ -1,7 +1,9 @@
 -- What holds of what a condition is simplified to, where more is known.
-use Rattle.std.proofs.Common.{◌≡◌, Bool, IsTrue, ap, sym, subst, ◌∙◌}
+use Rattle.std.proofs.Common.{◌≡◌, Bool, IsTrue, Ok, ap, sym, subst, ◌∙◌}
 use Rattle.std.specs.declared.cmp.Ordering.{Ordering}
 use Rattle.cedar_builders.specs.BareExpr.{BareExpr}
+use Rattle.cedar_builders.specs.Environment.{Env, fold}
+use Rattle.cedar_builders.specs.Trees.{sure}
 use Rattle.semantics_values.specs.BareValue.{BareCall}
 use Rattle.semantics_values.specs.Laws.{BindsPlainValues}
 use Rattle.semantics_simplify.specs.Asks.{asks_only}
@@ -9,8 +11,15 @@ use Rattle.semantics_simplify.specs.Simplified.{Simplified, tree_of}
 use Rattle.semantics_request.specs.Evaluator.{evaluated}
 use Rattle.semantics_request.specs.Laws.{ResidualFirst, ResidualAsksNoMore}
 use Rattle.semantics_request.specs.Requests.{Knowledge}
-use Rattle.semantics_request.specs.Residuals.{residual}
+use Rattle.semantics_request.specs.Residuals.{residual, residual_ops}
 use Rattle.cedar_request_simplifier.specs.Promises.{MeansTheSameLater, KnownStaysLater, AsksNoMore}
+
+-- what the walk makes, where the unknowns are bound to what is known of them, is the residual
+pub made_is : {X : Type 0} (R : X → X → Ordering) (E : X → X → Bool) (C : X → BareCall)
+    (k : Knowledge X) (e : BareExpr) (p : Simplified X) (env : Env) → env ≡ k.bindings
+    → fold (residual_ops R E C k) env e ≡ Ok p → p ≡ residual R E C k e
+made_is R E C k e p env bindings made =
+    sym (ap sure made) ∙ ap (λ v. sure (fold (residual_ops R E C k) v e)) bindings
 
 module _ {X : Type 0} (R : X → X → Ordering) (E : X → X → Bool) (C : X → BareCall)
     (k : Knowledge X) (e : BareExpr) (p : Simplified X) (is : p ≡ residual R E C k e) where

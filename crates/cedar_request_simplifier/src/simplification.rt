@@ -15,6 +15,7 @@ use crate::walk::RequestSimplifier;
 use cedar_exprs::{Expr, PostOrderFault};
 use cedar_request::{CallableFunctions, EntityStore};
 use cedar_request_evaluator::RequestEvaluator;
+use cedar_request_evaluator::operations::post_order_with_values;
 use cedar_simplifier::Simplified;
 use cedar_values::ExtensionValue;
 use semantics_request::laws::{residual_asks_no_more, residual_first};
@@ -53,7 +54,8 @@ pub fn simplify<X: ExtensionValue + Ord, S: EntityStore<X>, T: CallableFunctions
     residual_first::<X>();
     residual_asks_no_more::<X>();
     maps_bind_plain_values::<X>();
-    match condition.post_order(alloc, &RequestSimplifier { evaluator }) {
+    let walk = RequestSimplifier { evaluator };
+    match post_order_with_values(alloc, &walk, evaluator.values(), condition) {
         Ok(simplified) => Ok(simplified),
         Err(PostOrderFault::Refused(never)) => match never {},
         Err(PostOrderFault::Memory) => Err(AllocError),

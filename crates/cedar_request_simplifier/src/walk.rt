@@ -1,12 +1,7 @@
 //! The walk that simplifies by what is known.
 ghost use Rattle.std.specs.Prelude.{◌≡◌, IfOk};
 ghost use Rattle.cedar_builders.specs.Answers.{never};
-ghost use Rattle.cedar_builders.specs.Environment.{bound, empty, fold, own};
-ghost use Rattle.cedar_builders.specs.NodeByNode.{IsBuiltOf, fold_by_nodes};
 ghost use Rattle.cedar_exprs.specs.BareExpr.{expr_place};
-ghost use Rattle.cedar_exprs.specs.PostOrder.{IsPut};
-ghost use Rattle.cedar_values.specs.Holders.{held_call};
-ghost use Rattle.cedar_values.specs.WellFormedValues.{tree_of};
 ghost use Rattle.semantics_simplify.specs.Simplified as meant;
 ghost use Rattle.semantics_request.specs.Residuals.{residual_ops};
 ghost use Rattle.cedar_request_evaluator.specs.Knowledge.{knowledge_of};
@@ -18,24 +13,24 @@ use crate::plain_nodes::{
     put_slot, put_unary, put_unknown,
 };
 use cedar_builders::ExprBuilder;
-use cedar_exprs::{Expr, ExprKind, PostOrder, PostOrderFault, SubstituteValue, push_item};
+use cedar_exprs::{Expr, ExprKind, PostOrderFault};
 use cedar_names::Loc;
 use cedar_request::{CallableFunctions, EntityStore};
 use cedar_request_evaluator::RequestEvaluator;
-use cedar_request_evaluator::operations::bound_value;
+use cedar_request_evaluator::operations::ValueWalk;
 use cedar_simplifier::{Simplified, SimplifierOf};
 use cedar_values::{ExtensionValue, WellFormedValue};
 use std::alloc::{AllocError, Global};
 use std::convert::Infallible;
 
-// What an evaluator knows.
+// What an evaluator knows of a request and of entities.
 #[derive(Drop)]
 pub(crate) struct RequestSimplifier<'a, 'b, X: Ord, S, T> {
     pub(crate) evaluator: &'a RequestEvaluator<'b, X, S, T>,
 }
 
-// An unknown that is bound by its value's expression, any other node as where nothing is bound.
-impl<X: ExtensionValue + Ord, S: EntityStore<X>, T: CallableFunctions<X>> PostOrder<()>
+// Each node by what its children gave.
+impl<X: ExtensionValue + Ord, S: EntityStore<X>, T: CallableFunctions<X>> ValueWalk<X>
     for RequestSimplifier<'_, '_, X, S, T> {
     type Out = Simplified<X>;
 
@@ -49,64 +44,10 @@ impl<X: ExtensionValue + Ord, S: EntityStore<X>, T: CallableFunctions<X>> PostOr
 
     ghost fault_of = { never };
 
-    ghost answer = { λ w e.
-        let k = knowledge_of S.bare_entities w.evaluator.now in
-        fold (residual_ops X.cmp X.eq X.canonical k) k.bindings e };
+    ghost ops = { λ w. residual_ops X.cmp X.eq X.canonical
+        (knowledge_of S.bare_entities w.evaluator.now) };
 
-    ghost is_made_of = { λ w e.
-        let k = knowledge_of S.bare_entities w.evaluator.now in
-        let B = residual_ops X.cmp X.eq X.canonical k in
-        IsBuiltOf B (λ n t. bound B (k.bindings n) n t) e };
-
-    fn make(
-        &self,
-        alloc: Global,
-        node: &Expr,
-        done: &mut Vec<Simplified<X>>,
-    ) -> Result<(), PostOrderFault<Infallible>> {
-        let unbound = UnboundSimplifier {
-            evaluator: self.evaluator,
-        };
-        match bound_value(self.evaluator.values(), node) {
-            Some(value) => put_value(alloc, &unbound, value, done),
-            None => unbound.make(alloc, node, done),
-        }
-    }
-
-    ghost by_nodes = { λ w.
-        let k = knowledge_of S.bare_entities w.evaluator.now in
-        let B = residual_ops X.cmp X.eq X.canonical k in
-        fold_by_nodes B (λ n t. bound B (k.bindings n) n t) };
-}
-
-// What an evaluator knows of a request and of entities, where no unknown is bound.
-#[derive(Drop)]
-struct UnboundSimplifier<'a, 'b, X: Ord, S, T> {
-    evaluator: &'a RequestEvaluator<'b, X, S, T>,
-}
-
-// Each node by what its children gave.
-impl<X: ExtensionValue + Ord, S: EntityStore<X>, T: CallableFunctions<X>> PostOrder<()>
-    for UnboundSimplifier<'_, '_, X, S, T> {
-    type Out = Simplified<X>;
-
-    type Refusal = Infallible;
-
-    ghost Meaning = { meant.Simplified X };
-
-    ghost Fault = { ⊥ };
-
-    ghost meaning_of = { meaning_of };
-
-    ghost fault_of = { never };
-
-    ghost answer = { λ w e. fold (residual_ops X.cmp X.eq X.canonical
-        (knowledge_of S.bare_entities w.evaluator.now)) empty e };
-
-    ghost is_made_of = { λ w e.
-        let B = residual_ops X.cmp X.eq X.canonical
-        (knowledge_of S.bare_entities w.evaluator.now) in
-        IsBuiltOf B (own B) e };
+    ghost value_meaning = { meant.Known };
 
     fn make(
         &self,
@@ -143,10 +84,16 @@ impl<X: ExtensionValue + Ord, S: EntityStore<X>, T: CallableFunctions<X>> PostOr
         }
     }
 
-    ghost by_nodes = { λ w.
-        let B = residual_ops X.cmp X.eq X.canonical
-        (knowledge_of S.bare_entities w.evaluator.now) in
-        fold_by_nodes B (own B) };
+    fn into_value(made: Simplified<X>) -> Option<WellFormedValue<X>> {
+        match made.into_value() {
+            Some(value) => Some(WellFormedValue::new_unchecked(value)),
+            None => None,
+        }
+    }
+
+    fn share(alloc: Global, value: &WellFormedValue<X>) -> Result<Simplified<X>, AllocError> {
+        Ok(Simplified::known(value.clone(alloc)?.into_value()))
+    }
 }
 
 // A builder of residuals with the place of a node.
@@ -158,25 +105,4 @@ fn builder_at<X: ExtensionValue + Ord>(
         ⟦<SimplifierOf<X> as ExprBuilder>⟧.place_of b ≡ expr_place node.now) }
 {
     Ok(SimplifierOf::new().with_maybe_source_loc(Loc::clone_option(alloc, node.source_loc())?))
-}
-
-// Puts what a value's expression is simplified to.
-fn put_value<X: ExtensionValue + Ord, S: EntityStore<X>, T: CallableFunctions<X>>(
-    alloc: Global,
-    unbound: &UnboundSimplifier<'_, '_, X, S, T>,
-    value: &WellFormedValue,
-    done: &mut Vec<Simplified<X>>,
-) -> Result<(), PostOrderFault<Infallible>>
-    ensures { IsPut meaning_of never
-        (λ ms r. r ≡ fold (residual_ops X.cmp X.eq X.canonical
-        (knowledge_of S.bare_entities unbound.now.evaluator.now)) empty
-        (tree_of held_call value.now)) 0
-        done.old.items done.new.items result }
-{
-    let expr = value.value_expr(alloc)?;
-    match expr.as_expr().post_order(alloc, unbound) {
-        Ok(made) => Ok(push_item(done, made)?),
-        Err(PostOrderFault::Refused(never)) => match never {},
-        Err(PostOrderFault::Memory) => Err(PostOrderFault::Memory),
-    }
 }

@@ -8,7 +8,7 @@ use Rattle.semantics_request.specs.Residuals.{residual_ops}
 use Rattle.cedar_request_evaluator.specs.Knowledge.{knowledge_of}
 use Rattle.cedar_simplifier.specs.Simplified.{meaning_of}
 use Rattle.cedar_request_evaluator.proofs.Trees.{at_kind, at_record, at_row, record_length, row_length}
-use Rattle.cedar_request_simplifier.proofs.walk.UnboundSimplifierPostOrderUnit.make.Goals as goal
+use Rattle.cedar_request_simplifier.proofs.walk.RequestSimplifierValueWalk.make.Goals as goal
 
 pub put_call-requires : goal.put_call-requires
 put_call-requires g c =

@@ -6,7 +6,7 @@ use Rattle.cedar_request_evaluator.specs.Refusals.{refused_name}
 use Rattle.cedar_request_evaluator.specs.Known.{functions_known_to, known_to}
 use Rattle.cedar_request_evaluator.specs.Nodes.{IsEvaluatedOf}
 use Rattle.cedar_request_evaluator.proofs.Trees.{at_kind, at_record, at_row, record_length, row_length}
-use Rattle.cedar_request_evaluator.proofs.known.KnownPostOrderUnit.make.Goals as goal
+use Rattle.cedar_request_evaluator.proofs.known.KnownValueWalk.make.Goals as goal
 
 pub put_call-requires : goal.put_call-requires
 put_call-requires g c =
