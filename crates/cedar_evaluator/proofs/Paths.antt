@@ -1,6 +1,7 @@
 -- Attributes, and paths of attributes.
-use Rattle.std.proofs.Common.{◌≡◌, Bool, true, false, Bor, List, [], ◌∷◌, Option, Some, None, IfSome, option_map, Err, cond, nat_cmp, refl, sym, subst, ◌∙◌}
+use Rattle.std.proofs.Common.{◌≡◌, Bool, IsTrue, true, false, Bor, BTreeMap, List, [], ◌∷◌, Option, Some, None, IfSome, option_map, Err, cond, nat_cmp, refl, sym, subst, ◌∙◌}
 use Rattle.std.specs.BTreeMap.{is_at}
+use Rattle.std.specs.declared.cmp.Ordering.{Ordering}
 use Rattle.std.specs.Cmp.Lexicographic.{slice_cmp, texts_ties}
 use Rattle.std.specs.Global.{Global}
 use Rattle.std.specs.List.{list_all}
@@ -12,6 +13,7 @@ use Rattle.std.proofs.lemmas.Bool.{and_parts}
 use Rattle.cedar_builders.specs.BareExpr.{Text}
 use Rattle.cedar_builders.specs.Keys.{meant_pairs}
 use Rattle.cedar_values.specs.BareValues.{bare_value}
+use Rattle.cedar_values.specs.WellFormed.{well_formed}
 use Rattle.cedar_values.specs.declared.value.Value.{Value}
 use Rattle.semantics_eval.specs.Attributes.{has_path}
 use Rattle.semantics_eval.specs.Outcomes.{Fault}
@@ -72,3 +74,10 @@ module _ {X : Type 0} where
   pub fault_path : (f : Fault) (k : Text) (js : List Text) → has_path {X = X} (Err f) k js ≡ Err f
   fault_path f k [] = refl
   fault_path f k (j ∷ js) = refl
+
+-- the values of equal maps are well formed alike
+pub entries_kept : {X : Type 0} (R : X → X → Ordering) {a b : BTreeMap (RcStr Global) (Value X)}
+    → a ≡ b → IsTrue (list_all (λ e. well_formed R e.1) b.entries)
+    → IsTrue (list_all (λ e. well_formed R e.1) a.entries)
+entries_kept R is kept =
+    subst (λ m. IsTrue (list_all (λ e. well_formed R e.1) m.entries)) (sym is) kept

@@ -1,13 +1,12 @@
 use Rattle.std.proofs.Common.{ap, sym, ◌∙◌}
 use Rattle.std.specs.Prelude.{ok_or}
-use Rattle.std.specs.List.{list_all}
 use Rattle.std.specs.Rc.{rc_str_bytes}
 use Rattle.cedar_builders.specs.Keys.{meant_pairs}
 use Rattle.cedar_values.specs.BareValues.{bare_value}
-use Rattle.cedar_values.specs.WellFormed.{well_formed}
 use Rattle.semantics_eval.specs.Attributes.{get_in, list_of_pairs_of}
 use Rattle.semantics_eval.specs.Outcomes.{Missing}
 use Rattle.cedar_evaluator.specs.Kinds.{at_key}
+use Rattle.cedar_evaluator.proofs.Paths.{entries_kept}
 use Rattle.cedar_evaluator.proofs.fields.Fields.at.Goals as goal
 
 pub returns-clause-found : goal.returns-clause-found
@@ -23,6 +22,5 @@ returns-clause-found c =
 pub returns-clause-well_formed : goal.returns-clause-well_formed
 returns-clause-well_formed c =
     let m = c.args.self.now.pairs in
-    c.look_up.ensures.well_formed
-    ((λ i. list_all (λ e. well_formed _ e.1) (c.deref.ensures i).entries)
-    ∙ sym (c.values_by_kind.ensures.record_kept m) ∙ c.args.self.now.kept)
+    c.look_up.ensures.well_formed (entries_kept _ c.deref.ensures
+    (sym (c.values_by_kind.ensures.record_kept m) ∙ c.args.self.now.kept))
