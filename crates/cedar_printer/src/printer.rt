@@ -36,8 +36,8 @@ use std::rc::RcStr;
 /// The contract is that of `into_expr` at the builder `PolicyText`: the fold of the expression's
 /// bare tree at the builder's operations. A text keeps `true && false` as it is, where substitution
 /// makes `false` of it: so the builder is not lawful, and texts are made of what was substituted
-/// before. The text is one of the grammar's, and stands for the expression's tree; but an unknown's
-/// annotation is not written, and a call of a function `unknown` on one text is parsed as an unknown.
+/// before. The text is one of the grammar's, and stands for the expression's tree; but the annotation
+/// of an unknown is not written, and a call of `unknown` on one text is parsed as an unknown.
 pub fn policy_text(alloc: Global, expr: &Expr) -> Result<Phrase, AllocError>
     ensures text { IfOk result (λ p.
         fold policy_text_ops empty (bare_expr expr.now) ≡ Ok (phrase_of p)) }

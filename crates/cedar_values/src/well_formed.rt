@@ -24,7 +24,7 @@ pub struct WellFormedValue<X: Ord = NoExtension> {
 
 impl<X: Ord + Drop> WellFormedValue<X> {
     ghost use Rattle.std.specs.Prelude.{◌≡◌, false, IfOk, MatchResult};
-    ghost use Rattle.cedar_values.specs.BareValues.{bare_value};
+    ghost use Rattle.cedar_values.specs.BareValues.{bare_value, value_place};
     ghost use Rattle.cedar_values.specs.WellFormedValues.{value_of};
 
     /// The value, if it is well formed; else it comes back. Each part of it is looked at once: do
@@ -68,19 +68,22 @@ impl<X: Ord + Drop> WellFormedValue<X> {
     }
 
     /// A copy, which shares what is inside and takes no memory.
-    pub fn clone(&self, _alloc: Global) -> Result<WellFormedValue<X>, AllocError>
-        ensures { IfOk result (λ w. bare_value (value_of w) ≡ bare_value (value_of self.now)) }
+    pub fn clone(&self, alloc: Global) -> Result<WellFormedValue<X>, AllocError>
+        ensures tree { IfOk result (λ w. bare_value (value_of w) ≡ bare_value (value_of self.now)) }
+        ensures place { IfOk result (λ w.
+            value_place (value_of w) ≡ value_place (value_of self.now)) }
     {
-        Clone::clone(self)
+        Ok(WellFormedValue {
+            value: self.value.clone(alloc)?,
+        })
     }
 }
 
 impl<X: Ord + Drop> Clone for WellFormedValue<X> {
-    ghost use Rattle.std.specs.Prelude.{◌≡◌};
-    ghost use Rattle.cedar_values.specs.BareValues.{bare_value};
+    ghost use Rattle.cedar_values.specs.Kinds.{IsValueCopy};
     ghost use Rattle.cedar_values.specs.WellFormedValues.{value_of};
 
-    ghost is_clone = { λ w copy. bare_value (value_of copy) ≡ bare_value (value_of w) };
+    ghost is_clone = { λ w copy. IsValueCopy (value_of w) (value_of copy) };
 
     fn clone(&self) -> Result<WellFormedValue<X>, AllocError> {
         Ok(WellFormedValue::new_unchecked(Clone::clone(&self.value)?))

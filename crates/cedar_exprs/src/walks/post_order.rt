@@ -112,12 +112,13 @@ pub(crate) fn run<T, W: PostOrder<T>>(
 ) -> Result<W::Out, PostOrderFault<W::Refusal>>
     ensures { IsAnswer W.meaning_of W.fault_of (W.answer walk.now (bare_expr root.now)) result }
 {
-    let mut done = Vec::new(alloc);
     if root.is_leaf() {
+        let mut done = Vec::new(alloc);
         walk.make(alloc, root, &mut done)?;
         return Ok(done.take_last());
     }
-    let mut tasks = Vec::new(alloc);
+    let mut done = Vec::with_capacity(alloc, 8)?;
+    let mut tasks = Vec::with_capacity(alloc, 8)?;
     tasks.push(Task::Visit(root))?;
     'down: while let Some(task) = tasks.pop() {
         match task {

@@ -7,24 +7,24 @@ use Rattle.cedar_exprs.specs.PostOrder.{bare_tasks}
 use Rattle.cedar_exprs.proofs.Running.{Fits, begun_answer, begun_ends, begun_fits, fewer_begun, row_children, fewer_steps, fewer_by_one, leaf_leaves, visit_fits, make_room, make_fits, make_ends, leaf_fits, leaf_ends, refusal_ends, snoc_tasks, snoc_then, below}
 use Rattle.cedar_exprs.proofs.walks.post_order.run.Goals as goal
 
-pub down-smaller-in-Continue-branch-3 : goal.down-smaller-in-Continue-branch-3
-down-smaller-in-Continue-branch-3 g c = leaf_leaves _ _ (bare_expr c.in-Visit.node.now) (snoc_tasks _ _ _ _ c.in-Some.ensures.items c.in-Visit.is)
+pub down-smaller-in-Continue-branch-5 : goal.down-smaller-in-Continue-branch-5
+down-smaller-in-Continue-branch-5 g c = leaf_leaves _ _ (bare_expr c.in-Visit.node.now) (snoc_tasks _ _ _ _ c.in-Some.ensures.items c.in-Visit.is)
 
-pub down-preserved-in-Continue-branch-3 : goal.down-preserved-in-Continue-branch-3
-down-preserved-in-Continue-branch-3 g c =
+pub down-preserved-in-Continue-branch-5 : goal.down-preserved-in-Continue-branch-5
+down-preserved-in-Continue-branch-5 g c =
     let was = snoc_tasks _ _ _ _ c.in-Some.ensures.items c.in-Visit.is in
     let made = c.in_ok-make-in-Visit.ensures in
     leaf_fits (g.W.PostOrder.answer c.args.walk.now) (bare_expr c.args.root.now) _ _ (bare_expr c.in-Visit.node.now) g.W.PostOrder.meaning_of c.down.done.items was c.down.invariant (c.is_leaf-in-Visit.ensures.childless c.if-is_leaf-2.true)
     (g.met.W.PostOrder.by_nodes c.args.walk.now) made.1 made.0 _ made.3 made.2
 
-pub down-smaller-in-Continue-branch-5 : goal.down-smaller-in-Continue-branch-5
-down-smaller-in-Continue-branch-5 g c =
+pub down-smaller-in-Continue-branch-7 : goal.down-smaller-in-Continue-branch-7
+down-smaller-in-Continue-branch-7 g c =
     let was = snoc_tasks _ _ _ _ c.in-Some.ensures.items c.in-Visit.is in
     let begun = c.in_ok-begin_row-in-Some-row_of.ensures in
     fewer_begun _ _ _ (bare_expr c.in-Visit.node.now) begun.0 begun.1 was (row_children c.in-Visit.node.now _ c.in-Some-row_of.ensures ∙ begun.3) (snoc_then _ _ _ _ _ c.in_ok-push-in-Visit.ensures.items begun.6)
 
-pub down-preserved-in-Continue-branch-5 : goal.down-preserved-in-Continue-branch-5
-down-preserved-in-Continue-branch-5 g c =
+pub down-preserved-in-Continue-branch-7 : goal.down-preserved-in-Continue-branch-7
+down-preserved-in-Continue-branch-7 g c =
     let W = g.W.PostOrder in
     let was = snoc_tasks _ _ _ _ c.in-Some.ensures.items c.in-Visit.is in
     let begun = c.in_ok-begin_row-in-Some-row_of.ensures in
@@ -43,13 +43,13 @@ returns-in_err-begin_row-in-Some-row_of g c =
     (λ x given. begun_ends (W.answer c.args.walk.now) root _ _ e x _ ((g.met.W.PostOrder.by_nodes c.args.walk.now).strict e) was (ap (gathered (W.answer c.args.walk.now)) (row_children c.in-Visit.node.now _ c.in-Some-row_of.ensures) ∙ given) c.down.invariant)
     same c.in_err-begin_row-in-Some-row_of.ensures
 
-pub down-smaller-in-Continue-branch-6 : goal.down-smaller-in-Continue-branch-6
-down-smaller-in-Continue-branch-6 g c =
+pub down-smaller-in-Continue-branch-8 : goal.down-smaller-in-Continue-branch-8
+down-smaller-in-Continue-branch-8 g c =
     let was = snoc_tasks _ _ _ _ c.in-Some.ensures.items c.in-Visit.is in
     fewer_steps _ _ _ (bare_expr c.in-Visit.node.now) was (snoc_then _ _ _ _ _ c.in_ok-push-in-Visit.ensures.items (below _ _ c.in-Visit.node.now c.in_ok-push_children-in-None.ensures))
 
-pub down-preserved-in-Continue-branch-6 : goal.down-preserved-in-Continue-branch-6
-down-preserved-in-Continue-branch-6 g c =
+pub down-preserved-in-Continue-branch-8 : goal.down-preserved-in-Continue-branch-8
+down-preserved-in-Continue-branch-8 g c =
     let was = snoc_tasks _ _ _ _ c.in-Some.ensures.items c.in-Visit.is in
     visit_fits (g.W.PostOrder.answer c.args.walk.now) (bare_expr c.args.root.now) _ _ (bare_expr c.in-Visit.node.now) _ _ ((g.met.W.PostOrder.by_nodes c.args.walk.now).strict (bare_expr c.in-Visit.node.now)) was
     (snoc_then _ _ _ _ _ c.in_ok-push-in-Visit.ensures.items (below _ _ c.in-Visit.node.now c.in_ok-push_children-in-None.ensures)) c.down.invariant
