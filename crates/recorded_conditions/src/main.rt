@@ -7,8 +7,8 @@
 //! standard input is a tree, written as `docs/CALLS.md` says: it is printed, what was printed is
 //! parsed, the two trees are compared, and each node with the piece of text at its place. The third
 //! argument names a file of texts with blank lines between them: each is parsed, and the program
-//! shows its tree, and how it is printed again, or why it is no expression. At last it parses a text
-//! as many levels deep as the fourth argument says.
+//! shows its tree, and how it is printed again, or why it is no expression. At last it parses a
+//! text as many levels deep as the fourth argument says.
 #![tactic(auto)]
 
 mod conditions;

@@ -3,8 +3,8 @@ use cedar_exprs::Expr;
 use cedar_parser::{ParseError, parse_expr};
 use std::alloc::{AllocError, Global};
 
-/// Whether the place of each node that was parsed is a piece of the text that is parsed as this node
-/// again. Of nodes at one place, as `a != b` makes two, it is the outermost.
+/// Whether the place of each node that was parsed is a piece of the text that is parsed as this
+/// node again. Of nodes at one place, as `a != b` makes two, it is the outermost.
 pub fn are_pieces(alloc: Global, text: &str, expr: &Expr) -> Result<bool, AllocError> {
     let mut seen: Vec<(usize, usize)> = Vec::new(alloc);
     for node in expr.subexpressions(alloc)? {

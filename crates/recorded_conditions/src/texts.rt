@@ -21,7 +21,7 @@ pub fn show(rt: &HostRuntime, texts: &str) -> io::Result<()> {
     Ok(())
 }
 
-// Shows a tree, how it is printed, and whether a node has another place than what it was parsed from.
+// Shows a tree, how it is printed, and whether a node is at a place that it was not parsed from.
 fn show_tree(rt: &HostRuntime, text: &str, expr: &Expr) -> io::Result<()> {
     if !are_pieces(rt.alloc(), text, expr)? {
         println!(rt; "  has a node at another place")?;
