@@ -25,6 +25,7 @@ pub struct RestrictedExpr {
 }
 
 impl RestrictedExpr {
+    ghost use Rattle.cedar_exprs.specs.MadeNode.{IsPlain};
     ghost use Rattle.cedar_exprs.specs.RestrictedExprs.{expr_of, bare_restricted_expr};
     ghost use Rattle.cedar_exprs.specs.NotRestricted.{first_not_restricted, IsRefusalOf};
 
@@ -73,9 +74,9 @@ impl RestrictedExpr {
         fn_name: Name,
         args: Vec<RestrictedExpr>,
     ) -> Result<RestrictedExpr, AllocError>
-        ensures { IfOk result (λ r. bare_restricted_expr r
-            ≡ ExtensionFunctionApp (bare_name fn_name)
-            (trees_of (map bare_restricted_expr args.items))) }
+        ensures { IfOk result (λ r. IsPlain (ExtensionFunctionApp (bare_name fn_name)
+            (trees_of (map bare_restricted_expr args.items))) (map expr_of args.items)
+            (expr_of r)) }
     {
         let exprs = RestrictedExpr::exprs_of(alloc, args)?;
         let expr = Expr::call_extension_fn(alloc, fn_name, exprs)?;

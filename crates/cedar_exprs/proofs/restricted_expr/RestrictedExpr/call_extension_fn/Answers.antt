@@ -13,4 +13,10 @@ invariant_of-result c = record {
 }
 
 pub returns : goal.returns
-returns c = c.in_ok-expr.ensures.tree ∙ call_tree (bare_name c.args.fn_name) c.args.args.items c.in_ok-exprs.exprs.items c.in_ok-exprs.ensures
+returns c = record {
+  tree =
+      c.in_ok-expr.ensures.tree
+      ∙ call_tree (bare_name c.args.fn_name) c.args.args.items c.in_ok-exprs.exprs.items c.in_ok-exprs.ensures;
+  place = c.in_ok-expr.ensures.place;
+  over = c.in_ok-expr.ensures.over ∙ c.in_ok-exprs.ensures;
+}
