@@ -33,7 +33,7 @@ pub struct Outcome<X: Ord = NoExtension> {
 }
 
 impl<X: Ord + Drop> Outcome<X> {
-    ghost use Rattle.std.specs.Prelude.{Bool, Ok, Err, map};
+    ghost use Rattle.std.specs.Prelude.{Bool, IfErr, IsOk, Ok, Err, map};
     ghost use Rattle.std.specs.Rc.{rc_str_bytes};
     ghost use Rattle.cedar_values.specs.BareValues.{bare_value};
     ghost use Rattle.semantics_values.specs.BareValue.{LitValue};
@@ -50,11 +50,13 @@ impl<X: Ord + Drop> Outcome<X> {
       strict_two,
     };
     ghost use Rattle.cedar_evaluator.specs.Outcomes.{
+      IsPlacedAt,
       bare_fault,
       fault_in,
       faulted,
       literal_outcome,
       meaning_of,
+      place_in,
       placed_result_of,
       result_of,
       truth_in,
@@ -81,7 +83,8 @@ impl<X: Ord + Drop> Outcome<X> {
 
     /// A literal, or a fault that comes up at this place.
     pub fn settle(settled: Result<Literal, EvalFault>, source_loc: Option<Loc>) -> Outcome<X>
-        ensures { meaning_of result ≡ literal_outcome (faulted settled) }
+        ensures meaning { meaning_of result ≡ literal_outcome (faulted settled) }
+        ensures place { IfErr (placed_result_of result) (λ f. place_in f ≡ source_loc) }
     {
         match settled {
             Ok(literal) => Outcome::lit(literal),
@@ -91,7 +94,8 @@ impl<X: Ord + Drop> Outcome<X> {
 
     // A literal.
     pub(crate) fn lit(literal: Literal) -> Outcome<X>
-        ensures { meaning_of result ≡ Ok (LitValue (bare_literal literal)) }
+        ensures meaning { meaning_of result ≡ Ok (LitValue (bare_literal literal)) }
+        ensures is_value { IsOk (placed_result_of result) }
     {
         Outcome {
             result: Ok(literal_value(literal)),
@@ -100,14 +104,16 @@ impl<X: Ord + Drop> Outcome<X> {
 
     /// A fault that comes up at this place.
     pub fn fail(fault: EvalFault, source_loc: Option<Loc>) -> Outcome<X>
-        ensures { meaning_of result ≡ Err (bare_fault fault) }
+        ensures meaning { meaning_of result ≡ Err (bare_fault fault) }
+        ensures place { IfErr (placed_result_of result) (λ f. place_in f ≡ source_loc) }
     {
         Outcome::of_fault(EvaluationFault::new(fault, source_loc))
     }
 
     /// A fault, with its place.
     pub fn of_fault(fault: EvaluationFault) -> Outcome<X>
-        ensures { meaning_of result ≡ Err (bare_fault (fault_in fault)) }
+        ensures meaning { meaning_of result ≡ Err (bare_fault (fault_in fault)) }
+        ensures placed { placed_result_of result ≡ Err fault }
     {
         Outcome { result: Err(fault) }
     }
@@ -133,6 +139,7 @@ impl<X: Ord + Drop> Outcome<X> {
             → meaning_of result ≡ Err f }
         ensures boolean { (b : Bool) → truth_in (meaning_of self) ≡ Ok b
             → meaning_of result ≡ Err (By WrongType) }
+        ensures place { IsPlacedAt source_loc self result }
     {
         match &self.result {
             Ok(_) => Outcome::fail(EvalFault::WrongType, source_loc),
@@ -142,7 +149,8 @@ impl<X: Ord + Drop> Outcome<X> {
 
     /// The outcome, if it is a Boolean or a fault.
     pub fn into_truth(self, source_loc: Option<Loc>) -> Outcome<X>
-        ensures { meaning_of result ≡ strict as_truth (meaning_of self) }
+        ensures meaning { meaning_of result ≡ strict as_truth (meaning_of self) }
+        ensures place { IsPlacedAt source_loc self result }
     {
         match self.truth() {
             Ok(truth) => Outcome::lit(Literal::Bool(truth)),
@@ -152,7 +160,8 @@ impl<X: Ord + Drop> Outcome<X> {
 
     /// An operator on the value.
     pub fn apply_one(self, op: UnaryOp, source_loc: Option<Loc>) -> Outcome<X>
-        ensures { meaning_of result ≡ strict (one op) (meaning_of self) }
+        ensures meaning { meaning_of result ≡ strict (one op) (meaning_of self) }
+        ensures place { IsPlacedAt source_loc self result }
     {
         match &self.result {
             Ok(value) => Outcome::settle(apply_one(op, value), source_loc),
@@ -179,7 +188,8 @@ impl<X: Ord + Drop> Outcome<X> {
 
     /// Whether a pattern matches the text.
     pub fn like(self, pattern: &Pattern, source_loc: Option<Loc>) -> Outcome<X>
-        ensures { meaning_of result ≡ strict (like_in pattern.now) (meaning_of self) }
+        ensures meaning { meaning_of result ≡ strict (like_in pattern.now) (meaning_of self) }
+        ensures place { IsPlacedAt source_loc self result }
     {
         match &self.result {
             Ok(value) => Outcome::settle(test::<X>(is_like(value, pattern)), source_loc),
@@ -189,8 +199,9 @@ impl<X: Ord + Drop> Outcome<X> {
 
     /// Whether the entity is of a type.
     pub fn is_of_type(self, ty: &EntityType, source_loc: Option<Loc>) -> Outcome<X>
-        ensures { meaning_of result
+        ensures meaning { meaning_of result
             ≡ strict (is_in (bare_entity_type ty.now)) (meaning_of self) }
+        ensures place { IsPlacedAt source_loc self result }
     {
         match &self.result {
             Ok(value) => Outcome::settle(test::<X>(is_of_type(value, ty)), source_loc),
@@ -201,7 +212,8 @@ impl<X: Ord + Drop> Outcome<X> {
     /// A well formed value.
     pub fn of_value(value: Value<X>) -> Outcome<X>
         requires { IsTrue (well_formed X.cmp value) }
-        ensures { meaning_of result ≡ Ok (bare_value value) }
+        ensures meaning { meaning_of result ≡ Ok (bare_value value) }
+        ensures value { placed_result_of result ≡ Ok value }
     {
         Outcome { result: Ok(value) }
     }
@@ -214,8 +226,9 @@ impl<X: Ord + Drop> Outcome<X> {
         key: &RcStr,
         source_loc: Option<Loc>,
     ) -> Result<Outcome<X>, AllocError>
-        ensures { IfOk result (λ m.
+        ensures meaning { IfOk result (λ m.
             meaning_of m ≡ strict (get_in (rc_str_bytes key.now)) (meaning_of self)) }
+        ensures place { IfOk result (IsPlacedAt source_loc self) }
     {
         match &self.result {
             Ok(value) => match attribute(value, key) {

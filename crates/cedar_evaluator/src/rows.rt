@@ -2,14 +2,21 @@
 ghost use Rattle.std.specs.Prelude.{◌≡◌, IfOk, IsTrue, OnOk, map};
 ghost use Rattle.std.specs.BTreeMap.{insert_entry};
 ghost use Rattle.std.specs.List.{list_all};
+ghost use Rattle.std.specs.Result.{result_err};
 ghost use Rattle.cedar_builders.specs.Fold.{on_one};
 ghost use Rattle.cedar_builders.specs.Keys.{IsAscending, keys_of, meant_pairs};
+ghost use Rattle.cedar_builders.specs.Walks.{first_of};
 ghost use Rattle.semantics_values.specs.BareValue.{RecordValue, pairs_of};
 ghost use Rattle.cedar_values.specs.BareValues.{bare_value};
 ghost use Rattle.cedar_values.specs.Records.{key_cmp};
 ghost use Rattle.cedar_values.specs.WellFormed.{well_formed};
 ghost use Rattle.semantics_eval.specs.Rows.{all_pairs, all_values};
-ghost use Rattle.cedar_evaluator.specs.Outcomes.{faulted, meaning_of, unplaced};
+ghost use Rattle.cedar_evaluator.specs.Outcomes.{
+  faulted,
+  meaning_of,
+  placed_fault_of,
+  unplaced,
+};
 
 use crate::fault::EvaluationFault;
 use crate::outcome::Outcome;
@@ -27,6 +34,8 @@ pub fn split_row<X: Ord + Drop>(
     ensures values { IfOk result (λ split.
         on_one (λ vs. map bare_value vs.items) (faulted (unplaced split))
         ≡ all_values (map meaning_of row.items)) }
+    ensures fault { IfOk result (λ split.
+        result_err split ≡ first_of placed_fault_of row.items) }
     ensures well_formed { IfOk result (λ split. IfOk split (λ vs.
         IsTrue (list_all (well_formed X.cmp) vs.items))) }
 {
@@ -40,7 +49,7 @@ pub fn split_row<X: Ord + Drop>(
     Ok(Ok(values))
 }
 
-/// The keys and values of a record, or the first fault.
+/// The keys and values of a record, or the first fault with its place.
 pub fn split_pairs<X: Ord + Drop>(
     alloc: Global,
     row: Vec<(RcStr, Outcome<X>)>,
@@ -48,6 +57,8 @@ pub fn split_pairs<X: Ord + Drop>(
     ensures pairs { IfOk result (λ split.
         on_one (λ ps. meant_pairs bare_value ps.items) (faulted (unplaced split))
         ≡ all_pairs (meant_pairs meaning_of row.items)) }
+    ensures fault { IfOk result (λ split.
+        result_err split ≡ first_of (λ p. placed_fault_of p.1) row.items) }
     ensures keys { IfOk result (λ split. IfOk split (λ ps.
         keys_of ps.items ≡ keys_of row.items)) }
     ensures well_formed { IfOk result (λ split. IfOk split (λ ps.

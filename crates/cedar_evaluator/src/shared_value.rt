@@ -2,7 +2,12 @@
 ghost use Rattle.std.specs.Prelude.{◌≡◌, IfOk, IfErr, Ok, Err};
 ghost use Rattle.cedar_values.specs.BareValues.{bare_value};
 ghost use Rattle.cedar_values.specs.WellFormedValues.{value_of};
-ghost use Rattle.cedar_evaluator.specs.Outcomes.{bare_fault, fault_in, meaning_of};
+ghost use Rattle.cedar_evaluator.specs.Outcomes.{
+  bare_fault,
+  fault_in,
+  meaning_of,
+  placed_result_of,
+};
 
 use crate::compact::CompactOutcome;
 use crate::compact_evaluator::CompactEvaluator;
@@ -87,6 +92,7 @@ impl<X: Ord + Drop> Outcome<X> {
     pub fn into_value(self) -> Result<WellFormedValue<X>, EvaluationFault>
         ensures value { IfOk result (λ w. meaning_of self ≡ Ok (bare_value (value_of w))) }
         ensures fault { IfErr result (λ e. meaning_of self ≡ Err (bare_fault (fault_in e))) }
+        ensures placed { IfErr result (λ e. placed_result_of self ≡ Err e) }
     {
         match self.into_result() {
             Ok(value) => Ok(WellFormedValue::new_unchecked(value)),

@@ -1,5 +1,5 @@
 //! Attributes and tags, where a store answers for entities.
-ghost use Rattle.std.specs.Prelude.{◌≡◌, IfOk, IfSome, IsTrue, Ok, map, ok_or, option_map};
+ghost use Rattle.std.specs.Prelude.{◌≡◌, IfErr, IfOk, IfSome, IsTrue, Ok, map, ok_or, option_map};
 ghost use Rattle.std.specs.Rc.{rc_str_bytes};
 ghost use Rattle.cedar_terms.specs.Entities.{bare_entity_uid};
 ghost use Rattle.cedar_builders.specs.Fold.{and_then, on_one};
@@ -9,7 +9,13 @@ ghost use Rattle.cedar_values.specs.WellFormed.{well_formed};
 ghost use Rattle.semantics_eval.specs.Outcomes.{Missing, settled, truth};
 ghost use Rattle.semantics_request.specs.Entities as store;
 ghost use Rattle.semantics_request.specs.Evaluator.{path_by};
-ghost use Rattle.cedar_evaluator.specs.Outcomes.{faulted, literal_outcome, meaning_of};
+ghost use Rattle.cedar_evaluator.specs.Outcomes.{
+  faulted,
+  literal_outcome,
+  meaning_of,
+  place_in,
+  placed_result_of,
+};
 ghost use Rattle.cedar_request_evaluator.specs.Attributes.{found_by};
 ghost use Rattle.cedar_request.specs.Values.{tree_of};
 
@@ -52,9 +58,10 @@ fn entity_attribute<X: Ord + Drop, S: EntityStore<X>>(
     key: &str,
     source_loc: Option<Loc>,
 ) -> Result<Outcome<X>, AllocError>
-    ensures { IfOk result (λ m. meaning_of m
+    ensures meaning { IfOk result (λ m. meaning_of m
         ≡ store.found_at (λ d. d.attributes) key.now
         (S.bare_entities entities.now (bare_entity_uid uid.now))) }
+    ensures place { IfOk result (λ m. IfErr (placed_result_of m) (λ f. place_in f ≡ source_loc)) }
 {
     match entities.entity(uid) {
         Dereference::NotKnown => Ok(Outcome::fail(EvalFault::Open, source_loc)),
@@ -71,9 +78,10 @@ pub(crate) fn entity_tag<X: Ord + Drop, S: EntityStore<X>>(
     key: &str,
     source_loc: Option<Loc>,
 ) -> Result<Outcome<X>, AllocError>
-    ensures { IfOk result (λ m. meaning_of m
+    ensures meaning { IfOk result (λ m. meaning_of m
         ≡ store.found_at (λ d. d.tags) key.now
         (S.bare_entities entities.now (bare_entity_uid uid.now))) }
+    ensures place { IfOk result (λ m. IfErr (placed_result_of m) (λ f. place_in f ≡ source_loc)) }
 {
     match entities.entity(uid) {
         Dereference::NotKnown => Ok(Outcome::fail(EvalFault::Open, source_loc)),
@@ -105,8 +113,9 @@ fn found<X: Ord + Drop>(
     value: Option<&WellFormedValue<X>>,
     source_loc: Option<Loc>,
 ) -> Result<Outcome<X>, AllocError>
-    ensures { IfOk result (λ m. meaning_of m
+    ensures meaning { IfOk result (λ m. meaning_of m
         ≡ settled (ok_or (option_map (λ w. tree_of w.now) value.entry) Missing)) }
+    ensures place { IfOk result (λ m. IfErr (placed_result_of m) (λ f. place_in f ≡ source_loc)) }
 {
     match value {
         Some(value) => Ok(Outcome::of_value(value.clone(alloc)?.into_value())),

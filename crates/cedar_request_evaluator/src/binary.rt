@@ -1,7 +1,7 @@
 //! Operators on two values, where a store answers `in`, `getTag` and `hasTag`, and a table of
 //! functions compares extension values.
 ghost use Rattle.std.specs.Ordering.{is_le, is_lt};
-ghost use Rattle.std.specs.Prelude.{◌≡◌, IfOk, IsTrue};
+ghost use Rattle.std.specs.Prelude.{◌≡◌, IfErr, IfOk, IsTrue};
 ghost use Rattle.cedar_terms.specs.declared.ops.BinaryOp.TheVariants as binary;
 ghost use Rattle.semantics_eval.specs.Operators.{apply_two};
 ghost use Rattle.semantics_eval.specs.Outcomes.{settled};
@@ -9,7 +9,13 @@ ghost use Rattle.semantics_request.specs.Entities as meant;
 ghost use Rattle.semantics_request.specs.Evaluator.{apply_by, compared_or, then_two};
 ghost use Rattle.cedar_values.specs.BareValues.{bare_value};
 ghost use Rattle.cedar_values.specs.WellFormed.{well_formed};
-ghost use Rattle.cedar_evaluator.specs.Outcomes.{faulted, literal_outcome, meaning_of};
+ghost use Rattle.cedar_evaluator.specs.Outcomes.{
+  faulted,
+  literal_outcome,
+  meaning_of,
+  place_in,
+  placed_result_of,
+};
 
 use crate::attributes::{entity_tag, has_entity_tag};
 use crate::membership::is_in;
@@ -57,9 +63,10 @@ pub fn apply_to_values<X: Ord + Drop, S: EntityStore<X>, T: CallableFunctions<X>
 ) -> Result<Outcome<X>, AllocError>
     requires left { IsTrue (well_formed X.cmp left.now) }
     requires right { IsTrue (well_formed X.cmp right.now) }
-    ensures { IfOk result (λ m. meaning_of m
+    ensures meaning { IfOk result (λ m. meaning_of m
         ≡ apply_by X.cmp X.eq (T.bare_functions functions.now)
         (S.bare_entities entities.now) op (bare_value left.now) (bare_value right.now)) }
+    ensures place { IfOk result (λ m. IfErr (placed_result_of m) (λ f. place_in f ≡ source_loc)) }
 {
     match op {
         BinaryOp::In => {
@@ -83,8 +90,9 @@ fn get_tag<X: Ord + Drop, S: EntityStore<X>>(
     right: &Value<X>,
     source_loc: Option<Loc>,
 ) -> Result<Outcome<X>, AllocError>
-    ensures { IfOk result (λ m. meaning_of m
+    ensures meaning { IfOk result (λ m. meaning_of m
         ≡ meant.tag (S.bare_entities entities.now) (bare_value left.now) (bare_value right.now)) }
+    ensures place { IfOk result (λ m. IfErr (placed_result_of m) (λ f. place_in f ≡ source_loc)) }
 {
     match (as_entity(left), as_text(right)) {
         (Some(uid), Some(key)) => entity_tag(alloc, entities, uid, key, source_loc),

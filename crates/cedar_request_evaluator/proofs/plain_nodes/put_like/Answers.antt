@@ -5,4 +5,4 @@ use Rattle.cedar_request_evaluator.proofs.plain_nodes.put_like.Goals as goal
 pub returns : goal.returns
 returns g c =
     put_one _ _ _ c.take_last-child.ensures.items c.in_ok-push_item.ensures
-    (ap Ok c.like-outcome.ensures)
+    (ap Ok c.like-outcome.ensures.meaning)
