@@ -28,3 +28,4 @@ pub mod CompleteTexts
 pub mod CompleteNames
 pub mod CompleteLeaves
 pub mod CompleteWhole
+pub mod Placed

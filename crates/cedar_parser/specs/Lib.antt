@@ -4,3 +4,4 @@ pub mod SoFar
 pub mod Ahead
 pub mod Meant
 pub mod Complete
+pub mod Places

@@ -2,6 +2,7 @@
 ghost use Rattle.std.specs.Prelude.{
   ◌≡◌,
   ◌≢◌,
+  ◌≤◌,
   ◌∷◌,
   [],
   IfErr,
@@ -30,6 +31,7 @@ ghost use Rattle.semantics_grammar.specs.Written.{
 ghost use Rattle.cedar_lexer.specs.declared.parse_failure.ParseFailure.TheVariants.{Memory};
 ghost use Rattle.cedar_parser.specs.Ahead.{RowTakes};
 ghost use Rattle.cedar_parser.specs.Meant.{HasNoValues};
+ghost use Rattle.cedar_parser.specs.Places.{ArePlaced, IsNodeAt, IsPlaced, source_of};
 ghost use Rattle.cedar_parser.specs.Refused.{IsAbout};
 ghost use Rattle.cedar_parser.specs.Waiting.{
   IsBinaryOf,
@@ -64,6 +66,9 @@ impl Nodes<'_> {
             bare_expr e ≡ function_tree (bare_name name) (bare_exprs args.items)) }
         ensures refused { IfErr result (IsAbout span) }
         ensures complete { IfErr result (λ e. e ≡ Memory) }
+        ensures places { HasNoValues self.now → span.start ≤ span.stop
+            → ArePlaced (source_of self.now) span.start span.stop args.items
+            → IfOk result (IsPlaced (source_of self.now) span.start span.stop) }
     {
         match unknown_name(&name, &args)? {
             Some(text) => Ok(self.unknown(text, span)?),
@@ -73,15 +78,17 @@ impl Nodes<'_> {
 
     // The call of a function or a method of an extension.
     fn extension_call(&self, name: Name, args: Vec<Expr>, span: Span) -> Result<Expr, AllocError>
-        ensures { IfOk result (λ e.
+        ensures tree { IfOk result (λ e.
             bare_expr e ≡ ExtensionFunctionApp (bare_name name) (bare_exprs args.items)) }
+        ensures place { IfOk result (IsNodeAt self.now span args.items) }
     {
         Ok(self.at(span)?.call_extension_fn(self.alloc, name, args)?)
     }
 
     fn unknown(&self, name: RcStr, span: Span) -> Result<Expr, AllocError>
-        ensures { HasNoValues self.now →
+        ensures tree { HasNoValues self.now →
             IfOk result (λ e. bare_expr e ≡ UnknownTree (rc_str_bytes name) None) }
+        ensures place { HasNoValues self.now → IfOk result (IsNodeAt self.now span []) }
     {
         match self.value(&name, span)? {
             Some(expr) => Ok(expr),
@@ -103,6 +110,9 @@ impl Nodes<'_> {
         ensures refused { IfErr result (IsAbout span) }
         ensures complete { IfErr result (λ e.
             RowTakes (method_arguments method.now) (length args.items) → e ≡ Memory) }
+        ensures places { span.start ≤ span.stop
+            → ArePlaced (source_of self.now) span.start span.stop args.items
+            → IfOk result (IsPlaced (source_of self.now) span.start span.stop) }
     {
         if is_emptiness(method) {
             return self.is_empty(args, span);
@@ -122,6 +132,7 @@ impl Nodes<'_> {
             IsUnaryOf Unary.IsEmpty (map bare_expr args.items) (bare_expr e)) }
         ensures refused { IfErr result (IsAbout span) }
         ensures complete { IfErr result (λ e. length args.items ≡ 1 → e ≡ Memory) }
+        ensures place { IfOk result (IsNodeAt self.now span args.items) }
     {
         match only(args) {
             Some(arg) => Ok(self.at(span)?.unary_app(self.alloc, UnaryOp::IsEmpty, arg)?),
@@ -134,6 +145,7 @@ impl Nodes<'_> {
         ensures tree { IfOk result (λ e. IsBinaryOf op (map bare_expr args.items) (bare_expr e)) }
         ensures refused { IfErr result (IsAbout span) }
         ensures complete { IfErr result (λ e. length args.items ≡ 2 → e ≡ Memory) }
+        ensures place { IfOk result (IsNodeAt self.now span args.items) }
     {
         match only_two(args) {
             Some((first, last)) => Ok(self.at(span)?.binary_app(self.alloc, op, first, last)?),

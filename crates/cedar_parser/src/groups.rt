@@ -9,11 +9,13 @@ ghost use Rattle.std.specs.Prelude.{
   IfErr,
   IfOk,
   IsTrue,
+  List,
   MatchResult,
   None,
   length,
   map,
   max,
+  ℕ,
 };
 ghost use Rattle.cedar_builders.specs.Keys.{are_distinct, meant_pairs};
 ghost use Rattle.cedar_exprs.specs.BareExpr.{bare_expr};
@@ -45,6 +47,13 @@ ghost use Rattle.cedar_parser.specs.declared.groups.GroupKind.TheVariants as gro
 ghost use Rattle.cedar_parser.specs.declared.operand.Operation.TheVariants as operations;
 ghost use Rattle.cedar_lexer.specs.TokenStreams.{tokens_left};
 ghost use Rattle.cedar_lexer.specs.declared.parse_failure.ParseFailure.TheVariants.{Memory};
+ghost use Rattle.cedar_parser.specs.Places.{
+  AreOpenUpTo,
+  ArePlaced,
+  IsGroupPlaced,
+  IsPlaced,
+  IsPlacedUpTo,
+};
 ghost use Rattle.cedar_parser.specs.Refused.{
   IsAbout,
   IsBefore,
@@ -52,6 +61,7 @@ ghost use Rattle.cedar_parser.specs.Refused.{
   IsStep,
   IsUpTo,
   group_start,
+  next_start,
   open_start,
 };
 
@@ -158,6 +168,9 @@ impl Parser<'_> {
             tokens.old result self.new tokens.new }
         ensures left { tokens_left tokens.new ≤ tokens_left tokens.old }
         ensures goes_on { IsStep tokens.old tokens.new self.new result }
+        ensures places { (source : List ℕ)
+            → IsGroupPlaced source token.entry.span.start self.old group expr
+            → IfOk result (IsPlacedUpTo source (next_start tokens.new) self.new) }
     {
         if !group.takes(token.kind) {
             return Err(ParseFailure::Syntax(token.span, group.wanted()));
@@ -204,6 +217,9 @@ impl Parser<'_> {
         ensures opened { MatchResult result
             (IsUpTo (max (open_start self.old) start) self.new)
             (λ e. e ≡ Memory) }
+        ensures places { (source : List ℕ) (to : ℕ) → AreOpenUpTo source start to self.old
+            → IsPlaced source start to test → IsPlaced source start to «then»
+            → IfOk result (IsPlacedUpTo source to self.new) }
     {
         self.operations.push(Operation::Else(start, test, then))?;
         Ok(None)
@@ -226,6 +242,10 @@ impl Parser<'_> {
             tokens.old result self.new tokens.new }
         ensures left { tokens_left tokens.new ≤ tokens_left tokens.old }
         ensures goes_on { IsStep tokens.old tokens.new self.new result }
+        ensures places { (source : List ℕ)
+            → AreOpenUpTo source start (next_start tokens.old) self.old
+            → ArePlaced source start (next_start tokens.old) items.items
+            → IfOk result (IsPlacedUpTo source (next_start tokens.new) self.new) }
     {
         match tokens.take_if(kind.closing()) {
             Some(Token { span, .. }) => {
@@ -246,6 +266,10 @@ impl Parser<'_> {
         ensures opened { MatchResult result
             (IsUpTo (max (open_start self.old) span.start) self.new)
             (IsAbout span) }
+        ensures places { (source : List ℕ) → span.start ≤ span.stop
+            → AreOpenUpTo source span.start span.stop self.old
+            → ArePlaced source span.start span.stop items.items
+            → IfOk result (IsPlacedUpTo source span.stop self.new) }
     {
         let expr = match kind {
             RowKind::Set => self.nodes.set(items, span)?,
@@ -271,6 +295,10 @@ impl Parser<'_> {
             tokens.old result self.new tokens.new }
         ensures left { tokens_left tokens.new ≤ tokens_left tokens.old }
         ensures goes_on { IsStep tokens.old tokens.new self.new result }
+        ensures places { (source : List ℕ)
+            → AreOpenUpTo source start (next_start tokens.old) self.old
+            → ArePlaced source start (next_start tokens.old) (map (λ p. p.1) pairs.items)
+            → IfOk result (IsPlacedUpTo source (next_start tokens.new) self.new) }
     {
         if let Some(Token { span, .. }) = tokens.take_if(TokenKind::CloseCurly) {
             let stop = span.stop;
@@ -290,6 +318,10 @@ impl Parser<'_> {
         ensures opened { MatchResult result
             (IsUpTo (max (open_start self.old) span.start) self.new)
             (IsAbout span) }
+        ensures places { (source : List ℕ) → span.start ≤ span.stop
+            → AreOpenUpTo source span.start span.stop self.old
+            → ArePlaced source span.start span.stop (map (λ p. p.1) pairs.items)
+            → IfOk result (IsPlacedUpTo source span.stop self.new) }
     {
         let expr = self.nodes.record(pairs, span)?;
         Ok(Some(Operand::member(expr, span)))

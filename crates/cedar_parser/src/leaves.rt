@@ -51,6 +51,7 @@ ghost use Rattle.cedar_parser.specs.Meant.{
   from,
   here,
 };
+ghost use Rattle.cedar_parser.specs.Places.{IsNodeAt};
 ghost use Rattle.cedar_parser.specs.Refused.{
   IsAbout,
   IsBefore,
@@ -96,6 +97,9 @@ impl Nodes<'_> {
             (n : BareName) (t : Text) (q : List ℕ) (rest : List Lexeme)
             → IsNameOf (string_bytes path.text) n → has_reserved n ≡ false
             → here tokens.old ≡ lexeme kinds.Quoted q ∷ rest → IsTextOf q t → e ≡ Memory) }
+        ensures place { IfOk result (λ x. IsNodeAt self.now x.1 [] x.0) }
+        ensures behind { IfOk result (λ x. (path.span.stop ≤ x.1.stop)
+            × (x.1.stop ≤ next_start tokens.new)) }
     {
         let id = tokens.expect(TokenKind::Quoted, "an identifier or a text is wanted here")?;
         let ty = EntityType::from(path.name(self.alloc)?);
@@ -112,6 +116,7 @@ impl Nodes<'_> {
         ensures refused { IfErr result (IsAbout path.now.span) }
         ensures complete { IfErr result (λ e.
             (v : Var) → string_bytes path.now.text ≡ var_text v → e ≡ Memory) }
+        ensures place { HasNoValues self.now → IfOk result (IsNodeAt self.now path.now.span []) }
     {
         let Some(var) = Var::from_text(&path.text) else {
             return Err(ParseFailure::Syntax(path.span, "this is no variable"));
@@ -129,6 +134,7 @@ impl Nodes<'_> {
         ensures refused { IfErr result (IsAbout token.entry.span) }
         ensures complete { IfErr result (λ e.
             (s : SlotId) → token.entry.text.now ≡ slot_text s → e ≡ Memory) }
+        ensures place { IfOk result (IsNodeAt self.now token.entry.span []) }
     {
         let slot = match token.text {
             "?principal" => SlotId::Principal,
@@ -245,6 +251,8 @@ pub(crate) fn key(
         (λ x. (rc_str_bytes x.0 ≡ k) × (here tokens.new ≡ rest)
         × (end_of tokens.new ≡ end_of tokens.old))
         (λ e. e ≡ Memory) }
+    ensures behind { IfOk result (λ x. (next_start tokens.old ≤ x.1)
+        × (x.1 ≤ next_start tokens.new)) }
 {
     match tokens.take_if(TokenKind::Quoted) {
         Some(token) => Ok((text_of(alloc, token)?, token.span.stop)),

@@ -1,5 +1,5 @@
 //! Expressions with their places in a text.
-ghost use Rattle.std.specs.Prelude.{◌≡◌, IfErr, IfOk, IsTrue, None};
+ghost use Rattle.std.specs.Prelude.{◌≡◌, ◌≤◌, ◌∷◌, [], IfErr, IfOk, IsTrue, None, Some, map};
 ghost use Rattle.std.specs.Rc.{rc_str_bytes};
 ghost use Rattle.cedar_builders.specs.BareExpr.{
   And,
@@ -13,12 +13,16 @@ ghost use Rattle.cedar_builders.specs.BareExpr.{
 };
 ghost use Rattle.cedar_builders.specs.declared.expression_construction_errors.ExpressionConstructionError.TheVariants as build_errors;
 ghost use Rattle.cedar_exprs.specs.BareExpr.{bare_expr, bare_expr_kind, bare_exprs, further};
+ghost use Rattle.cedar_exprs.specs.MadeNode.{builder_place};
+ghost use Rattle.cedar_exprs.specs.Walks.{kind_children};
 ghost use Rattle.cedar_builders.specs.Keys.{are_distinct, meant_pairs};
 ghost use Rattle.cedar_lexer.specs.declared.parse_failure.ParseFailure.TheVariants.{Memory};
 ghost use Rattle.cedar_terms.specs.Entities.{bare_entity_type};
 ghost use Rattle.cedar_terms.specs.declared.precedence.Precedence.TheVariants as precedences;
 ghost use Rattle.cedar_parser.specs.Ahead.{keys};
 ghost use Rattle.cedar_parser.specs.Meant.{HasNoValues, IsRecordTree, operator, waiting};
+ghost use Rattle.cedar_parser.specs.Places.{ArePlaced, IsNodeAt, IsPlaced, operands_of, place_of};
+ghost use Rattle.cedar_parser.specs.Places.{source_of};
 ghost use Rattle.cedar_parser.specs.Refused.{IsAbout, start_of};
 ghost use Rattle.cedar_parser.specs.Waiting.{operator_tree, waiting_precedence, waiting_tree};
 
@@ -44,18 +48,23 @@ pub(crate) struct Nodes<'a> {
 
 impl Nodes<'_> {
     // A place.
-    fn place(&self, span: Span) -> Result<Loc, AllocError> {
+    fn place(&self, span: Span) -> Result<Loc, AllocError>
+        ensures { IfOk result (λ place. place ≡ place_of self.now span) }
+    {
         Ok(Loc::new(span.start, span.stop, self.source.clone()?))
     }
 
     /// The builder of a node at a place.
-    pub(crate) fn at(&self, span: Span) -> Result<ExprBuilder<()>, AllocError> {
+    pub(crate) fn at(&self, span: Span) -> Result<ExprBuilder<()>, AllocError>
+        ensures { IfOk result (λ b. builder_place b ≡ Some (place_of self.now span)) }
+    {
         Ok(ExprBuilder::new().with_maybe_source_loc(Some(self.place(span)?)))
     }
 
     /// The node of this kind.
     pub(crate) fn node(&self, kind: ExprKind<()>, span: Span) -> Result<Expr, AllocError>
-        ensures { IfOk result (λ e. bare_expr e ≡ bare_expr_kind kind) }
+        ensures tree { IfOk result (λ e. bare_expr e ≡ bare_expr_kind kind) }
+        ensures place { IfOk result (IsNodeAt self.now span (kind_children kind)) }
     {
         Ok(self.at(span)?.with_expr_kind(kind))
     }
@@ -81,6 +90,12 @@ impl Nodes<'_> {
         ensures precedence { IfOk result (λ h.
             h.precedence ≡ waiting_precedence (waiting operation)) }
         ensures start { IfOk result (λ h. h.span.start ≡ start_of operation) }
+        ensures stop { IfOk result (λ h. h.span.stop ≡ last.span.stop) }
+        ensures places { start_of operation ≤ last.span.start
+            → ArePlaced (source_of self.now) (start_of operation) last.span.stop
+            (operands_of operation)
+            → IsPlaced (source_of self.now) last.span.start last.span.stop last.expr
+            → IfOk result (λ h. IsPlaced (source_of self.now) h.span.start h.span.stop h.expr) }
     {
         let precedence = operation.precedence();
         let span = Span {
@@ -96,8 +111,11 @@ impl Nodes<'_> {
     }
 
     fn applied(&self, operation: Operation, last: Expr, span: Span) -> Result<Expr, AllocError>
-        ensures { IfOk result (λ e.
+        ensures tree { IfOk result (λ e.
             bare_expr e ≡ waiting_tree (waiting operation) (bare_expr last)) }
+        ensures places { ArePlaced (source_of self.now) span.start span.stop (operands_of operation)
+            → IsPlaced (source_of self.now) span.start span.stop last
+            → IfOk result (IsPlaced (source_of self.now) span.start span.stop) }
     {
         match operation {
             Operation::Prefix(op, _, _) => self.at(span)?.unary_app(self.alloc, op, last),
@@ -111,8 +129,11 @@ impl Nodes<'_> {
     }
 
     fn infix(&self, sign: Infix, first: Expr, last: Expr, span: Span) -> Result<Expr, AllocError>
-        ensures { IfOk result (λ e.
+        ensures tree { IfOk result (λ e.
             bare_expr e ≡ operator_tree (operator sign) (bare_expr first) (bare_expr last)) }
+        ensures places { IsPlaced (source_of self.now) span.start span.stop first
+            → IsPlaced (source_of self.now) span.start span.stop last
+            → IfOk result (IsPlaced (source_of self.now) span.start span.stop) }
     {
         match sign {
             Infix::Or => self.or(first, last, span),
@@ -127,7 +148,8 @@ impl Nodes<'_> {
 
     // The conjunction as it stands, also of two literals, of which the builder would make one.
     fn and(&self, first: Expr, last: Expr, span: Span) -> Result<Expr, AllocError>
-        ensures { IfOk result (λ e. bare_expr e ≡ And (bare_expr first) (bare_expr last)) }
+        ensures tree { IfOk result (λ e. bare_expr e ≡ And (bare_expr first) (bare_expr last)) }
+        ensures place { IfOk result (IsNodeAt self.now span (first ∷ last ∷ [])) }
     {
         let left = Rc::new(self.alloc, first)?;
         let right = Rc::new(self.alloc, last)?;
@@ -136,7 +158,8 @@ impl Nodes<'_> {
 
     // The disjunction as it stands.
     fn or(&self, first: Expr, last: Expr, span: Span) -> Result<Expr, AllocError>
-        ensures { IfOk result (λ e. bare_expr e ≡ Or (bare_expr first) (bare_expr last)) }
+        ensures tree { IfOk result (λ e. bare_expr e ≡ Or (bare_expr first) (bare_expr last)) }
+        ensures place { IfOk result (IsNodeAt self.now span (first ∷ last ∷ [])) }
     {
         let left = Rc::new(self.alloc, first)?;
         let right = Rc::new(self.alloc, last)?;
@@ -144,7 +167,9 @@ impl Nodes<'_> {
     }
 
     fn binary(&self, op: BinaryOp, first: Expr, last: Expr, span: Span) -> Result<Expr, AllocError>
-        ensures { IfOk result (λ e. bare_expr e ≡ BinaryApp op (bare_expr first) (bare_expr last)) }
+        ensures tree { IfOk result (λ e.
+            bare_expr e ≡ BinaryApp op (bare_expr first) (bare_expr last)) }
+        ensures place { IfOk result (IsNodeAt self.now span (first ∷ last ∷ [])) }
     {
         self.at(span)?.binary_app(self.alloc, op, first, last)
     }
@@ -160,6 +185,8 @@ impl Nodes<'_> {
             bare_expr h.expr ≡ GetAttr (bare_expr operand.expr) (rc_str_bytes attr)) }
         ensures precedence { IfOk result (λ h. h.precedence ≡ precedences.Member) }
         ensures start { IfOk result (λ h. h.span.start ≡ operand.span.start) }
+        ensures stop { IfOk result (λ h. h.span.stop ≡ stop) }
+        ensures place { IfOk result (λ h. IsNodeAt self.now h.span (operand.expr ∷ []) h.expr) }
     {
         let span = operand.span.up_to(stop);
         let expr = self.at(span)?.get_attr(self.alloc, operand.expr, attr)?;
@@ -177,6 +204,8 @@ impl Nodes<'_> {
             ≡ HasAttr (bare_expr operand.expr) (rc_str_bytes attrs.head) (further attrs)) }
         ensures precedence { IfOk result (λ h. h.precedence ≡ precedences.Relation) }
         ensures start { IfOk result (λ h. h.span.start ≡ operand.span.start) }
+        ensures stop { IfOk result (λ h. h.span.stop ≡ stop) }
+        ensures place { IfOk result (λ h. IsNodeAt self.now h.span (operand.expr ∷ []) h.expr) }
     {
         let span = operand.span.up_to(stop);
         let expr = self
@@ -195,6 +224,8 @@ impl Nodes<'_> {
         ensures tree { IfOk result (λ h. bare_expr h.expr ≡ Like (bare_expr operand.expr) pattern) }
         ensures precedence { IfOk result (λ h. h.precedence ≡ precedences.Relation) }
         ensures start { IfOk result (λ h. h.span.start ≡ operand.span.start) }
+        ensures stop { IfOk result (λ h. h.span.stop ≡ stop) }
+        ensures place { IfOk result (λ h. IsNodeAt self.now h.span (operand.expr ∷ []) h.expr) }
     {
         let span = operand.span.up_to(stop);
         let expr = self.at(span)?.like(self.alloc, operand.expr, pattern)?;
@@ -212,6 +243,8 @@ impl Nodes<'_> {
             bare_expr h.expr ≡ Is (bare_expr operand.expr) (bare_entity_type ty)) }
         ensures precedence { IfOk result (λ h. h.precedence ≡ precedences.Relation) }
         ensures start { IfOk result (λ h. h.span.start ≡ operand.span.start) }
+        ensures stop { IfOk result (λ h. h.span.stop ≡ stop) }
+        ensures place { IfOk result (λ h. IsNodeAt self.now h.span (operand.expr ∷ []) h.expr) }
     {
         let span = operand.span.up_to(stop);
         let expr = self.at(span)?.is_entity_type(self.alloc, operand.expr, ty)?;
@@ -221,6 +254,7 @@ impl Nodes<'_> {
     /// A set.
     pub(crate) fn set(&self, members: Vec<Expr>, span: Span) -> Result<Expr, ParseFailure>
         ensures tree { IfOk result (λ e. bare_expr e ≡ Set (bare_exprs members.items)) }
+        ensures place { IfOk result (IsNodeAt self.now span members.items) }
         ensures refused { IfErr result (IsAbout span) }
         ensures complete { IfErr result (λ e. e ≡ Memory) }
     {
@@ -231,6 +265,9 @@ impl Nodes<'_> {
     pub(crate) fn record(&self, pairs: Vec<(RcStr, Expr)>, span: Span) -> Result<Expr, ParseFailure>
         ensures tree { IfOk result (λ e.
             IsRecordTree (meant_pairs bare_expr pairs.items) (bare_expr e)) }
+        ensures places { span.start ≤ span.stop
+            → ArePlaced (source_of self.now) span.start span.stop (map (λ p. p.1) pairs.items)
+            → IfOk result (IsPlaced (source_of self.now) span.start span.stop) }
         ensures refused { IfErr result (IsAbout span) }
         ensures complete { IfErr result (λ e.
             IsTrue (are_distinct (keys (meant_pairs bare_expr pairs.items))) → e ≡ Memory) }

@@ -73,6 +73,15 @@ ghost use Rattle.cedar_parser.specs.Waiting.{
 };
 ghost use Rattle.cedar_lexer.specs.declared.error.ParseError.TheVariants.{Memory as NoMemory};
 ghost use Rattle.cedar_lexer.specs.declared.parse_failure.ParseFailure.TheVariants.{Memory};
+ghost use Rattle.std.specs.Rc.{rc_str_bytes};
+ghost use Rattle.cedar_parser.specs.Places.{
+  AreOpenUpTo,
+  ArePlaced,
+  IsPlaced,
+  IsPlacedUpTo,
+  PlacesOn,
+  items_of,
+};
 ghost use Rattle.cedar_parser.specs.Refused.{
   IsAbout,
   IsBefore,
@@ -82,6 +91,7 @@ ghost use Rattle.cedar_parser.specs.Refused.{
   IsUpTo,
   IsWithin,
   operand_start,
+  next_start,
   open_start,
   start_of,
   stop_of,
@@ -121,6 +131,7 @@ pub fn parse_expr(alloc: Global, text: &str) -> Result<Expr, ParseError>
     ensures told { IfErr result (IsToldIn text.now) }
     ensures complete { IfErr result (λ e.
         (tree : BareExpr) → IsParse text.now tree → e ≡ NoMemory) }
+    ensures places { IfOk result (IsPlaced text.now 0 (length text.now)) }
 {
     parse_with_values(alloc, text, &HashMap::new(alloc))
 }
@@ -137,6 +148,8 @@ pub fn parse_with_values(
     ensures told { IfErr result (IsToldIn text.now) }
     ensures complete { IfErr result (λ e.
         (tree : BareExpr) → IsParse text.now tree → e ≡ NoMemory) }
+    ensures places { HasNone values.now →
+        IfOk result (IsPlaced text.now 0 (length text.now)) }
 {
     match parse(alloc, text, values) {
         Ok(expr) => Ok(expr),
@@ -149,6 +162,8 @@ fn parse(alloc: Global, text: &str, values: &HashMap<RcStr, Expr>) -> Result<Exp
     ensures refused { IfErr result (IsWithin (length text.now)) }
     ensures complete { IfErr result (λ e.
         (tree : BareExpr) → IsParse text.now tree → e ≡ Memory) }
+    ensures places { HasNone values.now →
+        IfOk result (IsPlaced text.now 0 (length text.now)) }
 {
     tokens_are_unique();
     let found = tokenize(alloc, text)?;
@@ -173,6 +188,8 @@ pub fn parse_tokens(
     ensures refused { IfErr result (IsWithin (stop_of tokens.entry)) }
     ensures complete { HasEnd tokens.entry → AreLexemes (here tokens.entry) →
         IfErr result (λ e. (tree : BareExpr) → Stands (here tokens.entry) tree → e ≡ Memory) }
+    ensures places { HasNone values.now →
+        IfOk result (IsPlaced (rc_str_bytes source) 0 (stop_of tokens.entry)) }
 {
     let mut left = tokens;
     let mut parser = Parser {
@@ -218,6 +235,8 @@ impl Parser<'_> {
             tokens.old result self.new tokens.new }
         ensures left { tokens_left tokens.new ≤ tokens_left tokens.old }
         ensures goes_on { IsStep tokens.old tokens.new self.new result }
+        ensures places { PlacesOn token.entry.span.start self.old operand
+            (next_start tokens.new) self.new result }
     {
         match operand {
             Some(operand) => self.follow(operand, token, tokens),
@@ -236,6 +255,8 @@ impl Parser<'_> {
             tokens.old result self.new tokens.new }
         ensures left { tokens_left tokens.new ≤ tokens_left tokens.old }
         ensures goes_on { IsStep tokens.old tokens.new self.new result }
+        ensures places { PlacesOn token.entry.span.start self.old None
+            (next_start tokens.new) self.new result }
     {
         let Token { kind, span, .. } = token;
         let alloc = self.nodes.alloc;
@@ -267,6 +288,8 @@ impl Parser<'_> {
         ensures opened { MatchResult result
             (IsUpTo (max (open_start self.old) token.entry.span.start) self.new)
             (λ e. e ≡ Memory) }
+        ensures places { token.entry.span.start ≤ token.entry.span.stop → PlacesOn
+            token.entry.span.start self.old None token.entry.span.stop self.new result }
     {
         let expr = self.nodes.node(ExprKind::Lit(literal), token.span)?;
         Ok(Some(Operand::member(expr, token.span)))
@@ -287,6 +310,8 @@ impl Parser<'_> {
         ensures opened { MatchResult result
             (IsUpTo (max (open_start self.old) digits.entry.span.start) self.new)
             (IsAbout digits.entry.span) }
+        ensures places { digits.entry.span.start ≤ digits.entry.span.stop → PlacesOn
+            digits.entry.span.start self.old None digits.entry.span.stop self.new result }
     {
         match next {
             TokenKind::Dot => self.positive(digits),
@@ -311,6 +336,8 @@ impl Parser<'_> {
         ensures opened { MatchResult result
             (IsUpTo (max (open_start self.old) digits.entry.span.start) self.new)
             (IsAbout digits.entry.span) }
+        ensures places { digits.entry.span.start ≤ digits.entry.span.stop → PlacesOn
+            digits.entry.span.start self.old None digits.entry.span.stop self.new result }
     {
         let expr = self
             .nodes
@@ -330,6 +357,10 @@ impl Parser<'_> {
         ensures opened { MatchResult result
             (IsUpTo (max (open_start self.old) start) self.new)
             (IsAbout digits.entry.span) }
+        ensures places { (source : List ℕ) → start ≤ digits.entry.span.start
+            → digits.entry.span.start ≤ digits.entry.span.stop
+            → AreOpenUpTo source start digits.entry.span.start self.old
+            → IfOk result (IsPlacedUpTo source digits.entry.span.stop self.new) }
     {
         let span = Span {
             start,
@@ -354,6 +385,8 @@ impl Parser<'_> {
             (λ _. IsMinusPopped self.old self.new) }
         ensures opened { open_start self.new ≤ open_start self.old }
         ensures start { IfSome result (λ start. start ≤ open_start self.old) }
+        ensures places { (source : List ℕ) (to : ℕ) → AreOpenUpTo source to to self.old
+            → IfSome result (λ start. (start ≤ to) × AreOpenUpTo source start to self.new) }
     {
         match self.operations.last() {
             Some(operation) => match operation.minus() {
@@ -379,6 +412,8 @@ impl Parser<'_> {
             tokens.old result self.new tokens.new }
         ensures left { tokens_left tokens.new ≤ tokens_left tokens.old }
         ensures goes_on { IsStep tokens.old tokens.new self.new result }
+        ensures places { PlacesOn first.entry.span.start self.old None
+            (next_start tokens.new) self.new result }
     {
         let alloc = self.nodes.alloc;
         let path = Path::parse(alloc, first, tokens)?;
@@ -406,6 +441,8 @@ impl Parser<'_> {
         ensures opened { MatchResult result
             (IsUpTo (max (open_start self.old) token.entry.span.start) self.new)
             (IsAbout token.entry.span) }
+        ensures places { token.entry.span.start ≤ token.entry.span.stop → PlacesOn
+            token.entry.span.start self.old None token.entry.span.stop self.new result }
     {
         let before = self.signs(op, token.span)?;
         if before > 3 {
@@ -443,6 +480,8 @@ impl Parser<'_> {
         ensures opened { MatchResult result
             (IsUpTo (max (open_start self.old) token.entry.span.start) self.new)
             (IsAbout token.entry.span) }
+        ensures places { token.entry.span.start ≤ token.entry.span.stop → PlacesOn
+            token.entry.span.start self.old None token.entry.span.stop self.new result }
     {
         if self.takes_conditional() {
             self.open(GroupKind::If, token.span.start)
@@ -473,6 +512,8 @@ impl Parser<'_> {
             tokens.old result self.new tokens.new }
         ensures left { tokens_left tokens.new ≤ tokens_left tokens.old }
         ensures goes_on { IsStep tokens.old tokens.new self.new result }
+        ensures places { PlacesOn token.entry.span.start self.old (Some operand)
+            (next_start tokens.new) self.new result }
     {
         match token.kind {
             TokenKind::Dot => self.dot(member(operand, token)?, tokens),
@@ -497,6 +538,8 @@ impl Parser<'_> {
             tokens.old result self.new tokens.new }
         ensures left { tokens_left tokens.new ≤ tokens_left tokens.old }
         ensures goes_on { IsStep tokens.old tokens.new self.new result }
+        ensures places { PlacesOn token.entry.span.start self.old (Some operand)
+            (next_start tokens.new) self.new result }
     {
         let left = self.left(operand, Precedence::Relation, Precedence::Sum, token)?;
         match token.kind {
@@ -520,6 +563,8 @@ impl Parser<'_> {
         ensures opened { MatchResult result
             (IsUpTo (max (open_start self.old) operand.span.start) self.new)
             (IsAbout token.entry.span) }
+        ensures places { PlacesOn token.entry.span.start self.old (Some operand)
+            token.entry.span.start self.new result }
     {
         let (own, least) = infix.precedences();
         let left = self.left(operand, own, least, token)?;
@@ -548,6 +593,9 @@ impl Parser<'_> {
         ensures opened { MatchResult result
             (λ h. IsUpTo (max (open_start self.old) operand.span.start) self.new (Some h))
             (IsAbout token.entry.span) }
+        ensures places { (source : List ℕ) (to : ℕ)
+            → IsPlacedUpTo source to self.old (Some operand)
+            → IfOk result (λ h. IsPlacedUpTo source to self.new (Some h)) }
     {
         let operand = self.apply_down_to(own, operand)?;
         if operand.precedence.number() < least.number() {
@@ -564,6 +612,9 @@ impl Parser<'_> {
         ensures complete { (ts : List Lexeme) → own_at ts ≤ precedence_number least
             → IsBehind self.old last.precedence ts
             → IfOk result (λ h. IsBehind self.new h.precedence ts) }
+        ensures places { (source : List ℕ) (to : ℕ)
+            → IsPlacedUpTo source to self.old (Some last)
+            → IfOk result (λ h. IsPlacedUpTo source to self.new (Some h)) }
         ensures opened { MatchResult result
             (λ h. IsUpTo (max (open_start self.old) last.span.start) self.new (Some h))
             (λ e. e ≡ Memory) }
@@ -606,6 +657,8 @@ impl Parser<'_> {
             tokens.old result self.new tokens.new }
         ensures left { tokens_left tokens.new ≤ tokens_left tokens.old }
         ensures goes_on { IsStep tokens.old tokens.new self.new result }
+        ensures places { PlacesOn token.entry.span.start self.old (Some last)
+            (next_start tokens.new) self.new result }
     {
         let operand = self.apply_down_to(Precedence::Conditional, last)?;
         match self.groups.pop() {
@@ -620,6 +673,8 @@ impl Parser<'_> {
             IsParsed ts self.old operand [] → Stands ts (bare_expr e)) }
         ensures refused { IfErr result (IsAbout end.entry.span) }
         ensures complete { IfErr result (λ e. IsAhead self.old operand [] → e ≡ Memory) }
+        ensures places { IfOk result (λ e. (source : List ℕ) (to : ℕ)
+            → IsPlacedUpTo source to self.old operand → IsPlaced source 0 to e) }
     {
         let Some(last) = operand else {
             return Err(ParseFailure::Syntax(end.span, "an expression is wanted here"));
@@ -641,6 +696,9 @@ impl Parser<'_> {
         ensures opened { MatchResult result
             (IsUpTo (max (open_start self.old) start) self.new)
             (λ e. e ≡ Memory) }
+        ensures places { (source : List ℕ) (to : ℕ) → start ≤ to
+            → AreOpenUpTo source start to self.old → ArePlaced source start to (items_of kind)
+            → IfOk result (IsPlacedUpTo source to self.new) }
     {
         let operations = mem::replace(&mut self.operations, Vec::new(self.nodes.alloc));
         self.groups.push(Group {

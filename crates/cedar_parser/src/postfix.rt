@@ -7,7 +7,8 @@ ghost use Rattle.semantics_grammar.specs.Lexemes.{lexeme};
 ghost use Rattle.cedar_parser.specs.Complete.{IsBehind, KeepsOn};
 ghost use Rattle.cedar_parser.specs.Meant.{IsParsed, ParsesOn, WaitsBelow, here};
 ghost use Rattle.cedar_lexer.specs.TokenStreams.{tokens_left};
-ghost use Rattle.cedar_parser.specs.Refused.{IsBefore, IsStep, open_start};
+ghost use Rattle.cedar_parser.specs.Places.{PlacesOn};
+ghost use Rattle.cedar_parser.specs.Refused.{IsBefore, IsStep, next_start, open_start};
 
 use crate::groups::RowKind;
 use crate::leaves::{Path, inside, key, text_of};
@@ -31,6 +32,8 @@ impl Parser<'_> {
             tokens.old result self.new tokens.new }
         ensures left { tokens_left tokens.new ≤ tokens_left tokens.old }
         ensures goes_on { IsStep tokens.old tokens.new self.new result }
+        ensures places { PlacesOn (next_start tokens.old) self.old (Some operand)
+            (next_start tokens.new) self.new result }
     {
         let alloc = self.nodes.alloc;
         let name = tokens.expect(TokenKind::Word, "an identifier is wanted here")?;
@@ -55,6 +58,8 @@ impl Parser<'_> {
             tokens.old result self.new tokens.new }
         ensures left { tokens_left tokens.new ≤ tokens_left tokens.old }
         ensures goes_on { IsStep tokens.old tokens.new self.new result }
+        ensures places { PlacesOn (next_start tokens.old) self.old (Some operand)
+            (next_start tokens.new) self.new result }
     {
         let token = tokens.expect(TokenKind::Quoted, "an attribute in quotes is wanted here")?;
         let attr = text_of(self.nodes.alloc, token)?;
@@ -75,6 +80,8 @@ impl Parser<'_> {
             tokens.old result self.new tokens.new }
         ensures left { tokens_left tokens.new ≤ tokens_left tokens.old }
         ensures goes_on { IsStep tokens.old tokens.new self.new result }
+        ensures places { PlacesOn (next_start tokens.old) self.old (Some left)
+            (next_start tokens.new) self.new result }
     {
         let alloc = self.nodes.alloc;
         let (head, mut stop) = key(alloc, tokens)?;
@@ -100,6 +107,8 @@ impl Parser<'_> {
             tokens.old result self.new tokens.new }
         ensures left { tokens_left tokens.new ≤ tokens_left tokens.old }
         ensures goes_on { IsStep tokens.old tokens.new self.new result }
+        ensures places { PlacesOn (next_start tokens.old) self.old (Some left)
+            (next_start tokens.new) self.new result }
     {
         let token = tokens.expect(TokenKind::Quoted, "a pattern in quotes is wanted here")?;
         match read_pattern(self.nodes.alloc, inside(token))? {
@@ -124,6 +133,8 @@ impl Parser<'_> {
             tokens.old result self.new tokens.new }
         ensures left { tokens_left tokens.new ≤ tokens_left tokens.old }
         ensures goes_on { IsStep tokens.old tokens.new self.new result }
+        ensures places { PlacesOn (next_start tokens.old) self.old (Some left)
+            (next_start tokens.new) self.new result }
     {
         let alloc = self.nodes.alloc;
         let first = tokens.expect(TokenKind::Word, "the type of an entity is wanted here")?;

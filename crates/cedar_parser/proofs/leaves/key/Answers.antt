@@ -1,3 +1,5 @@
+use Rattle.std.proofs.Common.{arith}
+use Rattle.cedar_parser.proofs.InOrder.{taken}
 use Rattle.std.proofs.Common.{◌≡◌, Err}
 use Rattle.std.proofs.Common.{rules}
 use Rattle.cedar_parser.proofs.CompleteLeaves.{key_quoted, key_refused, key_word, word_wanted}
@@ -51,3 +53,18 @@ pub returns-in_err-token-in-None-clause-complete : goal.returns-in_err-token-in-
 returns-in_err-token-in-None-clause-complete c l k rest e h =
     let word = word_wanted c.args.tokens.now c.take_if.new.self l k rest e h (λ b. search rules) c.in-None.ensures.gives in
     absurd (search rules)
+
+pub returns-in_ok-text_of-in-Some-clause-behind : goal.returns-in_ok-text_of-in-Some-clause-behind
+returns-in_ok-text_of-in-Some-clause-behind c =
+    let old = c.args.tokens.now in
+    let k = taken (next_start old) old c.take_if.new.self c.in-Some.token (here 0 old c.requires) c.in-Some.ensures.gives.1 in
+    (omega (arith, k.0.first, k.0.piece), k.0.before.next)
+
+pub returns-in_ok-from_str-in-None-clause-behind : goal.returns-in_ok-from_str-in-None-clause-behind
+returns-in_ok-from_str-in-None-clause-behind c =
+    let old = c.args.tokens.now in
+    let at = next_start old in
+    let mid = c.take_if.new.self in
+    let u = untouched at old mid (here 0 old c.requires) c.in-None.ensures.gives in
+    let k = taken at mid c.expect.new.self c.in_ok-token-in-None.token u.before c.in_ok-token-in-None.ensures.gives.1 in
+    (omega (arith, k.0.first, k.0.piece), k.0.before.next)

@@ -1,7 +1,12 @@
+use Rattle.cedar_parser.proofs.Placed.{wider}
+use Rattle.cedar_parser.proofs.Tokenized.{all_fit}
+use Rattle.cedar_parser.specs.Places.{IsPlaced}
+use Rattle.std.proofs.Common.{arith}
+use Rattle.std.proofs.Common.{length}
 use Rattle.std.proofs.Common.{◌≡◌, ◌∙◌, Err, subst, sym, rules}
 use Rattle.cedar_exprs.specs.BareExpr.{bare_expr}
 use Rattle.cedar_lexer.specs.TokenStreams.{IsEndBehind, end_of}
-use Rattle.cedar_parser.specs.Refused.{IsWithin}
+use Rattle.cedar_parser.specs.Refused.{IsWithin, stop_of}
 use Rattle.cedar_parser.proofs.Tokenized.{all_before, stopped_within, stuck_within}
 use Rattle.cedar_parser.proofs.CompleteWhole.{text_stands}
 use Rattle.cedar_parser.proofs.Whole.{lexemes_of_text, text_parsed}
@@ -61,3 +66,14 @@ returns-clause-complete c tree p =
     c.told_of_signs.ensures.memory
     (c.in-Err.ensures.complete c.new.ensures.end.0 (lexemes_of_text text found tokens c.in_ok-found.ensures all) tree
     (text_stands text found tokens tree c.tokens_are_unique.ensures.same c.in_ok-found.ensures all p))
+
+pub returns-in-Ok-clause-places : goal.returns-in-Ok-clause-places
+returns-in-Ok-clause-places c none =
+    let text = c.args.text.now in
+    let found = c.in_ok-found.found.items in
+    let tokens = c.new.result in
+    let behind = subst (λ ts. IsEndBehind ts (end_of tokens)) c.deref.ensures.value c.new.ensures.end in
+    let stop = stop_of tokens in
+    let p : IsPlaced text 0 stop c.in-Ok.expr =
+    subst (λ s. IsPlaced s 0 stop c.in-Ok.expr) c.in_ok-source.ensures.ok (c.in-Ok.ensures.places none) in
+    wider {a = 0} {b = stop} 0 (length text) (omega arith) (all_fit text found tokens c.in_ok-found.ensures behind) p

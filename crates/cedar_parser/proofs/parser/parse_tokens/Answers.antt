@@ -1,7 +1,8 @@
 use Rattle.std.proofs.Common.{Err, rules}
 use Rattle.std.proofs.Common.{◌≡◌, ◌∙◌, refl, ap, subst, max, arith}
 use Rattle.cedar_parser.specs.Meant.{IsParsed, here}
-use Rattle.cedar_parser.specs.Refused.{greatest, group_start, open_start, operand_start, start_of}
+use Rattle.cedar_parser.proofs.Placed.{begun_placed, ended_placed, next_begins, placed_later}
+use Rattle.cedar_parser.specs.Refused.{greatest, group_start, next_start, open_start, operand_start, start_of, stop_of}
 use Rattle.cedar_parser.proofs.InOrder.{earlier, taken}
 use Rattle.cedar_parser.proofs.TakenSteps.{end_kept, taken_here}
 use Rattle.cedar_parser.specs.Complete.{IsAhead}
@@ -22,6 +23,7 @@ tokens-init c =
       fits = refl;
       parses = λ none end lex. (begun c.args.tokens _ lex c.new.ensures.items c.new-2.ensures.items none, end);
       complete = λ end lex tree stands. (begun_ahead c.args.tokens _ tree lex c.new.ensures.items c.new-2.ensures.items stands, end);
+      places = λ none. begun_placed (next_start c.args.tokens) _ c.new.ensures.items c.new-2.ensures.items none;
     }
 
 pub tokens-preserved : goal.tokens-preserved
@@ -43,6 +45,10 @@ tokens-preserved c =
           (let a = c.tokens.invariant.complete end lex tree stands in
           c.in_ok-operand.ensures.complete (end_kept c.tokens.left mid c.in-Some.ensures.gives.1 a.1)
           (subst (IsAhead c.tokens.parser c.tokens.operand) (taken_here c.tokens.left mid t c.in-Some.ensures.gives) a.0));
+      places = λ none.
+          c.in_ok-operand.ensures.places _
+          (placed_later _ (next_start c.tokens.left) t.span.start c.tokens.parser c.tokens.operand
+          (next_begins at c.tokens.left mid t c.tokens.invariant.before c.in-Some.ensures.gives) (c.tokens.invariant.places none));
     }
 
 pub returns-clause-parses : goal.returns-clause-parses
@@ -65,3 +71,9 @@ returns-clause-complete c end lex =
     if_refused c.end.result _ _ c.end.ensures.complete
     (λ e made tree stands. made
     (ahead_at_end c.tokens.left (IsAhead _ c.tokens.operand) c.in_default.ensures.gives.1 (c.tokens.invariant.complete end lex tree stands).0))
+
+pub returns-clause-places : goal.returns-clause-places
+returns-clause-places c none =
+    let b = c.tokens.invariant.before in
+    ended_placed _ (next_start c.tokens.left) (stop_of c.args.tokens) _ c.tokens.operand c.end.result
+    (omega (arith, b.piece, b.fits, c.tokens.invariant.fits)) (c.tokens.invariant.places none) c.end.ensures.places

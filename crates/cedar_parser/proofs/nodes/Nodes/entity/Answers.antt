@@ -1,3 +1,5 @@
+use Rattle.std.proofs.Common.{arith}
+use Rattle.cedar_parser.proofs.InOrder.{taken}
 use Rattle.std.proofs.Common.{Err}
 use Rattle.std.proofs.Common.{refl}
 use Rattle.cedar_parser.proofs.CompleteRows.{follows, rest_taken, text_taken}
@@ -34,7 +36,7 @@ returns-clause-parses c ts w colons ids lex =
     let name = subst (IsNameOf path) (named ∙ ap bare_entity_type (sym c.new-uid.ensures.ty)) c.in_ok-name.ensures.name in
     let text = subst (IsTextOf id.text.now) (sym c.new-uid.ensures.eid) (c.in_ok-text_of.ensures.text l.0) in (
       entity_path w colons ts (here old) (here new) path id.text.now (bare_entity_type (entity_type_of uid)) (bare_entity_uid uid).eid
-          (bare_expr c.in_ok-node.field-0) ids same name text (c.in_ok-node.ensures ∙ ap Lit c.in_ok-literal.ensures.bare),
+          (bare_expr c.in_ok-node.field-0) ids same name text (c.in_ok-node.ensures.tree ∙ ap Lit c.in_ok-literal.ensures.bare),
       l.1,
       c.in_ok-id.ensures.gives.1.1,
     )
@@ -63,3 +65,9 @@ returns-in_err-text_of-clause-complete c =
 pub returns-clause-takes : goal.returns-clause-takes
 returns-clause-takes c q rest e =
     (rest_taken kinds.Quoted q rest c.in_ok-id.id c.args.tokens.now c.expect.new.self e c.in_ok-id.ensures.gives.1, c.in_ok-id.ensures.gives.1.1)
+
+pub returns-clause-behind : goal.returns-clause-behind
+returns-clause-behind c =
+    let k = taken c.args.path.span.stop c.args.tokens.now c.expect.new.self c.in_ok-id.id c.requires.before c.in_ok-id.ensures.gives.1 in
+    let e = c.up_to-span.ensures.stop in
+    (omega (arith, k.0.first, k.0.piece, e), omega (arith, e, k.0.before.next))

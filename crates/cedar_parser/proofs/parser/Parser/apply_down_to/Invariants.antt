@@ -1,9 +1,10 @@
-use Rattle.std.proofs.Common.{◌≤◌, List, Some, length, max}
+use Rattle.std.proofs.Common.{◌≤◌, List, Some, length, max, ℕ}
 use Rattle.semantics_grammar.specs.Lexemes.{Lexeme}
 use Rattle.cedar_terms.specs.Precedences.{precedence_number}
 use Rattle.cedar_parser.specs.Ahead.{own_at}
 use Rattle.cedar_parser.specs.Complete.{IsBehind}
 use Rattle.cedar_parser.specs.Meant.{IsParsed}
+use Rattle.cedar_parser.specs.Places.{IsPlacedUpTo}
 use Rattle.cedar_parser.specs.Refused.{open_start}
 use Rattle.cedar_parser.proofs.parser.Parser.apply_down_to.Given as goal
 
@@ -15,6 +16,7 @@ invariant-operations l = record {
   parses : (ts rest : List Lexeme) → IsParsed ts l.initial.self (Some l.initial.operand) rest → IsParsed ts l.self (Some l.operand) rest;
   complete : (ts : List Lexeme) → own_at ts ≤ precedence_number l.least → IsBehind l.initial.self l.initial.operand.precedence ts
       → IsBehind l.self l.operand.precedence ts;
+  places : (source : List ℕ) (to : ℕ) → IsPlacedUpTo source to l.initial.self (Some l.initial.operand) → IsPlacedUpTo source to l.self (Some l.operand);
 }
 
 abbrev pub decreases-operations : goal.decreases-operations

@@ -1,3 +1,6 @@
+use Rattle.cedar_parser.proofs.Placed.{longer_placed, next_begins}
+use Rattle.cedar_parser.specs.Refused.{next_start}
+use Rattle.cedar_parser.proofs.InOrder.{taken}
 use Rattle.std.proofs.Common.{ap, refl, subst, sym}
 use Rattle.cedar_lexer.specs.declared.token.TokenKind.TheVariants as kinds
 use Rattle.cedar_terms.specs.declared.precedence.Precedence.TheVariants as precedences
@@ -85,3 +88,16 @@ returns-clause-complete c w end b =
           }) c.in_ok-get.ensures.precedence,
       end_kept t0 t2 (c.in_ok-last.ensures.gives.1.1 ∙ c.in_ok-token.ensures.gives.1.1) end,
     )
+
+pub returns-clause-places : goal.returns-clause-places
+returns-clause-places c source h =
+    let at = max (open_start c.args.self.now) c.args.operand.span.start in
+    let old = c.args.tokens.now in
+    let mid = c.expect.new.self in
+    let new = c.expect-2.new.self in
+    let n = c.in_ok-token.token in
+    let b = next_begins at old mid n c.requires c.in_ok-token.ensures.gives.1 in
+    let k = taken at old mid n c.requires c.in_ok-token.ensures.gives.1 in
+    let m = taken n.span.stop mid new c.in_ok-last.last k.0.before c.in_ok-last.ensures.gives.1 in
+    longer_placed source (next_start old) c.in_ok-last.last.span.stop (next_start new) c.args.self.now c.args.operand c.in_ok-get.field-0 h
+    c.in_ok-get.ensures.start c.in_ok-get.ensures.stop c.in_ok-get.ensures.place (omega (arith, b, k.0.piece, m.0.first, m.0.piece)) m.0.before.next

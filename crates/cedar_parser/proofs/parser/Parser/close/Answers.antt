@@ -1,3 +1,6 @@
+use Rattle.cedar_parser.proofs.Placed.{closing_placed}
+use Rattle.cedar_parser.proofs.Machine.{none_below}
+use Rattle.cedar_parser.specs.Meant.{waits}
 use Rattle.std.proofs.Common.{rules}
 use Rattle.cedar_parser.proofs.CompleteSteps.{closing_resumed, none_open, some_left}
 use Rattle.cedar_parser.proofs.parser.Parser.close.Goals as goal
@@ -42,3 +45,10 @@ returns-in-None-clause-complete c own end b =
     (none_open c.apply_down_to.new.self c.in_ok-operand.operand.precedence (from c.args.token c.args.tokens.now)
     (c.in_ok-operand.ensures.complete (from c.args.token c.args.tokens.now) (omega (arith, own)) b) own c.in_ok-operand.ensures.below
     (search rules)))
+
+pub returns-in-Some-clause-places : goal.returns-in-Some-clause-places
+returns-in-Some-clause-places c source h =
+    let r = c.apply_down_to.new.self in
+    c.resume_group.ensures.places source
+    (closing_placed source c.args.token.span.start r _ c.in-Some.group c.in_ok-operand.operand
+    (c.in_ok-operand.ensures.places source c.args.token.span.start h) (none_below (waits r) c.in_ok-operand.ensures.below) c.in-Some.ensures.items refl)

@@ -1,3 +1,6 @@
+use Rattle.cedar_parser.proofs.Placed.{open_later}
+use Rattle.cedar_parser.specs.Places.{none_placed}
+use Rattle.std.proofs.Common.{arith}
 use Rattle.cedar_parser.proofs.CompleteSteps.{if_opens}
 use Rattle.cedar_parser.proofs.parser.Parser.conditional.Goals as goal
 use Rattle.std.proofs.Common.{◌∷◌, ap, rules, IsTrue}
@@ -26,3 +29,9 @@ pub returns-else-takes_conditional-clause-complete : goal.returns-else-takes_con
 returns-else-takes_conditional-clause-complete c rest a is =
     let takes : IsTrue c.takes_conditional.result = c.takes_conditional.ensures.complete (if_opens c.args.self.now c.args.token rest a is).0 in
     absurd (search rules)
+
+pub returns-then-takes_conditional-clause-places : goal.returns-then-takes_conditional-clause-places
+returns-then-takes_conditional-clause-places c fits source h =
+    let at = c.args.token.span.start in
+    let to = c.args.token.span.stop in
+    c.open.ensures.places source to fits (open_later source at at at to c.args.self.now (omega arith) fits h) none_placed

@@ -1,3 +1,9 @@
+use Rattle.cedar_parser.proofs.Placed.{longer_placed, open_later, wider}
+use Rattle.cedar_parser.proofs.Placed.{next_begins}
+use Rattle.cedar_parser.specs.Places.{and_placed, none_placed}
+use Rattle.cedar_parser.specs.Places.{ArePlaced}
+use Rattle.cedar_parser.specs.Refused.{next_start}
+use Rattle.cedar_parser.proofs.InOrder.{taken}
 use Rattle.std.proofs.Common.{◌∷◌, ap, refl}
 use Rattle.cedar_lexer.specs.declared.token.TokenKind.TheVariants as kinds
 use Rattle.cedar_terms.specs.declared.precedence.Precedence.TheVariants as precedences
@@ -16,7 +22,7 @@ use Rattle.cedar_parser.specs.Meant.{here, open_groups, waits}
 use Rattle.cedar_parser.specs.SoFar.{IsOpenUpTo}
 use Rattle.cedar_parser.specs.Waiting.{in_row, method_arguments}
 use Rattle.cedar_parser.proofs.TakenSteps.{dot_method, dot_parsed, end_kept, none_taken, one_taken}
-use Rattle.std.proofs.Common.{max, arith}
+use Rattle.std.proofs.Common.{max, arith, ◌≤◌}
 use Rattle.cedar_parser.specs.Refused.{open_start}
 use Rattle.cedar_parser.proofs.InOrder.{left_from, maybe_taken, skipped, then_left}
 use Rattle.cedar_parser.proofs.parser.Parser.dot.Goals as goal
@@ -103,3 +109,33 @@ returns-clause-complete c w end b =
           }) c.in_ok-get.ensures.precedence,
       end_kept t0 t2 (u.1 ∙ c.in_ok-name.ensures.gives.1.1) end,
     )
+
+pub returns-clause-places : goal.returns-clause-places
+returns-clause-places c source h =
+    let at = max (open_start c.args.self.now) c.args.operand.span.start in
+    let old = c.args.tokens.now in
+    let mid = c.expect.new.self in
+    let new = c.take_if.new.self in
+    let n = c.in_ok-name.name in
+    let b = next_begins at old mid n c.requires c.in_ok-name.ensures.gives.1 in
+    let k = taken at old mid n c.requires c.in_ok-name.ensures.gives.1 in
+    let m = maybe_taken n.span.stop mid new c.take_if.result _ k.0.before c.take_if.ensures.gives in
+    longer_placed source (next_start old) n.span.stop (next_start new) c.args.self.now c.args.operand c.in_ok-get.field-0 h c.in_ok-get.ensures.start
+    c.in_ok-get.ensures.stop c.in_ok-get.ensures.place (omega (arith, b, k.0.piece)) m.before.next
+
+pub returns-then-is_some-clause-places : goal.returns-then-is_some-clause-places
+returns-then-is_some-clause-places c source h =
+    let at = max (open_start c.args.self.now) c.args.operand.span.start in
+    let old = c.args.tokens.now in
+    let mid = c.expect.new.self in
+    let new = c.take_if.new.self in
+    let n = c.in_ok-name.name in
+    let b = next_begins at old mid n c.requires c.in_ok-name.ensures.gives.1 in
+    let k = taken at old mid n c.requires c.in_ok-name.ensures.gives.1 in
+    let m = maybe_taken n.span.stop mid new c.take_if.result _ k.0.before c.take_if.ensures.gives in
+    let start = c.args.operand.span.start in
+    let stop = c.args.operand.span.stop in
+    let to : stop ≤ next_start new = omega (arith, h.2, b, k.0.piece, m.before.next) in
+    c.item.ensures.places source (open_later source start stop start (next_start new) c.args.self.now (omega arith) to h.0)
+    (subst (ArePlaced source start (next_start new)) (sym c.in_ok-args.ensures.items)
+    (and_placed (wider start (next_start new) (omega arith) to h.1) none_placed))

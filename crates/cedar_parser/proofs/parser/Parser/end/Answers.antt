@@ -1,3 +1,5 @@
+use Rattle.cedar_parser.proofs.Placed.{wider}
+use Rattle.cedar_parser.specs.Places.{IsPlacedUpTo}
 use Rattle.std.proofs.Common.{rules}
 use Rattle.std.proofs.Common.{arith}
 use Rattle.cedar_parser.specs.Complete.{IsAhead}
@@ -22,3 +24,8 @@ returns-in-Some-last-clause-complete c a =
     let b = ahead_operand c.args.self.now c.in-Some.last [] (subst (λ o. IsAhead c.args.self.now o []) c.in-Some.is a) in
     absurd (open_goes_on c.apply_down_to.new.self c.in_ok-operand.operand.precedence (c.in_ok-operand.ensures.complete [] (omega arith) b)
     c.in_ok-operand.ensures.below (λ e. some_last c.deref.result.now _ c.in-Some-last.ensures.value (c.deref.ensures.value ∙ e)))
+
+pub returns-in-None-clause-places : goal.returns-in-None-clause-places
+returns-in-None-clause-places c source to h =
+    let p = c.in_ok-operand.ensures.places source to (subst (λ o. IsPlacedUpTo source to c.args.self.now o) c.in-Some.is h) in
+    wider 0 to (omega arith) p.2 p.1

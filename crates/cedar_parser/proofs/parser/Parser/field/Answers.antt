@@ -1,3 +1,4 @@
+use Rattle.cedar_parser.proofs.Placed.{open_later, step_later, all_wider, next_begins}
 use Rattle.std.proofs.Common.{◌≡◌, Err}
 use Rattle.std.proofs.Common.{rules}
 use Rattle.std.proofs.Common.{◌∙◌}
@@ -5,7 +6,8 @@ use Rattle.cedar_parser.proofs.CompleteRows.{colon_follows, field_begins, field_
 use Rattle.cedar_builders.specs.Keys.{meant_pairs}
 use Rattle.cedar_exprs.specs.BareExpr.{bare_expr}
 use Rattle.cedar_parser.proofs.TakenSteps.{end_kept, field_ends, field_key, if_both}
-use Rattle.std.proofs.Common.{max, arith}
+use Rattle.std.proofs.Common.{max, arith, ◌≤◌}
+use Rattle.cedar_parser.proofs.InOrder as order
 use Rattle.cedar_parser.specs.Refused.{next_start, open_start}
 use Rattle.cedar_parser.proofs.InOrder.{left_from, maybe_taken, skipped, step_about, step_opened, taken, then_left}
 use Rattle.cedar_parser.proofs.parser.Parser.field.Goals as goal
@@ -80,3 +82,31 @@ returns-in_err-_colon-clause-complete c end a =
     let k = c.in_ok-key.ensures.complete f.0.word f.0.key _ f.0.tokens f.0.is_key in
     let colon = colon_follows f.0.colon f.0.behind c.key.new.tokens k.1 in
     absurd (search rules)
+
+pub returns-in-Some-clause-places : goal.returns-in-Some-clause-places
+returns-in-Some-clause-places c source h items =
+    let at = max (open_start c.args.self.now) c.args.start in
+    let old = c.args.tokens.now in
+    let new = c.take_if.new.self in
+    let t = c.in-Some.field-0 in
+    let k = taken at old new t c.requires c.in-Some.ensures.gives.1 in
+    let b = next_begins at old new t c.requires c.in-Some.ensures.gives.1 in
+    let l : next_start old ≤ t.span.stop = omega (arith, b, k.0.piece) in
+    step_later source t.span.stop (next_start new) c.«record».new.self c.«record».result k.0.before.next
+    (c.«record».ensures.places source (omega (arith, k.0.first, k.0.piece))
+    (open_later source c.args.start (next_start old) c.args.start t.span.stop c.args.self.now (omega arith) l h)
+    (all_wider c.args.start t.span.stop (omega arith) l items))
+
+pub returns-clause-places : goal.returns-clause-places
+returns-clause-places c source h items =
+    let at = max (open_start c.args.self.now) c.args.start in
+    let old = c.args.tokens.now in
+    let first = c.take_if.new.self in
+    let second = c.key.new.tokens in
+    let new = c.expect.new.self in
+    let l = maybe_taken (next_start old) old first c.take_if.result _ (order.here at old c.requires) c.take_if.ensures.gives in
+    let m = left_from (next_start first) (next_start old) first second l.before.next c.in_ok-key.ensures.goes_on in
+    let k = skipped (next_start old) second new c.in_ok-_colon._colon m.before c.in_ok-_colon.ensures.gives.1 in
+    c.open.ensures.places source (next_start new) (omega (arith, c.requires.next, k.before.next))
+    (open_later source c.args.start (next_start old) c.args.start (next_start new) c.args.self.now (omega arith) k.before.next h)
+    (all_wider c.args.start (next_start new) (omega arith) k.before.next items)

@@ -1,3 +1,4 @@
+use Rattle.cedar_parser.proofs.Placed.{longer_placed}
 use Rattle.std.proofs.Common.{Err}
 use Rattle.std.proofs.Common.{inl}
 use Rattle.cedar_lexer.specs.declared.token.TokenKind.TheVariants as kinds
@@ -34,6 +35,7 @@ attributes-init c =
     record {
       fewer = omega arith;
       left = record { before = order.here _ new c.in_ok-head.ensures.goes_on.before; stop = refl };
+      behind = (omega arith, c.in_ok-head.ensures.behind.1);
       parses = λ l. record {
         keys = λ ts k p. subst (λ xs. AreKeys ts k (map rc_str_bytes xs) (here new)) (sym c.new-tail.ensures.items) p;
         lexemes = l;
@@ -50,12 +52,14 @@ attributes-preserved c =
     let new = c.key-in-attributes.new.tokens in
     let at = next_start first in
     let inv = c.attributes.invariant in
+    let b = maybe_taken (next_start old) old mid c.take_if.result _ (order.here at old inv.left.before) c.take_if.ensures.gives in
     let m = maybe_taken at old mid c.take_if.result _ inv.left.before c.take_if.ensures.gives in
     let k = c.in_ok-attr.ensures.goes_on in
     let o = one_taken _ _ c.take_if.result c.take_if.ensures.gives (sym c.is_some.ensures ∙ c.attributes-test.true) in
     record {
       fewer = omega arith;
       left = left_from (next_start mid) at first new m.before.next (then_left at (next_start mid) first mid new (then_left at at first old mid inv.left m) k);
+      behind = (omega (arith, inv.behind, c.in_ok-attr.ensures.behind, b.before.next), c.in_ok-attr.ensures.behind.1);
       parses = λ l. more_keys first old mid new o.0 c.in_ok-attr.attr c.attributes.tail.items c.push.new.self.items (inv.parses l) o.1.0 o.1.1
           c.in_ok-attr.ensures.parses c.in_ok-push.ensures.items;
       complete = λ gs ws l k. (
@@ -119,3 +123,14 @@ returns-clause-complete c w below end b =
           }) c.in_ok-has.ensures.precedence,
       end_kept c.args.tokens.now t3 (u.1 ∙ (i.2 ∙ k.2)) end,
     )
+
+pub returns-clause-places : goal.returns-clause-places
+returns-clause-places c source h =
+    let old = c.args.tokens.now in
+    let mid = c.attributes.tokens in
+    let new = c.take_if.new.self in
+    let stop = c.attributes.stop in
+    let inv = c.attributes.invariant in
+    let m = maybe_taken (next_start mid) mid new c.take_if.result _ (order.here _ mid inv.left.before) c.take_if.ensures.gives in
+    longer_placed source (next_start old) stop (next_start new) c.args.self.now c.args.left c.in_ok-has.field-0 h c.in_ok-has.ensures.start
+    c.in_ok-has.ensures.stop c.in_ok-has.ensures.place (omega (arith, c.in_ok-head.ensures.behind.0, inv.behind)) (omega (arith, inv.behind.1, m.before.next))

@@ -13,6 +13,7 @@ abbrev pub invariant-attributes : goal.invariant-attributes
 invariant-attributes l = record {
   fewer : tokens_left l.tokens ≤ tokens_left l.initial.tokens;
   left : IsLeft (next_start l.initial.tokens) l.initial.tokens l.tokens;
+  behind : (l.initial.stop ≤ l.stop) × (l.stop ≤ next_start l.tokens);
   parses : AreLexemes (here l.initial.tokens) → AreKeysTaken l.initial.tokens (map rc_str_bytes l.tail.items) l.tokens;
   complete : (gs : List Group) (ws : List Waiting) → AreLexemes (here l.initial.tokens) → KeysLeft gs ws (here l.initial.tokens)
       → AreLexemes (here l.tokens) × KeysLeft gs ws (here l.tokens) × (end_of l.tokens ≡ end_of l.initial.tokens);

@@ -1,3 +1,6 @@
+use Rattle.cedar_parser.proofs.Placed.{operator_placed}
+use Rattle.cedar_parser.specs.Places.{and_placed, none_placed}
+use Rattle.cedar_parser.specs.declared.operand.Operation.TheVariants as operations
 use Rattle.std.proofs.Common.{◌≡◌, Err, rules}
 use Rattle.cedar_parser.proofs.CompleteSteps.{infix_pushed}
 use Rattle.cedar_parser.proofs.Rising.{operator_fits}
@@ -34,3 +37,9 @@ returns-in_err-left-clause-complete c rest b is =
     let e = c.in_err-left.field-0.0 in
     let failed : c.from_residual.result ≡ Err e = search rules in
     rw failed (c.in_err-left.ensures.complete c.args.token.kind c.args.token.text.now rest (f.1 ∙ sym x, f.0 ∙ sym y, omega (arith, f.1, f.2, x)) b)
+
+pub returns-clause-places : goal.returns-clause-places
+returns-clause-places c source h =
+    let l = c.in_ok-left.ensures.places source c.args.token.span.start h in
+    operator_placed source c.args.token.span.start c.left.new.self _ (operations.Infix c.args.«infix» c.in_ok-left.left) c.in_ok-left.left l
+    c.in_ok-push.ensures.items refl refl refl (and_placed l.1 none_placed)

@@ -1,5 +1,9 @@
+use Rattle.cedar_parser.proofs.Placed.{copy_placed, in_order, longer_placed, next_begins, open_later, wait_placed, wider}
+use Rattle.cedar_parser.specs.Places.{IsPlaced, IsPlacedUpTo, and_placed, none_placed}
+use Rattle.cedar_parser.specs.Refused.{next_start}
+use Rattle.cedar_parser.specs.declared.operand.Operation.TheVariants as operations
 use Rattle.std.proofs.Common.{Err}
-use Rattle.std.proofs.Common.{inr, arith}
+use Rattle.std.proofs.Common.{inr, Some}
 use Rattle.cedar_lexer.specs.declared.token.TokenKind.TheVariants as kinds
 use Rattle.cedar_terms.specs.declared.precedence.Precedence.TheVariants as precedences
 use Rattle.cedar_exprs.specs.BareExpr.{bare_expr}
@@ -121,3 +125,48 @@ returns-clause-complete c w below end b =
           c.in_ok-push.ensures.items refl,
       end_kept c.args.tokens.now t3 (o.1.1.1 ∙ (c.in_ok-path.ensures.end ∙ c.in_ok-first.ensures.gives.1.1)) end,
     )
+
+pub returns-then-is_none-clause-places : goal.returns-then-is_none-clause-places
+returns-then-is_none-clause-places c source h =
+    let at = max (open_start c.args.self.now) c.args.left.span.start in
+    let old = c.args.tokens.now in
+    let mid = c.expect.new.self in
+    let new = c.take_if.new.self in
+    let n = c.in_ok-first.first in
+    let b = next_begins at old mid n c.requires c.in_ok-first.ensures.gives.1 in
+    let path = c.in_ok-path.ensures.goes_on in
+    let stop = c.in_ok-path.path.span.stop in
+    let l = maybe_taken stop c.parse.new.tokens new c.take_if.result _ path.left.before c.take_if.ensures.gives in
+    longer_placed source (next_start old) stop (next_start new) c.args.self.now c.args.left c.in_ok-is.field-0 h
+    c.in_ok-is.ensures.start c.in_ok-is.ensures.stop c.in_ok-is.ensures.place (omega (arith, b, path.start, path.piece)) l.before.next
+
+pub returns-clause-places : goal.returns-clause-places
+returns-clause-places c source h =
+    let at = max (open_start c.args.self.now) c.args.left.span.start in
+    let old = c.args.tokens.now in
+    let mid = c.expect.new.self in
+    let new = c.take_if.new.self in
+    let n = c.in_ok-first.first in
+    let b = next_begins at old mid n c.requires c.in_ok-first.ensures.gives.1 in
+    let path = c.in_ok-path.ensures.goes_on in
+    let stop = c.in_ok-path.path.span.stop in
+    let l = maybe_taken stop c.parse.new.tokens new c.take_if.result _ path.left.before c.take_if.ensures.gives in
+    let to = next_start new in
+    let left = c.args.left in
+    let test = c.in_ok-test.test in
+    let again = c.in_ok-again.again in
+    let p : IsPlacedUpTo source to c.args.self.now (Some test) =
+    longer_placed source (next_start old) stop to c.args.self.now left test h
+    c.in_ok-test.ensures.start c.in_ok-test.ensures.stop c.in_ok-test.ensures.place (omega (arith, b, path.start, path.piece)) l.before.next in
+    let start = c.in_ok-test.ensures.start in
+    let within : IsPlaced source test.span.start to test.expr =
+    wider {a = test.span.start} {b = test.span.stop} test.span.start to (omega arith) p.2 p.1 in
+    let copy : IsPlaced source left.span.start left.span.stop again =
+    copy_placed left.expr again c.in_ok-again.ensures.place c.in_ok-again.ensures.children h.1 in
+    let beside : IsPlaced source test.span.start to again =
+    wider {a = left.span.start} {b = left.span.stop} test.span.start to (omega (arith, start))
+    (omega (arith, h.2, b, path.start, path.piece, l.before.next)) copy in
+    wait_placed source to to c.args.self.now _ (operations.IsIn test again)
+    (open_later source test.span.start test.span.stop test.span.start to c.args.self.now (omega arith) p.2 p.0) c.in_ok-push.ensures.items refl refl
+    (and_placed within (and_placed beside none_placed))
+    (omega (arith, start, b, path.start, path.piece, l.before.next, h.2, in_order h.1))

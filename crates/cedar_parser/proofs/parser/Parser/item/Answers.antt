@@ -1,3 +1,6 @@
+use Rattle.cedar_parser.proofs.Placed.{open_later, step_later, all_wider, next_begins}
+use Rattle.cedar_parser.specs.Refused.{next_start}
+use Rattle.cedar_parser.proofs.InOrder.{untouched}
 use Rattle.std.proofs.Common.{rules}
 use Rattle.cedar_parser.proofs.CompleteRows.{member_ahead, row_ends_ahead, row_opens_ahead, stays_keeps}
 use Rattle.std.proofs.Common.{length}
@@ -6,7 +9,8 @@ use Rattle.cedar_exprs.specs.BareExpr.{bare_expr}
 use Rattle.cedar_parser.specs.Meant.{IsOpenParsed, row_of}
 use Rattle.cedar_parser.specs.declared.groups.GroupKind.TheVariants as groups
 use Rattle.cedar_parser.proofs.TakenSteps.{end_kept, if_both, item_ends, untouched_here}
-use Rattle.std.proofs.Common.{max, arith}
+use Rattle.std.proofs.Common.{max, arith, ◌≤◌}
+use Rattle.cedar_parser.proofs.InOrder as order
 use Rattle.cedar_parser.specs.Refused.{open_start}
 use Rattle.cedar_parser.proofs.InOrder.{skipped, step_about, taken}
 use Rattle.cedar_parser.proofs.parser.Parser.item.Goals as goal
@@ -48,3 +52,27 @@ returns-in-None-clause-complete c end a =
     let k = row_opens_ahead c.args.self.now c.args.kind c.args.items.items c.args.tokens.now new a (λ b. search rules) c.in-None.ensures.gives in
     stays_keeps c.open.new.self c.open.result new (end_kept c.args.tokens.now new c.in-None.ensures.gives.1 end)
     (c.open.ensures.complete _ (record { lexemes = k.0; goes_on = k.1 }))
+
+pub returns-in-Some-clause-places : goal.returns-in-Some-clause-places
+returns-in-Some-clause-places c source h items =
+    let at = max (open_start c.args.self.now) c.args.start in
+    let old = c.args.tokens.now in
+    let new = c.take_if.new.self in
+    let t = c.in-Some.field-0 in
+    let k = taken at old new t c.requires c.in-Some.ensures.gives.1 in
+    let b = next_begins at old new t c.requires c.in-Some.ensures.gives.1 in
+    let l : next_start old ≤ t.span.stop = omega (arith, b, k.0.piece) in
+    step_later source t.span.stop (next_start new) c.row.new.self c.row.result k.0.before.next
+    (c.row.ensures.places source (omega (arith, k.0.first, k.0.piece))
+    (open_later source c.args.start (next_start old) c.args.start t.span.stop c.args.self.now (omega arith) l h)
+    (all_wider c.args.start t.span.stop (omega arith) l items))
+
+pub returns-in-None-clause-places : goal.returns-in-None-clause-places
+returns-in-None-clause-places c source h items =
+    let at = max (open_start c.args.self.now) c.args.start in
+    let old = c.args.tokens.now in
+    let new = c.take_if.new.self in
+    let u = untouched (next_start old) old new (order.here at old c.requires) c.in-None.ensures.gives in
+    c.open.ensures.places source (next_start new) (omega (arith, c.requires.next, u.before.next))
+    (open_later source c.args.start (next_start old) c.args.start (next_start new) c.args.self.now (omega arith) u.before.next h)
+    (all_wider c.args.start (next_start new) (omega arith) u.before.next items)

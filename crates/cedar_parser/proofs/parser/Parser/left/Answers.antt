@@ -17,3 +17,6 @@ returns-then-number-clause-complete c k w ts is b =
     let h = c.in_ok-operand.ensures.complete (lexeme k w ∷ ts) (omega (arith, is.0)) b in
     absurd (stuck (open_groups r) (waits r) k w ts c.in_ok-operand.operand.precedence (own_closes k (omega (arith, is.0, is.2)))
     (omega (arith, is.1, c.if-number.true, c.number.ensures, c.number-2.ensures)) h.goes_on)
+
+pub returns-clause-places : goal.returns-clause-places
+returns-clause-places c source to h = c.in_ok-operand.ensures.places source to h

@@ -1,3 +1,7 @@
+use Rattle.cedar_parser.proofs.Placed.{longer_placed, next_begins}
+use Rattle.cedar_parser.specs.Refused.{next_start}
+use Rattle.cedar_parser.proofs.InOrder.{taken}
+use Rattle.std.proofs.Common.{max, arith}
 use Rattle.std.proofs.Common.{ap, refl, rules}
 use Rattle.cedar_lexer.specs.declared.token.TokenKind.TheVariants as kinds
 use Rattle.cedar_terms.specs.declared.precedence.Precedence.TheVariants as precedences
@@ -68,3 +72,14 @@ returns-in_ok-like-in-Some-clause-complete c w below end b =
           }) c.in_ok-like-in-Some.ensures.precedence,
       end_kept t0 t1 c.in_ok-token.ensures.gives.1.1 end,
     )
+
+pub returns-in_ok-like-in-Some-clause-places : goal.returns-in_ok-like-in-Some-clause-places
+returns-in_ok-like-in-Some-clause-places c source h =
+    let at = max (open_start c.args.self.now) c.args.left.span.start in
+    let old = c.args.tokens.now in
+    let new = c.expect.new.self in
+    let n = c.in_ok-token.token in
+    let b = next_begins at old new n c.requires c.in_ok-token.ensures.gives.1 in
+    let k = taken at old new n c.requires c.in_ok-token.ensures.gives.1 in
+    longer_placed source (next_start old) n.span.stop (next_start new) c.args.self.now c.args.left c.in_ok-like-in-Some.field-0 h
+    c.in_ok-like-in-Some.ensures.start c.in_ok-like-in-Some.ensures.stop c.in_ok-like-in-Some.ensures.place (omega (arith, b, k.0.piece)) k.0.before.next

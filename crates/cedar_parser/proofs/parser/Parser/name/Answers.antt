@@ -1,5 +1,11 @@
+use Rattle.std.proofs.Common.{Some}
+use Rattle.cedar_parser.proofs.Placed.{leaf_placed, open_later, placed_later}
+use Rattle.cedar_parser.specs.Places.{ArePlaced, none_placed}
+use Rattle.std.proofs.Common.{arith}
+use Rattle.cedar_parser.specs.Refused.{next_start}
+use Rattle.cedar_parser.proofs.InOrder.{maybe_taken}
 use Rattle.std.proofs.Common.{◌≡◌, Err}
-use Rattle.std.proofs.Common.{ap, refl, sym, subst, length, rules}
+use Rattle.std.proofs.Common.{ap, sym, subst, length, rules}
 use Rattle.cedar_lexer.specs.declared.token.TokenKind.TheVariants as kinds
 use Rattle.cedar_terms.specs.declared.precedence.Precedence.TheVariants as precedences
 use Rattle.cedar_parser.specs.Ahead.{Rest, RowGoesOn}
@@ -145,3 +151,41 @@ returns-in_err-variable-clause-complete c word end a =
     let e = c.in_err-variable.field-0.0 in
     let failed : c.from_residual-in_err-variable.result ≡ Err e = search rules in
     rw failed (c.in_err-variable.ensures.complete x.0 x.1)
+
+pub returns-then-is_some-clause-places : goal.returns-then-is_some-clause-places
+returns-then-is_some-clause-places c source h =
+    let at = c.args.first.span.start in
+    let path = c.in_ok-path.ensures.goes_on in
+    let span = c.in_ok-expr.span in
+    let e = c.in_ok-expr.ensures.goes_on.0 in
+    let b = c.in_ok-expr.ensures.behind in
+    placed_later source span.stop _ c.args.self.now (Some c.member.result) b.1
+    (leaf_placed source at at c.args.self.now c.member.result span c.in_ok-expr.expr h c.member.ensures.span c.member.ensures.expr
+    c.in_ok-expr.ensures.place (omega (arith, path.start, e)) (omega (arith, path.start, path.piece, b.0)) (omega (arith, e, path.piece, b.0)))
+
+pub returns-then-is_some-2-clause-places : goal.returns-then-is_some-2-clause-places
+returns-then-is_some-2-clause-places c source h =
+    let at = c.args.first.span.start in
+    let path = c.in_ok-path.ensures.goes_on in
+    let start = c.in_ok-path.path.span.start in
+    let stop = c.in_ok-path.path.span.stop in
+    let t1 = c.take_if.new.self in
+    let t2 = c.take_if-2.new.self in
+    let l = maybe_taken stop c.parse.new.tokens t1 c.take_if.result _ path.left.before c.take_if.ensures.gives in
+    let m = maybe_taken stop t1 t2 c.take_if-2.result _ l.before c.take_if-2.ensures.gives in
+    c.item.ensures.places source
+    (open_later source at at start (next_start t2) c.args.self.now (omega (arith, path.start)) (omega (arith, path.start, path.piece, m.before.next)) h)
+    (subst (ArePlaced source start (next_start t2)) (sym c.new.ensures.items) none_placed)
+
+pub returns-clause-places : goal.returns-clause-places
+returns-clause-places c source h =
+    let at = c.args.first.span.start in
+    let path = c.in_ok-path.ensures.goes_on in
+    let span = c.in_ok-path.path.span in
+    let t1 = c.take_if.new.self in
+    let t2 = c.take_if-2.new.self in
+    let l = maybe_taken span.stop c.parse.new.tokens t1 c.take_if.result _ path.left.before c.take_if.ensures.gives in
+    let m = maybe_taken span.stop t1 t2 c.take_if-2.result _ l.before c.take_if-2.ensures.gives in
+    placed_later source span.stop _ c.args.self.now (Some c.member-2.result) m.before.next
+    (leaf_placed source at at c.args.self.now c.member-2.result span c.in_ok-variable.field-0 h c.member-2.ensures.span c.member-2.ensures.expr
+    (c.in_ok-variable.ensures.place h.no_values) (omega (arith, path.start)) (omega (arith, path.start, path.piece)) path.piece)

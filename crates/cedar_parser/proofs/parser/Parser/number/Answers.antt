@@ -1,3 +1,4 @@
+use Rattle.cedar_parser.specs.Places.{IsPlacedUpTo}
 use Rattle.cedar_parser.proofs.CompleteSteps.{negative_behind, number_behind}
 use Rattle.cedar_parser.proofs.AheadSteps.{no_minus, number_follows}
 use Rattle.cedar_parser.specs.Ahead.{Rest}
@@ -60,3 +61,12 @@ returns-in-None-clause-complete c rest a d e =
     let m = subst (λ s. IsNoMinus (last_of None (waits s))) (sym c.in-None.ensures.pops.0) c.in-None.ensures.pops.1 in
     let k = number_behind r c.args.digits rest b d (no_minus (Rest (open_groups r) (waits r)) (last_of None (waits r)) _ m) in
     c.positive-in-None.ensures.complete rest k.0 k.1 k.2
+
+pub returns-in-Some-clause-places : goal.returns-in-Some-clause-places
+returns-in-Some-clause-places c fits source h =
+    let m = c.in-Some.ensures.places source c.args.digits.span.start h in c.negative.ensures.places source m.0 fits m.1
+
+pub returns-in-None-clause-places : goal.returns-in-None-clause-places
+returns-in-None-clause-places c fits source h =
+    c.positive-in-None.ensures.places fits source
+    (subst (λ s. IsPlacedUpTo source c.args.digits.span.start s None) (sym c.in-None.ensures.pops.0) h)

@@ -1,3 +1,7 @@
+use Rattle.cedar_parser.proofs.Placed.{leaf_placed, open_later, placed_later, step_later}
+use Rattle.cedar_parser.specs.Places.{ArePlaced, none_placed}
+use Rattle.std.proofs.Common.{arith, ◌≤◌, Some}
+use Rattle.cedar_parser.specs.Refused.{next_start}
 use Rattle.std.proofs.Common.{◌≡◌, Err}
 use Rattle.std.proofs.Common.{rules, false}
 use Rattle.cedar_terms.specs.declared.precedence.Precedence.TheVariants as precedences
@@ -168,3 +172,62 @@ returns-in_default-clause-complete c end a =
     let d = c.in_default in
     absurd (none_begins_so c.args.self.now c.args.token (here c.args.tokens.now) a d.not-Word d.not-Digits d.not-Quoted d.not-Slot d.not-True d.not-False
     d.not-Not d.not-Minus d.not-If d.not-OpenRound d.not-OpenSquare d.not-OpenCurly)
+
+pub returns-in-Digits-clause-places : goal.returns-in-Digits-clause-places
+returns-in-Digits-clause-places c source h =
+    step_later source c.args.token.span.stop _ c.number.new.self c.number.result c.requires.before.next (c.number.ensures.places c.requires.piece source h)
+
+pub returns-in-True-clause-places : goal.returns-in-True-clause-places
+returns-in-True-clause-places c source h =
+    step_later source c.args.token.span.stop _ c.literal-in-True.new.self c.literal-in-True.result c.requires.before.next (c.literal-in-True.ensures.places c.requires.piece source h)
+
+pub returns-in-False-clause-places : goal.returns-in-False-clause-places
+returns-in-False-clause-places c source h =
+    step_later source c.args.token.span.stop _ c.literal-in-False.new.self c.literal-in-False.result c.requires.before.next (c.literal-in-False.ensures.places c.requires.piece source h)
+
+pub returns-in-Not-clause-places : goal.returns-in-Not-clause-places
+returns-in-Not-clause-places c source h =
+    step_later source c.args.token.span.stop _ c.prefix.new.self c.prefix.result c.requires.before.next (c.prefix.ensures.places c.requires.piece source h)
+
+pub returns-in-Minus-clause-places : goal.returns-in-Minus-clause-places
+returns-in-Minus-clause-places c source h =
+    step_later source c.args.token.span.stop _ c.prefix-in-Minus.new.self c.prefix-in-Minus.result c.requires.before.next (c.prefix-in-Minus.ensures.places c.requires.piece source h)
+
+pub returns-in-If-clause-places : goal.returns-in-If-clause-places
+returns-in-If-clause-places c source h =
+    step_later source c.args.token.span.stop _ c.conditional.new.self c.conditional.result c.requires.before.next (c.conditional.ensures.places c.requires.piece source h)
+
+pub returns-in_ok-text_of-in-Quoted-clause-places : goal.returns-in_ok-text_of-in-Quoted-clause-places
+returns-in_ok-text_of-in-Quoted-clause-places c source h =
+    step_later source c.args.token.span.stop _ c.literal.new.self c.literal.result c.requires.before.next (c.literal.ensures.places c.requires.piece source h)
+
+pub returns-in_ok-slot-in-Slot-clause-places : goal.returns-in_ok-slot-in-Slot-clause-places
+returns-in_ok-slot-in-Slot-clause-places c source h =
+    let at = c.args.token.span.start in
+    let p = c.requires.piece in
+    placed_later source c.args.token.span.stop _ c.args.self.now (Some c.member.result) c.requires.before.next
+    (leaf_placed source at at c.args.self.now c.member.result c.args.token.span c.in_ok-slot-in-Slot.field-0 h c.member.ensures.span c.member.ensures.expr
+    c.in_ok-slot-in-Slot.ensures.place (omega arith) p p)
+
+pub returns-in-OpenRound-clause-places : goal.returns-in-OpenRound-clause-places
+returns-in-OpenRound-clause-places c source h =
+    let at = c.args.token.span.start in
+    let to = next_start c.args.tokens.now in
+    let l : at ≤ to = omega (arith, c.requires.piece, c.requires.before.next) in
+    c.open.ensures.places source to l (open_later source at at at to c.args.self.now (omega arith) l h) none_placed
+
+pub returns-in-OpenSquare-clause-places : goal.returns-in-OpenSquare-clause-places
+returns-in-OpenSquare-clause-places c source h =
+    let at = c.args.token.span.start in
+    let to = next_start c.args.tokens.now in
+    let l : at ≤ to = omega (arith, c.requires.piece, c.requires.before.next) in
+    c.item.ensures.places source (open_later source at at at to c.args.self.now (omega arith) l h)
+    (subst (ArePlaced source at to) (sym c.new.ensures.items) none_placed)
+
+pub returns-in-OpenCurly-clause-places : goal.returns-in-OpenCurly-clause-places
+returns-in-OpenCurly-clause-places c source h =
+    let at = c.args.token.span.start in
+    let to = next_start c.args.tokens.now in
+    let l : at ≤ to = omega (arith, c.requires.piece, c.requires.before.next) in
+    c.field.ensures.places source (open_later source at at at to c.args.self.now (omega arith) l h)
+    (subst (λ ps. ArePlaced source at to (map (λ p. p.1) ps)) (sym c.new-in-OpenCurly.ensures.items) none_placed)

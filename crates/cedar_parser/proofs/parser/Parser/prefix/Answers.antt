@@ -1,3 +1,6 @@
+use Rattle.cedar_parser.proofs.Placed.{open_later, wait_placed}
+use Rattle.cedar_parser.specs.Places.{none_placed}
+use Rattle.cedar_parser.specs.declared.operand.Operation.TheVariants as operations
 use Rattle.cedar_parser.proofs.CompleteSteps.{sign_pushed, sign_refused}
 use Rattle.cedar_parser.proofs.parser.Parser.prefix.Goals as goal
 use Rattle.std.proofs.Common.{arith, refl}
@@ -23,3 +26,10 @@ returns-then-before-gt3-clause-complete c rest a is =
 pub returns-in_err-before-clause-complete : goal.returns-in_err-before-clause-complete
 returns-in_err-before-clause-complete c rest a is =
     absurd (sign_refused c.args.self.now c.args.op c.args.token rest a is c.in_err-before.ensures.complete)
+
+pub returns-clause-places : goal.returns-clause-places
+returns-clause-places c fits source h =
+    let at = c.args.token.span.start in
+    let to = c.args.token.span.stop in
+    wait_placed source to to c.args.self.now _ (operations.Prefix c.args.op at c.in_ok-before.before)
+    (open_later source at at at to c.args.self.now (omega arith) fits h) c.in_ok-push.ensures.items refl refl none_placed fits

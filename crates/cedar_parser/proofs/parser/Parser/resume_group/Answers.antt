@@ -1,3 +1,7 @@
+use Rattle.cedar_parser.proofs.Placed.{and_last, group_later, in_order, first_placed, operand_placed, pair_last, placed_later, step_later, wider}
+use Rattle.cedar_parser.specs.Places.{ArePlaced, and_placed, around, items_of, none_placed}
+use Rattle.std.proofs.Common.{arith, sym, Some, map}
+use Rattle.cedar_parser.specs.Refused.{next_start}
 use Rattle.cedar_parser.proofs.GroupSteps.{restored}
 use Rattle.cedar_parser.proofs.CompleteSteps.{branch_stays, field_resumed, item_resumed, last_field_resumed, last_resumed, resumed_takes, round_resumed, test_resumed}
 use Rattle.cedar_parser.proofs.CompleteRows.{member_ahead, stays_keeps}
@@ -116,3 +120,70 @@ pub returns-in-Then-clause-complete : goal.returns-in-Then-clause-complete
 returns-in-Then-clause-complete c end a =
     branch_stays c.args.self.now c.otherwise.new.self c.args.group c.args.token c.args.tokens.now c.args.group.start c.in-Then.test c.args.expr
     c.otherwise.result _ end a c.in-Then.is c.otherwise.ensures.pushed c.otherwise.ensures.opened
+
+pub returns-in-Round-clause-places : goal.returns-in-Round-clause-places
+returns-in-Round-clause-places c source h =
+    let g = c.args.group in
+    let t = c.args.token.span in
+    let m = c.member.result in
+    let p = c.requires.first.piece in
+    placed_later source t.stop _ (around c.args.self.now g) (Some m) c.requires.first.before.next
+    (operand_placed source g.start t.start (around c.args.self.now g) m g.start t.stop c.args.expr h.outside (ap (λ s. s.start) c.member.ensures.span)
+    (ap (λ s. s.stop) c.member.ensures.span) c.member.ensures.expr (omega arith) p (wider g.start t.stop (omega arith) p h.expr))
+
+pub returns-in-If-clause-places : goal.returns-in-If-clause-places
+returns-in-If-clause-places c source h =
+    let to = next_start c.args.tokens.now in
+    let f = c.requires.first in
+    let k = group_later source c.args.token.span.start to c.args.self.now c.args.group c.args.expr (omega (arith, f.piece, f.before.next)) h in
+    c.open.ensures.places source to (in_order k.expr) k.outside (and_placed k.expr none_placed)
+
+pub returns-in-Then-clause-places : goal.returns-in-Then-clause-places
+returns-in-Then-clause-places c source h =
+    let g = c.args.group in
+    let to = next_start c.args.tokens.now in
+    let f = c.requires.first in
+    let k = group_later source c.args.token.span.start to c.args.self.now g c.args.expr (omega (arith, f.piece, f.before.next)) h in
+    c.otherwise.ensures.places source to k.outside (first_placed (subst (ArePlaced source g.start to) (ap items_of c.in-Then.is) k.items)) k.expr
+
+pub returns-then-goes_on-clause-places : goal.returns-then-goes_on-clause-places
+returns-then-goes_on-clause-places c source h =
+    let g = c.args.group in
+    let to = next_start c.args.tokens.now in
+    let f = c.requires.first in
+    let k = group_later source c.args.token.span.start to c.args.self.now g c.args.expr (omega (arith, f.piece, f.before.next)) h in
+    c.item.ensures.places source k.outside
+    (subst (ArePlaced source g.start to) (sym c.in_ok-items-in-Row.ensures.items)
+    (and_last c.in-Row.items.items c.args.expr (subst (ArePlaced source g.start to) (ap items_of c.in-Row.is) k.items) k.expr))
+
+pub returns-else-goes_on-clause-places : goal.returns-else-goes_on-clause-places
+returns-else-goes_on-clause-places c source h =
+    let g = c.args.group in
+    let to = c.args.token.span.stop in
+    let f = c.requires.first in
+    let k = group_later source c.args.token.span.start to c.args.self.now g c.args.expr f.piece h in
+    step_later source to (next_start c.args.tokens.now) c.row.new.self c.row.result f.before.next
+    (c.row.ensures.places source (in_order k.expr) k.outside
+    (subst (ArePlaced source g.start to) (sym c.in_ok-items-in-Row.ensures.items)
+    (and_last c.in-Row.items.items c.args.expr (subst (ArePlaced source g.start to) (ap items_of c.in-Row.is) k.items) k.expr)))
+
+pub returns-then-goes_on-2-clause-places : goal.returns-then-goes_on-2-clause-places
+returns-then-goes_on-2-clause-places c source h =
+    let g = c.args.group in
+    let to = next_start c.args.tokens.now in
+    let f = c.requires.first in
+    let k = group_later source c.args.token.span.start to c.args.self.now g c.args.expr (omega (arith, f.piece, f.before.next)) h in
+    c.field.ensures.places source k.outside
+    (subst (λ ps. ArePlaced source g.start to (map (λ p. p.1) ps)) (sym c.in_ok-pairs-in-Record.ensures.items)
+    (pair_last c.in-Record.pairs.items c.in-Record.key c.args.expr (subst (ArePlaced source g.start to) (ap items_of c.in-Record.is) k.items) k.expr))
+
+pub returns-else-goes_on-2-clause-places : goal.returns-else-goes_on-2-clause-places
+returns-else-goes_on-2-clause-places c source h =
+    let g = c.args.group in
+    let to = c.args.token.span.stop in
+    let f = c.requires.first in
+    let k = group_later source c.args.token.span.start to c.args.self.now g c.args.expr f.piece h in
+    step_later source to (next_start c.args.tokens.now) c.«record».new.self c.«record».result f.before.next
+    (c.«record».ensures.places source (in_order k.expr) k.outside
+    (subst (λ ps. ArePlaced source g.start to (map (λ p. p.1) ps)) (sym c.in_ok-pairs-in-Record.ensures.items)
+    (pair_last c.in-Record.pairs.items c.in-Record.key c.args.expr (subst (ArePlaced source g.start to) (ap items_of c.in-Record.is) k.items) k.expr)))

@@ -1,3 +1,4 @@
+use Rattle.cedar_parser.proofs.Placed.{placed_later}
 use Rattle.std.proofs.Common.{◌≡◌, Err, rules}
 use Rattle.std.proofs.Common.{arith}
 use Rattle.cedar_parser.proofs.AheadSteps.{test_least, test_own}
@@ -63,3 +64,24 @@ returns-in_err-left-clause-complete c t end b =
     let failed : c.from_residual.result ≡ Err x = search rules in
     rw failed (c.in_err-left.ensures.complete c.args.token.kind c.args.token.text.now (here c.args.tokens.now)
     (test_own c.args.token.kind t, test_least c.args.token.kind t, omega arith) b)
+
+pub returns-in-Has-clause-places : goal.returns-in-Has-clause-places
+returns-in-Has-clause-places c source h =
+    let at = c.args.token.span.start in
+    c.has.ensures.places source
+    (placed_later source at _ c.left.new.self (Some c.in_ok-left.left) (omega (arith, c.requires.piece, c.requires.before.next))
+    (c.in_ok-left.ensures.places source at h))
+
+pub returns-in-Like-clause-places : goal.returns-in-Like-clause-places
+returns-in-Like-clause-places c source h =
+    let at = c.args.token.span.start in
+    c.like.ensures.places source
+    (placed_later source at _ c.left.new.self (Some c.in_ok-left.left) (omega (arith, c.requires.piece, c.requires.before.next))
+    (c.in_ok-left.ensures.places source at h))
+
+pub returns-in_default-clause-places : goal.returns-in_default-clause-places
+returns-in_default-clause-places c source h =
+    let at = c.args.token.span.start in
+    c.is.ensures.places source
+    (placed_later source at _ c.left.new.self (Some c.in_ok-left.left) (omega (arith, c.requires.piece, c.requires.before.next))
+    (c.in_ok-left.ensures.places source at h))
