@@ -58,7 +58,7 @@ pub fn is_authorized_partial<X: Ord + Drop, S: EntityStore<X>, T: CallableFuncti
     Ok(judge_all(alloc, evaluator, policies)?.into_response())
 }
 
-// What is counted over policies, and what is left of them.
+// What is counted over policies, and the residual ones.
 #[derive(Drop)]
 struct Judged {
     tally: Tally,
@@ -66,7 +66,7 @@ struct Judged {
 }
 
 impl Judged {
-    // The decision, or what is left.
+    // The decision, or the residual policies.
     fn into_response(self) -> PartialResponse
         ensures decision { (js : List EvaluatedPolicy) → IsTally self.tally js
             → decision_in result ≡ decision js }
@@ -97,7 +97,7 @@ fn judge_all<J: Judge>(alloc: Global, judge: &J, policies: &[Policy]) -> Result<
     Ok(Judged { tally, residual })
 }
 
-// Adds what is left of a policy.
+// Adds the residual of a policy, if it has one.
 fn leave(
     alloc: Global,
     residual: &mut Vec<Policy>,

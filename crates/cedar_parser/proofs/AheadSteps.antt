@@ -17,7 +17,7 @@ use Rattle.cedar_parser.specs.Waiting.{Operator, operator_of, operator_precedenc
 use Rattle.cedar_parser.specs.Ahead.{count, takes_arguments, attribute, index, method, has, like, is, is_of, Step, accessed, operated, tested, Rest, RowGoesOn, GoesOnAfter, closes, ends_path, least_before, own_of}
 use Rattle.cedar_parser.specs.Meant.{AreLexemes, IsNoMinus, IsTestKind, first_kind}
 use Rattle.cedar_parser.proofs.Operators.{none_some, some_one}
-use Rattle.cedar_parser.proofs.Rising.{operator_fits, operator_looser, rest_dead}
+use Rattle.cedar_parser.proofs.Ascending.{operator_fits, operator_looser, rest_dead}
 use Rattle.cedar_parser.proofs.Onward.{IsNoNumber, LooserThan, behind_first, rest_steps, waits_more}
 use Rattle.semantics_grammar.proofs.Words.{word_named}
 

@@ -30,7 +30,7 @@ use Rattle.cedar_parser.specs.declared.groups.RowKind.{RowKind}
 use Rattle.cedar_parser.specs.declared.operand.Operand.{Operand}
 use Rattle.cedar_parser.specs.declared.parser.Parser.{Parser}
 use Rattle.cedar_parser.proofs.TakenSteps.{taken_here, taken_is, untouched_here}
-use Rattle.cedar_parser.proofs.Rising.{kind_at}
+use Rattle.cedar_parser.proofs.Ascending.{kind_at}
 use Rattle.cedar_parser.proofs.Onward.{behind_first}
 use Rattle.cedar_parser.proofs.Resuming.{FieldBegins, field_opened, record_ended, row_ended, row_opened}
 use Rattle.cedar_parser.proofs.WordSteps.{WordAhead, word_ahead}

@@ -40,9 +40,9 @@ use Rattle.cedar_parser.specs.declared.operand.Operand.{Operand}
 use Rattle.cedar_parser.specs.declared.operand.Operation.{Operation}
 use Rattle.cedar_parser.specs.declared.operand.Operation.TheVariants as operations
 use Rattle.cedar_parser.specs.declared.parser.Parser.{Parser}
-use Rattle.cedar_parser.proofs.Machine.{groups_pushed, none_below, waits_pushed}
+use Rattle.cedar_parser.proofs.ParserSteps.{groups_pushed, none_below, waits_pushed}
 use Rattle.cedar_parser.proofs.GroupSteps.{restored}
-use Rattle.cedar_parser.proofs.Rising.{kind_at}
+use Rattle.cedar_parser.proofs.Ascending.{kind_at}
 use Rattle.cedar_parser.proofs.Onward.{IsNoNumber, behind_first, begins_ahead, conditional_ahead, ends, group_ends, negative_ahead, no_sign_ahead, opens, primary_ahead, reduces, sign_ahead, waits_more}
 use Rattle.cedar_parser.proofs.Resuming.{after_digits, item_comma, item_last}
 use Rattle.cedar_parser.proofs.AheadSteps.{infix_ahead, number_alone}

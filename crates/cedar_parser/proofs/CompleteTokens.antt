@@ -17,7 +17,7 @@ use Rattle.cedar_parser.specs.Waiting.{Waiting, method_arguments, Group}
 use Rattle.cedar_parser.specs.Ahead.{Rest, RowGoesOn, ends_path}
 use Rattle.cedar_parser.specs.Meant.{AreLexemes, first_kind, from, here}
 use Rattle.cedar_names.specs.Names.{BareName, IsNameOf, has_reserved}
-use Rattle.cedar_parser.proofs.Rising.{rest_dead}
+use Rattle.cedar_parser.proofs.Ascending.{rest_dead}
 use Rattle.cedar_parser.proofs.Onward.{behind_first}
 use Rattle.cedar_parser.proofs.TakenSteps.{taken_here, untouched_here}
 use Rattle.cedar_parser.proofs.AheadSteps.{DotAhead, KeyAhead, KeysLeft, TestAhead, attribute_ahead, has_ahead, is_ahead, is_in_ahead, like_ahead, method_ahead, rest_ends_path}

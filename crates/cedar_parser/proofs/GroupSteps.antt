@@ -30,7 +30,7 @@ use Rattle.semantics_grammar.specs.Lexemes.{lexeme}
 use Rattle.cedar_parser.specs.Meant.{HasEnd, HasNoValues, IsRecordOperand, IsRowOperand, here}
 use Rattle.cedar_parser.specs.SoFar.{IsOpenUpTo, IsRecordUpTo}
 use Rattle.cedar_parser.specs.Waiting.{Row, in_record, in_row, closing_of}
-use Rattle.cedar_parser.proofs.Machine.{moved, pair}
+use Rattle.cedar_parser.proofs.ParserSteps.{moved, pair}
 use Rattle.cedar_exprs.specs.declared.expr.Expr.{Expr}
 use Rattle.cedar_parser.specs.declared.groups.GroupKind.TheVariants as groups
 use Rattle.cedar_parser.specs.Meant.{IsClosing, IsPushed, IsRecordTree}
@@ -50,7 +50,7 @@ use Rattle.cedar_parser.proofs.Steps.{negative_parsed}
 use Rattle.std.specs.Prelude.{◌⊎◌}
 use Rattle.cedar_parser.specs.SoFar.{IsSign}
 use Rattle.cedar_parser.specs.Waiting.{IsRowTree, Grouped, StandsOn, sign, otherwise, in_brackets, in_test, in_branch}
-use Rattle.cedar_parser.proofs.Machine.{none_below, waits_pushed, groups_pushed}
+use Rattle.cedar_parser.proofs.ParserSteps.{none_below, waits_pushed, groups_pushed}
 use Rattle.cedar_parser.proofs.Steps.{branch_end, brackets_end, field_end, item_end, record_end, row_end, sign_parsed, test_end}
 use Rattle.cedar_terms.specs.declared.ops.UnaryOp.{UnaryOp}
 

@@ -5,7 +5,7 @@ pub mod Levels
 pub mod Operators
 pub mod Waits
 pub mod Steps
-pub mod Machine
+pub mod ParserSteps
 pub mod TakenSteps
 pub mod GroupSteps
 pub mod TokenTexts
@@ -15,7 +15,7 @@ pub mod Paths
 pub mod Records
 pub mod Whole
 pub mod NameSteps
-pub mod Rising
+pub mod Ascending
 pub mod Onward
 pub mod Resuming
 pub mod Words

@@ -26,7 +26,7 @@ use Rattle.cedar_parser.specs.SoFar.{AreRowItems, IsOpenUpTo, IsOpened, IsParsed
 use Rattle.cedar_parser.specs.Waiting.{arguments, in_row, last_of}
 use Rattle.cedar_parser.specs.declared.operand.Operand.{Operand}
 use Rattle.cedar_parser.specs.declared.parser.Parser.{Parser}
-use Rattle.cedar_parser.proofs.Machine.{moved, pair}
+use Rattle.cedar_parser.proofs.ParserSteps.{moved, pair}
 use Rattle.cedar_parser.proofs.Paths.{key_taken, variable_path}
 use Rattle.cedar_parser.proofs.Steps.{before_primary, free, primary_parsed}
 use Rattle.cedar_parser.proofs.TakenSteps.{end_kept, taken_is, test_step, untouched_here}

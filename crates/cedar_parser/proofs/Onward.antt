@@ -17,8 +17,8 @@ use Rattle.semantics_grammar.specs.Grammar as g
 use Rattle.semantics_grammar.specs.Grammar.{Reads}
 use Rattle.cedar_parser.specs.Waiting.{Waiting, sign, between, is_of_in, otherwise, waiting_precedence, least_operand, StandsOn, last_of, Grouped, in_test, Group}
 use Rattle.cedar_parser.specs.SoFar.{AreSigns, IsSign}
-use Rattle.cedar_parser.specs.Ahead.{Step, accessed, operated, tested, Rises, stays, goes, wanted, Whole, Over, Behind, Inside, Through, Around, Rest, SignStarts, Starts, GoesOnAfter, TakesNoSign, closes, own_at, own_of}
-use Rattle.cedar_parser.proofs.Rising.{own_least, operator_fits, step_of, rises_more, rises_then, First, from_primary, from_nots, from_minuses, from_if, first, Dead, Needs, dead_over, operator_looser, kind_at, rest_dead, all_needs}
+use Rattle.cedar_parser.specs.Ahead.{Step, accessed, operated, tested, Ascends, stays, goes, wanted, Whole, Over, Behind, Inside, Through, Around, Rest, SignStarts, Starts, GoesOnAfter, TakesNoSign, closes, own_at, own_of}
+use Rattle.cedar_parser.proofs.Ascending.{own_least, operator_fits, step_of, ascends_more, ascends_then, First, from_primary, from_nots, from_minuses, from_if, first, Dead, Needs, dead_over, operator_looser, kind_at, rest_dead, all_needs}
 
 -- the last of those that wait, and one more
 pub last_next : (below : Option Waiting) (ws : List Waiting) (w : Waiting) → last_of below (ws ++ (w ∷ [])) ≡ Some w
@@ -57,7 +57,7 @@ Steps K below =
     → (n : Precedence) × (mid : List Lexeme) × Step l n (lexeme k v ∷ ts) mid × K n mid
 
 over_steps : (w : Waiting) (K : Precedence → List Lexeme → Type 0) → Dead K → (k : TokenKind) (v : List ℕ) {ts rest : List Lexeme} {l : Precedence}
-    → closes k ≡ false → precedence_number (waiting_precedence w) < own_of k → Rises (wanted (Some w)) l (lexeme k v ∷ ts) rest
+    → closes k ≡ false → precedence_number (waiting_precedence w) < own_of k → Ascends (wanted (Some w)) l (lexeme k v ∷ ts) rest
     → K (waiting_precedence w) rest → (n : Precedence) × (mid : List Lexeme) × Step l n (lexeme k v ∷ ts) mid × Over w K n mid
 over_steps w K d k v {ts = ts} c b (stays h) x = let o = own_least k in absurd (d k v ts (waiting_precedence w) c (omega (arith, b, o)) x)
 over_steps w K d k v {rest = rest} c b (goes {n = n} {mid = mid} h s r) x = (n, mid, s, (rest, r, x))
@@ -66,7 +66,7 @@ steps_over : (w : Waiting) (K : Precedence → List Lexeme → Type 0) → Dead 
 steps_over w K d k v ts l c b x = over_steps w K d k v c b x.1 x.2
 
 whole_steps : (C : List Lexeme → Type 0) → Needs C → (k : TokenKind) (v : List ℕ) {ts rest : List Lexeme} {l : Precedence}
-    → closes k ≡ false → Rises precedences.Conditional l (lexeme k v ∷ ts) rest → C rest
+    → closes k ≡ false → Ascends precedences.Conditional l (lexeme k v ∷ ts) rest → C rest
     → (n : Precedence) × (mid : List Lexeme) × Step l n (lexeme k v ∷ ts) mid × Whole C n mid
 whole_steps C d k v {ts = ts} c (stays h) x = absurd (d k v ts c x)
 whole_steps C d k v {rest = rest} c (goes {n = n} {mid = mid} h s r) x = (n, mid, s, (rest, r, x))
@@ -86,7 +86,7 @@ rest_steps gs ws =
 
 -- what waits is applied where the token that follows binds no more tightly
 over_reduces : (w : Waiting) (K : Precedence → List Lexeme → Type 0) (l : Precedence) (ts : List Lexeme) {rest : List Lexeme}
-    → own_at ts ≤ precedence_number (waiting_precedence w) → Rises (wanted (Some w)) l ts rest → K (waiting_precedence w) rest → K (waiting_precedence w) ts
+    → own_at ts ≤ precedence_number (waiting_precedence w) → Ascends (wanted (Some w)) l ts rest → K (waiting_precedence w) rest → K (waiting_precedence w) ts
 over_reduces w K l ts b (stays h) x = x
 over_reduces w K l ts b (goes {n = n} h s r) x = let f = step_of s in absurd (no_step w (precedence_number n) h (omega (arith, b, f.own)) f.some f.apart)
   where
@@ -104,7 +104,7 @@ reduces gs ws w l ts b h =
     over_reduces w (Rest gs ws) l ts b x.1 x.2
 
 -- an expression ends where nothing goes on
-whole_ends : (C : List Lexeme → Type 0) (l : Precedence) (ts : List Lexeme) {rest : List Lexeme} → own_at ts ≡ 0 → Rises precedences.Conditional l ts rest
+whole_ends : (C : List Lexeme → Type 0) (l : Precedence) (ts : List Lexeme) {rest : List Lexeme} → own_at ts ≡ 0 → Ascends precedences.Conditional l ts rest
     → C rest → C ts
 whole_ends C l ts b (stays h) x = x
 whole_ends C l ts b (goes h s r) x = let f = step_of s in absurd (omega (arith, b, f.own, f.some))
@@ -121,10 +121,10 @@ group_ends gs ws x l ts b h = group_unpack gs (ws, x) (λ ts. ts ≡ []) ts (end
 
 -- an operand that was begun goes on
 abbrev pub Joins : (Precedence → List Lexeme → Type 0) → Option Waiting → Type 0
-Joins K below = (l : Precedence) (ts mid : List Lexeme) → Rises (wanted below) l ts mid → K (wanted below) mid → K l ts
+Joins K below = (l : Precedence) (ts mid : List Lexeme) → Ascends (wanted below) l ts mid → K (wanted below) mid → K l ts
 
 joins_over : (w : Waiting) (K : Precedence → List Lexeme → Type 0) → Joins (Over w K) (Some w)
-joins_over w K l ts mid r x = (x.0, rises_then (omega arith) r (λ n h. rises_more h x.1), x.2)
+joins_over w K l ts mid r x = (x.0, ascends_then (omega arith) r (λ n h. ascends_more h x.1), x.2)
 
 joins_behind : (ws : List Waiting) (K : Precedence → List Lexeme → Type 0) (below : Option Waiting) → Joins K below → Joins (Behind ws K) (last_of below ws)
 joins_behind [] K below j = j
@@ -133,7 +133,7 @@ joins_behind (w ∷ ws) K below j = joins_behind ws (Over w K) (Some w) (joins_o
 pub rest_joins : (gs : List Group) (ws : List Waiting) → Joins (Rest gs ws) (last_of None ws)
 rest_joins gs ws =
     let C = Around gs (λ ts. ts ≡ []) in
-    joins_behind ws (Whole C) None (λ l ts mid r x. (x.0, rises_then (omega arith) r (λ n h. rises_more h x.1), x.2))
+    joins_behind ws (Whole C) None (λ l ts mid r x. (x.0, ascends_then (omega arith) r (λ n h. ascends_more h x.1), x.2))
 
 -- one more waits
 pub waits_more : (gs : List Group) (ws : List Waiting) (w : Waiting) (ts mid : List Lexeme) → Starts (Some w) ts mid → Rest gs ws (waiting_precedence w) mid
@@ -202,7 +202,7 @@ signs_kind Unary.IsEmpty n ts rest e p = absurd p
 
 -- an expression that begins with a primary goes on from it
 begun : {m : Precedence} {ts rest : List Lexeme} → begins_primary (kind_at ts) ≡ true → First m ts rest
-    → (a : BareExpr) × (mid : List Lexeme) × g.Primary ts a mid × Rises m precedences.Member mid rest
+    → (a : BareExpr) × (mid : List Lexeme) × g.Primary ts a mid × Ascends m precedences.Member mid rest
 begun b (from_primary {a = a} {mid = mid} p r) = (a, mid, p, r)
 begun {ts = ts} b (from_nots n h p r) = absurd (sign_no_primary (kind_at ts) (ap begins_sign (not_kind p)) b)
 begun {ts = ts} b (from_minuses n h p r) = absurd (sign_no_primary (kind_at ts) (ap begins_sign (minus_kind p)) b)
@@ -217,7 +217,7 @@ starts_primary : (K : Precedence → List Lexeme → Type 0) (below : Option Wai
     → IsNoNumber K below ts → Starts below ts mid → K (wanted below) mid → (a : BareExpr) × (from : List Lexeme) × g.Primary ts a from × K precedences.Member from
 starts_primary K (Some (sign op n)) ts mid j b f (inl h) x =
     let p = begun b (first h.1) in
-    (p.0, p.1, p.2, j precedences.Member p.1 mid (rises_then (omega arith) p.3 (λ q k. stays (omega (arith, k)))) x)
+    (p.0, p.1, p.2, j precedences.Member p.1 mid (ascends_then (omega arith) p.3 (λ q k. stays (omega (arith, k)))) x)
 starts_primary K (Some (sign op n)) ts mid j b f (inr (inl h)) x = absurd (sign_no_primary (kind_at ts) (signs_kind op h.0 ts mid h.1 h.3) b)
 starts_primary K (Some (sign op n)) ts mid j b f (inr (inr h)) x =
     absurd (f n h.0 mid (ap (λ o. Some (sign o n)) h.1) h.3 x)
@@ -277,18 +277,18 @@ record BeginsWithSign (op : UnaryOp) (m : Precedence) (ts rest : List Lexeme) : 
   four : signs ≤ 4
   six : precedence_number m ≤ 6
   are : AreSigns op signs ts tree mid
-  rises : Rises m precedences.Unary mid rest
+  ascends : Ascends m precedences.Unary mid rest
 
 sign_begins : (op : UnaryOp) {m : Precedence} {ts rest : List Lexeme} → IsSign op (kind_at ts) → First m ts rest → BeginsWithSign op m ts rest
 sign_begins Unary.IsEmpty s f = absurd s
 sign_begins Unary.Not s (from_primary p r) = absurd (false≢true (sym (ap begins_primary s) ∙ primary_kind p))
 sign_begins Unary.Not s (from_nots {n = n} {a = a} {mid = mid} h k p r) =
-    record { signs = n; tree = a; mid = mid; four = h; six = k; are = p; rises = r }
+    record { signs = n; tree = a; mid = mid; four = h; six = k; are = p; ascends = r }
 sign_begins Unary.Not s (from_minuses h k p r) = absurd (false≢true (sym (ap is_minus s) ∙ ap is_minus (minus_kind p)))
 sign_begins Unary.Not s (from_if e t p q r) = absurd (false≢true (sym (ap (λ us. is_not (kind_at us)) t) ∙ ap is_not s))
 sign_begins Unary.Neg s (from_primary p r) = absurd (false≢true (sym (ap begins_primary s) ∙ primary_kind p))
 sign_begins Unary.Neg s (from_minuses {n = n} {a = a} {mid = mid} h k p r) =
-    record { signs = n; tree = a; mid = mid; four = h; six = k; are = p; rises = r }
+    record { signs = n; tree = a; mid = mid; four = h; six = k; are = p; ascends = r }
 sign_begins Unary.Neg s (from_nots h k p r) = absurd (false≢true (sym (ap is_not s) ∙ ap is_not (not_kind p)))
 sign_begins Unary.Neg s (from_if e t p q r) = absurd (false≢true (sym (ap (λ us. is_minus (kind_at us)) t) ∙ ap is_minus s))
 
@@ -303,7 +303,7 @@ module _ (K : Precedence → List Lexeme → Type 0) (op : UnaryOp) (k : TokenKi
       → (from : List Lexeme) × SignStarts op n ts from × K precedences.Unary from
   sign_first below j z p x =
       let b = sign_begins op is (first p) in
-      (b.mid, signs_less op b.signs n k w ts b.mid b.tree (omega (arith, b.four, z)) b.are, j precedences.Unary b.mid mid b.rises x)
+      (b.mid, signs_less op b.signs n k w ts b.mid b.tree (omega (arith, b.four, z)) b.are, j precedences.Unary b.mid mid b.ascends x)
 
   starts_sign : (below : Option Waiting) → Joins K below → StandsOn below (sign op n) → Starts below (lexeme k w ∷ ts) mid → K (wanted below) mid
       → (from : List Lexeme) × SignStarts op n ts from × K precedences.Unary from
@@ -372,7 +372,7 @@ behind_first [] = []
 behind_first (t ∷ ts) = ts
 
 -- a sign goes on from its operand alone
-unary_stays : {l : Precedence} {ts rest : List Lexeme} → precedence_number l ≤ 6 → Rises precedences.Unary l ts rest → rest ≡ ts
+unary_stays : {l : Precedence} {ts rest : List Lexeme} → precedence_number l ≤ 6 → Ascends precedences.Unary l ts rest → rest ≡ ts
 unary_stays h (stays k) = refl
 unary_stays h (goes {n = n} k (accessed a b x) r) = let e = ap precedence_number a in absurd (omega (arith, h, e))
 unary_stays h (goes {n = n} k (operated o e t b p) r) =

@@ -20,7 +20,7 @@ use Rattle.semantics_grammar.specs.Grammar.{Fields, Items, Reads}
 use Rattle.cedar_parser.specs.Waiting.{Waiting, Row, members, arguments, method_arguments, closing_of, in_row, in_record, Group}
 use Rattle.cedar_parser.specs.Ahead.{count, takes_arguments, Access, attribute, index, method, Test, has, like, is, is_of, Step, accessed, operated, tested, RowTakes, keys, ItemsAfter, FieldsAfter, Inside, Rest, GoesOnAfter, RowGoesOn, RecordGoesOn, closes, least_before, own_of}
 use Rattle.cedar_parser.specs.Ahead as ahead
-use Rattle.cedar_parser.proofs.Rising.{kind_at}
+use Rattle.cedar_parser.proofs.Ascending.{kind_at}
 use Rattle.cedar_parser.proofs.Onward.{begins_expression, opens, reads_kind}
 
 -- ---- primaries by their first token

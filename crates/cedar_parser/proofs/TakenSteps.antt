@@ -48,7 +48,7 @@ use Rattle.semantics_grammar.specs.Grammar as grammar
 use Rattle.semantics_grammar.specs.Written.{ArePathIds, IsPath}
 use Rattle.cedar_parser.specs.Meant.{from}
 use Rattle.cedar_parser.specs.Waiting.{is_of_in}
-use Rattle.cedar_parser.proofs.Machine.{moved, pair, waits_pushed}
+use Rattle.cedar_parser.proofs.ParserSteps.{moved, pair, waits_pushed}
 use Rattle.cedar_parser.proofs.Steps.{access_parsed, is_in_parsed, test_parsed, key_parsed, method_parsed, record_ends, row_ends}
 
 pub taken_here : (old new : TokenStream) (t : Token) → IsTaken old t new → here old ≡ lexeme_of t ∷ here new

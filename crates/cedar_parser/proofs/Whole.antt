@@ -13,7 +13,7 @@ use Rattle.semantics_grammar.specs.Lexemes.{Lexeme, lexemes_of}
 use Rattle.cedar_parser.specs.Meant.{AreLexemes, HasNoValues, IsParse, IsParsed, here, open_group, open_groups, waiting, waits}
 use Rattle.cedar_parser.specs.declared.operand.Operand.{Operand}
 use Rattle.cedar_parser.specs.declared.parser.Parser.{Parser}
-use Rattle.cedar_parser.proofs.Machine.{moved}
+use Rattle.cedar_parser.proofs.ParserSteps.{moved}
 use Rattle.cedar_parser.proofs.Steps.{nothing_parsed}
 
 -- the tokens of a text are tokens of their kinds

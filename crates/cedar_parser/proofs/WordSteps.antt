@@ -14,7 +14,7 @@ use Rattle.semantics_grammar.specs.Grammar.{Items}
 use Rattle.cedar_parser.specs.Waiting.{Waiting, arguments, last_of, Group}
 use Rattle.cedar_parser.specs.Ahead.{GoesOnAfter, Rest, RowGoesOn, ends_path}
 use Rattle.cedar_parser.specs.Meant.{first_kind}
-use Rattle.cedar_parser.proofs.Rising.{rest_dead}
+use Rattle.cedar_parser.proofs.Ascending.{rest_dead}
 use Rattle.cedar_parser.proofs.Onward.{behind_first, no_number, primary_ahead}
 use Rattle.cedar_parser.proofs.Resuming.{AfterWord, after_word, is_call, is_entity, is_variable}
 use Rattle.cedar_parser.proofs.AheadSteps.{rest_ends_path}

@@ -59,10 +59,10 @@ pub data Step : Precedence → Precedence → List Lexeme → List Lexeme → Ty
   tested : {l m : Precedence} {ts rest : List Lexeme} → 4 ≤ precedence_number l → m ≡ precedences.Relation → Test ts rest → Step l m ts rest
 
 -- an operand of a precedence goes on to an expression that binds at least as tightly as `m`
-pub data Rises (m : Precedence) : Precedence → List Lexeme → List Lexeme → Type 0 where
-  stays : {l : Precedence} {rest : List Lexeme} → precedence_number m ≤ precedence_number l → Rises m l rest rest
-  goes : {l n : Precedence} {ts mid rest : List Lexeme} → precedence_number m ≤ precedence_number n → Step l n ts mid → Rises m n mid rest
-      → Rises m l ts rest
+pub data Ascends (m : Precedence) : Precedence → List Lexeme → List Lexeme → Type 0 where
+  stays : {l : Precedence} {rest : List Lexeme} → precedence_number m ≤ precedence_number l → Ascends m l rest rest
+  goes : {l n : Precedence} {ts mid rest : List Lexeme} → precedence_number m ≤ precedence_number n → Step l n ts mid → Ascends m n mid rest
+      → Ascends m l ts rest
 
 -- the least precedence of the last operand of what waits
 abbrev pub wanted : Option Waiting → Precedence
@@ -74,11 +74,11 @@ wanted (Some (otherwise a b)) = precedences.Conditional
 
 -- an operand goes on to a whole expression, behind which the rest may stand
 abbrev pub Whole : (List Lexeme → Type 0) → Precedence → List Lexeme → Type 0
-Whole C l ts = (rest : List Lexeme) × Rises precedences.Conditional l ts rest × C rest
+Whole C l ts = (rest : List Lexeme) × Ascends precedences.Conditional l ts rest × C rest
 
 -- an operand goes on to the last operand of what waits, and what they are together goes on
 abbrev pub Over : Waiting → (Precedence → List Lexeme → Type 0) → Precedence → List Lexeme → Type 0
-Over w K l ts = (rest : List Lexeme) × Rises (wanted (Some w)) l ts rest × K (waiting_precedence w) rest
+Over w K l ts = (rest : List Lexeme) × Ascends (wanted (Some w)) l ts rest × K (waiting_precedence w) rest
 
 -- the same of all that waits
 abbrev pub Behind : List Waiting → (Precedence → List Lexeme → Type 0) → Precedence → List Lexeme → Type 0

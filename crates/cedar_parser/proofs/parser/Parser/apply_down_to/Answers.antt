@@ -3,7 +3,7 @@ use Rattle.cedar_parser.proofs.CompleteSteps.{applied_behind}
 use Rattle.cedar_parser.proofs.parser.Parser.apply_down_to.Goals as goal
 use Rattle.std.proofs.Common.{Some, arith, subst, sym, ap, ◌∙◌, ◌≤◌}
 use Rattle.cedar_parser.specs.Meant.{IsParsed}
-use Rattle.cedar_parser.proofs.Machine.{applied_parsed}
+use Rattle.cedar_parser.proofs.ParserSteps.{applied_parsed}
 use Rattle.cedar_parser.proofs.Placed.{applied_placed}
 use Rattle.cedar_parser.specs.Places.{ArePlaced, IsPlaced, IsPlacedUpTo, operands_of, source_of}
 use Rattle.cedar_parser.specs.Refused.{start_of}

@@ -1,5 +1,5 @@
 use Rattle.cedar_parser.proofs.Placed.{closing_placed}
-use Rattle.cedar_parser.proofs.Machine.{none_below}
+use Rattle.cedar_parser.proofs.ParserSteps.{none_below}
 use Rattle.cedar_parser.specs.Meant.{waits}
 use Rattle.std.proofs.Common.{rules}
 use Rattle.cedar_parser.proofs.CompleteSteps.{closing_resumed, none_open, some_left}

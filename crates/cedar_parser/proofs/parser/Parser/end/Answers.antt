@@ -7,7 +7,7 @@ use Rattle.cedar_parser.proofs.CompleteSteps.{ahead_operand, none_begins, open_g
 use Rattle.cedar_parser.proofs.parser.Parser.end.Goals as goal
 use Rattle.std.proofs.Common.{[], subst, sym, ◌∙◌}
 use Rattle.cedar_parser.specs.Meant.{IsParsed}
-use Rattle.cedar_parser.proofs.Machine.{ended, none_left}
+use Rattle.cedar_parser.proofs.ParserSteps.{ended, none_left}
 
 pub returns-in-None-clause-parses : goal.returns-in-None-clause-parses
 returns-in-None-clause-parses c ts h =

@@ -3,14 +3,14 @@ use Rattle.cedar_parser.specs.Places.{and_placed, none_placed}
 use Rattle.cedar_parser.specs.declared.operand.Operation.TheVariants as operations
 use Rattle.std.proofs.Common.{◌≡◌, Err, rules}
 use Rattle.cedar_parser.proofs.CompleteSteps.{infix_pushed}
-use Rattle.cedar_parser.proofs.Rising.{operator_fits}
+use Rattle.cedar_parser.proofs.Ascending.{operator_fits}
 use Rattle.std.proofs.Common.{◌∙◌, ap, sym, arith}
 use Rattle.cedar_parser.proofs.parser.Parser.«infix».Goals as goal
 use Rattle.std.proofs.Common.{◌∷◌, ◌≤◌, refl, subst}
 use Rattle.cedar_terms.specs.Precedences.{precedence_number}
 use Rattle.semantics_grammar.specs.Lexemes.{lexeme_of}
 use Rattle.cedar_parser.specs.Meant.{WaitsBelow}
-use Rattle.cedar_parser.proofs.Machine.{infix_parsed}
+use Rattle.cedar_parser.proofs.ParserSteps.{infix_parsed}
 
 pub returns-clause-parses : goal.returns-clause-parses
 returns-clause-parses c ts rest h is =

@@ -7,7 +7,7 @@ use Rattle.std.proofs.Common.{◌∙◌, ap}
 use Rattle.cedar_builders.specs.BareExpr.{Lit}
 use Rattle.cedar_exprs.specs.BareExpr.{bare_expr}
 use Rattle.cedar_terms.specs.Literals.{bare_literal}
-use Rattle.cedar_parser.proofs.Machine.{literal_parsed}
+use Rattle.cedar_parser.proofs.ParserSteps.{literal_parsed}
 
 pub returns-clause-parses : goal.returns-clause-parses
 returns-clause-parses c ts rest h p f =

@@ -2,7 +2,7 @@ use Rattle.cedar_parser.proofs.Placed.{group_placed}
 use Rattle.cedar_parser.proofs.CompleteSteps.{group_opened}
 use Rattle.cedar_parser.proofs.parser.Parser.open.Goals as goal
 use Rattle.std.proofs.Common.{◌∙◌, ap, refl}
-use Rattle.cedar_parser.proofs.Machine.{opened_parsed}
+use Rattle.cedar_parser.proofs.ParserSteps.{opened_parsed}
 
 pub returns-clause-parses : goal.returns-clause-parses
 returns-clause-parses c ts rest h =

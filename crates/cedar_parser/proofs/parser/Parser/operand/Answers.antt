@@ -15,7 +15,7 @@ use Rattle.cedar_exprs.specs.BareExpr.{bare_expr}
 use Rattle.cedar_terms.specs.Literals.{BoolLit, StringLit}
 use Rattle.std.specs.Rc.{rc_str_bytes}
 use Rattle.cedar_lexer.specs.Grammar.{IsTokenText}
-use Rattle.cedar_parser.proofs.Machine.{literal_parsed}
+use Rattle.cedar_parser.proofs.ParserSteps.{literal_parsed}
 use Rattle.cedar_lexer.specs.declared.token.TokenKind.TheVariants as kinds
 use Rattle.semantics_grammar.specs.Grammar as grammar
 use Rattle.semantics_grammar.specs.Lexemes.{lexeme, lexeme_of}

@@ -7,7 +7,7 @@ use Rattle.cedar_parser.specs.declared.parser.Parser.{Parser}
 use Rattle.cedar_parser.proofs.Placed.{wait_left}
 use Rattle.std.proofs.Common.{refl, subst, sym}
 use Rattle.cedar_parser.specs.Meant.{IsNoMinus}
-use Rattle.cedar_parser.proofs.Machine.{parser_last}
+use Rattle.cedar_parser.proofs.ParserSteps.{parser_last}
 use Rattle.cedar_parser.proofs.parser.Parser.pop_minus.Goals as goal
 
 pub returns-in-None-minus-clause-pops : goal.returns-in-None-minus-clause-pops

@@ -1,7 +1,7 @@
 use Rattle.cedar_parser.proofs.parser.Parser.pop_operation.Goals as goal
 use Rattle.std.proofs.Common.{ap, arith, refl}
 use Rattle.cedar_terms.specs.Precedences.{precedence_number}
-use Rattle.cedar_parser.proofs.Machine.{below_last}
+use Rattle.cedar_parser.proofs.ParserSteps.{below_last}
 
 pub returns-then-number-clause-pops : goal.returns-then-number-clause-pops
 returns-then-number-clause-pops c = (

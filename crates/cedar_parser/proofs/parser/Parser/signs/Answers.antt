@@ -4,7 +4,7 @@ use Rattle.cedar_parser.specs.Ahead.{TakesNoSign}
 use Rattle.cedar_parser.proofs.parser.Parser.signs.Goals as goal
 use Rattle.std.proofs.Common.{◌<◌, IfOk, subst, sym}
 use Rattle.cedar_parser.specs.Waiting.{StandsOn, sign}
-use Rattle.cedar_parser.proofs.Machine.{parser_last}
+use Rattle.cedar_parser.proofs.ParserSteps.{parser_last}
 
 pub returns-in-Some-clause-counts : goal.returns-in-Some-clause-counts
 returns-in-Some-clause-counts c =

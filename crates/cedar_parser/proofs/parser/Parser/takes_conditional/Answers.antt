@@ -1,7 +1,7 @@
 use Rattle.cedar_parser.proofs.parser.Parser.takes_conditional.Goals as goal
 use Rattle.std.proofs.Common.{◌≤◌, IsTrue, subst, sym}
 use Rattle.cedar_parser.specs.Waiting.{least_operand}
-use Rattle.cedar_parser.proofs.Machine.{parser_last}
+use Rattle.cedar_parser.proofs.ParserSteps.{parser_last}
 
 pub returns-in-Some-clause-fits : goal.returns-in-Some-clause-fits
 returns-in-Some-clause-fits c =

@@ -17,7 +17,7 @@ use Rattle.semantics_grammar.specs.Written.{binary_or_call, is_empty_tree, metho
 use Rattle.semantics_grammar.specs.Grammar as g
 use Rattle.semantics_grammar.specs.Grammar.{Reads, GoesOn, no_operator, or, and, plus, minus, times, Tests, Accesses}
 use Rattle.cedar_parser.specs.Waiting.{Operator, either, both, plain, negated, operator_of, operator_precedences, Waiting, sign, between, is_of_in, otherwise, waiting_precedence, Row, members, arguments, method_arguments, closing_of, Grouped, in_brackets, in_test, in_branch, in_row, in_record, Group}
-use Rattle.cedar_parser.specs.Ahead.{count, one_or_any, attribute, index, method, has, like, is, is_of, Step, accessed, operated, tested, Rises, stays, goes, wanted, Whole, Over, Behind, ItemsAfter, no_more, more, FieldsAfter, Inside, Through, Around, Rest, closes, least_at, least_before, own_at, own_of}
+use Rattle.cedar_parser.specs.Ahead.{count, one_or_any, attribute, index, method, has, like, is, is_of, Step, accessed, operated, tested, Ascends, stays, goes, wanted, Whole, Over, Behind, ItemsAfter, no_more, more, FieldsAfter, Inside, Through, Around, Rest, closes, least_at, least_before, own_at, own_of}
 use Rattle.cedar_parser.proofs.Operators.{none_some, some_one}
 
 -- ---- tokens
@@ -134,14 +134,14 @@ step_more {n = n} h (accessed a b x) =
 step_more h (operated o e k b p) = operated o e (omega (arith, h, k)) b p
 step_more h (tested k b x) = tested (omega (arith, h, k)) b x
 
-pub rises_more : {m l n : Precedence} {ts rest : List Lexeme} → precedence_number l ≤ precedence_number n → Rises m l ts rest → Rises m n ts rest
-rises_more h (stays k) = stays (omega (arith, h, k))
-rises_more h (goes k s r) = goes k (step_more h s) r
+pub ascends_more : {m l n : Precedence} {ts rest : List Lexeme} → precedence_number l ≤ precedence_number n → Ascends m l ts rest → Ascends m n ts rest
+ascends_more h (stays k) = stays (omega (arith, h, k))
+ascends_more h (goes k s r) = goes k (step_more h s) r
 
-pub rises_then : {m p l : Precedence} {ts mid rest : List Lexeme} → precedence_number p ≤ precedence_number m → Rises m l ts mid
-    → ((n : Precedence) → precedence_number m ≤ precedence_number n → Rises p n mid rest) → Rises p l ts rest
-rises_then {l = l} h (stays k) q = q l k
-rises_then h (goes k s r) q = goes (omega (arith, h, k)) s (rises_then h r q)
+pub ascends_then : {m p l : Precedence} {ts mid rest : List Lexeme} → precedence_number p ≤ precedence_number m → Ascends m l ts mid
+    → ((n : Precedence) → precedence_number m ≤ precedence_number n → Ascends p n mid rest) → Ascends p l ts rest
+ascends_then {l = l} h (stays k) q = q l k
+ascends_then h (goes k s r) q = goes (omega (arith, h, k)) s (ascends_then h r q)
 
 -- ---- the number of arguments
 
@@ -156,25 +156,25 @@ method_fits false (Some op) n a x (tree b (tree c cs)) e = absurd (none_some e)
 
 -- ---- readings as steps
 
-rising : {l : Precedence} {ts rest : List Lexeme} {a e : BareExpr} → GoesOn l ts a e rest → (n : Precedence)
-    → precedence_number l ≤ precedence_number n → Rises l n ts rest
-rising no_operator n h = stays h
-rising (or p q) n h = goes (omega arith) (operated either refl (omega (arith, h)) refl p) (rising q precedences.Or (omega arith))
-rising (and p q) n h = goes (omega arith) (operated both refl (omega (arith, h)) refl p) (rising q precedences.And (omega arith))
-rising (plus p q) n h = goes (omega arith) (operated (plain Binary.Add) refl (omega (arith, h)) refl p) (rising q precedences.Sum (omega arith))
-rising (minus p q) n h = goes (omega arith) (operated (plain Binary.Sub) refl (omega (arith, h)) refl p) (rising q precedences.Sum (omega arith))
-rising (times p q) n h = goes (omega arith) (operated (plain Binary.Mul) refl (omega (arith, h)) refl p) (rising q precedences.Product (omega arith))
+ascending : {l : Precedence} {ts rest : List Lexeme} {a e : BareExpr} → GoesOn l ts a e rest → (n : Precedence)
+    → precedence_number l ≤ precedence_number n → Ascends l n ts rest
+ascending no_operator n h = stays h
+ascending (or p q) n h = goes (omega arith) (operated either refl (omega (arith, h)) refl p) (ascending q precedences.Or (omega arith))
+ascending (and p q) n h = goes (omega arith) (operated both refl (omega (arith, h)) refl p) (ascending q precedences.And (omega arith))
+ascending (plus p q) n h = goes (omega arith) (operated (plain Binary.Add) refl (omega (arith, h)) refl p) (ascending q precedences.Sum (omega arith))
+ascending (minus p q) n h = goes (omega arith) (operated (plain Binary.Sub) refl (omega (arith, h)) refl p) (ascending q precedences.Sum (omega arith))
+ascending (times p q) n h = goes (omega arith) (operated (plain Binary.Mul) refl (omega (arith, h)) refl p) (ascending q precedences.Product (omega arith))
 
 compares : (k : TokenKind) (w : List ℕ) (o : Operator) {ts rest : List Lexeme} {b : BareExpr} → operator_of k ≡ Some o
     → operator_precedences o ≡ (precedences.Relation, precedences.Sum, precedences.Sum) → Reads precedences.Sum ts b rest → (n : Precedence) → 4 ≤ precedence_number n
-    → Rises precedences.Relation n (lexeme k w ∷ ts) rest
+    → Ascends precedences.Relation n (lexeme k w ∷ ts) rest
 compares k w o {ts = ts} {rest = rest} {b = b} e f p n h =
     let x : precedence_number (operator_precedences o).1 ≡ 4 = ap (λ t. precedence_number t.1) f in
     let y : precedences.Relation ≡ (operator_precedences o).0 = sym (ap (λ t. t.0) f) in
     goes {n = precedences.Relation} (omega arith)
     (operated o e (omega (arith, h, x)) y (subst (λ l. Reads l ts b rest) (sym (ap (λ t. t.2) f)) p)) (stays (omega arith))
 
-testing : {ts rest : List Lexeme} {a e : BareExpr} → Tests ts a e rest → (n : Precedence) → 4 ≤ precedence_number n → Rises precedences.Relation n ts rest
+testing : {ts rest : List Lexeme} {a e : BareExpr} → Tests ts a e rest → (n : Precedence) → 4 ≤ precedence_number n → Ascends precedences.Relation n ts rest
 testing g.no_test n h = stays (omega (arith, h))
 testing (g.equal {w = w} p) n h = compares kinds.Equal w (plain Binary.Eq) refl refl p n h
 testing (g.not_equal {w = w} p) n h = compares kinds.NotEqual w (negated Binary.Eq) refl refl p n h
@@ -188,7 +188,7 @@ testing (g.like p) n h = goes {n = precedences.Relation} (omega arith) (tested h
 testing (g.is p) n h = goes {n = precedences.Relation} (omega arith) (tested h refl (is p)) (stays (omega arith))
 testing (g.is_of_in p q) n h = goes {n = precedences.Relation} (omega arith) (tested h refl (is_of p q)) (stays (omega arith))
 
-accessing : {ts rest : List Lexeme} {a e : BareExpr} → Accesses ts a e rest → Rises precedences.Member precedences.Member ts rest
+accessing : {ts rest : List Lexeme} {a e : BareExpr} → Accesses ts a e rest → Ascends precedences.Member precedences.Member ts rest
 accessing g.no_access = stays (omega arith)
 accessing (g.attribute p) = goes (omega arith) (accessed refl refl attribute) (accessing p)
 accessing (g.index t p) = goes (omega arith) (accessed refl refl (index t)) (accessing p)
@@ -199,30 +199,30 @@ accessing (g.method {m = m} {a = a} {b = b} {es = es} n i w t p) =
 
 -- an expression begins with a primary, with signs or with `if`, and goes on from there
 pub data First (m : Precedence) (ts rest : List Lexeme) : Type 0 where
-  from_primary : {a : BareExpr} {mid : List Lexeme} → g.Primary ts a mid → Rises m precedences.Member mid rest → First m ts rest
-  from_nots : {n : ℕ} {a : BareExpr} {mid : List Lexeme} → n ≤ 4 → precedence_number m ≤ 6 → g.Nots n ts a mid → Rises m precedences.Unary mid rest
+  from_primary : {a : BareExpr} {mid : List Lexeme} → g.Primary ts a mid → Ascends m precedences.Member mid rest → First m ts rest
+  from_nots : {n : ℕ} {a : BareExpr} {mid : List Lexeme} → n ≤ 4 → precedence_number m ≤ 6 → g.Nots n ts a mid → Ascends m precedences.Unary mid rest
       → First m ts rest
   from_minuses : {n : ℕ} {a : BareExpr} {mid : List Lexeme} → n ≤ 4 → precedence_number m ≤ 6 → g.Minuses n ts a mid
-      → Rises m precedences.Unary mid rest → First m ts rest
+      → Ascends m precedences.Unary mid rest → First m ts rest
   from_if : {i t e : List ℕ} {a b c : BareExpr} {us vs xs : List Lexeme} → m ≡ precedences.Conditional → ts ≡ lexeme kinds.If i ∷ us
       → Reads precedences.Conditional us a (lexeme kinds.Then t ∷ vs) → Reads precedences.Conditional vs b (lexeme kinds.Else e ∷ xs)
       → Reads precedences.Conditional xs c rest → First m ts rest
 
 first_on : {m p : Precedence} {ts mid rest : List Lexeme} → First m ts mid → 1 ≤ precedence_number m → precedence_number p ≤ precedence_number m
-    → precedence_number p ≤ 6 → ((n : Precedence) → precedence_number m ≤ precedence_number n → Rises p n mid rest) → First p ts rest
-first_on (from_primary q r) one le six h = from_primary q (rises_then le r h)
-first_on (from_nots n k q r) one le six h = from_nots n six q (rises_then le r h)
-first_on (from_minuses n k q r) one le six h = from_minuses n six q (rises_then le r h)
+    → precedence_number p ≤ 6 → ((n : Precedence) → precedence_number m ≤ precedence_number n → Ascends p n mid rest) → First p ts rest
+first_on (from_primary q r) one le six h = from_primary q (ascends_then le r h)
+first_on (from_nots n k q r) one le six h = from_nots n six q (ascends_then le r h)
+first_on (from_minuses n k q r) one le six h = from_minuses n six q (ascends_then le r h)
 first_on (from_if e t p q r) one le six h = let x = ap precedence_number e in absurd (omega (arith, one, x))
 
 pub first : {m : Precedence} {ts rest : List Lexeme} {e : BareExpr} → Reads m ts e rest → First m ts rest
 first (g.conditional p q r) = from_if refl refl p q r
 first (g.no_conditional p) = first_on (first p) (omega arith) (omega arith) (omega arith) (λ n h. stays (omega arith))
-first (g.disjunction p q) = first_on (first p) (omega arith) (omega arith) (omega arith) (λ n h. rising q n (omega (arith, h)))
-first (g.conjunction p q) = first_on (first p) (omega arith) (omega arith) (omega arith) (λ n h. rising q n (omega (arith, h)))
+first (g.disjunction p q) = first_on (first p) (omega arith) (omega arith) (omega arith) (λ n h. ascending q n (omega (arith, h)))
+first (g.conjunction p q) = first_on (first p) (omega arith) (omega arith) (omega arith) (λ n h. ascending q n (omega (arith, h)))
 first (g.relation p q) = first_on (first p) (omega arith) (omega arith) (omega arith) (λ n h. testing q n h)
-first (g.sum p q) = first_on (first p) (omega arith) (omega arith) (omega arith) (λ n h. rising q n (omega (arith, h)))
-first (g.product p q) = first_on (first p) (omega arith) (omega arith) (omega arith) (λ n h. rising q n (omega (arith, h)))
+first (g.sum p q) = first_on (first p) (omega arith) (omega arith) (omega arith) (λ n h. ascending q n (omega (arith, h)))
+first (g.product p q) = first_on (first p) (omega arith) (omega arith) (omega arith) (λ n h. ascending q n (omega (arith, h)))
 first (g.no_sign p) = first_on (first p) (omega arith) (omega arith) (omega arith) (λ n h. stays (omega (arith, h)))
 first (g.nots h p) = from_nots h (omega arith) p (stays (omega arith))
 first (g.minuses h p) = from_minuses h (omega arith) p (stays (omega arith))
@@ -240,7 +240,7 @@ abbrev pub Needs : (List Lexeme → Type 0) → Type 0
 Needs C = (k : TokenKind) (w : List ℕ) (ts : List Lexeme) → closes k ≡ false → C (lexeme k w ∷ ts) → ⊥
 
 over_dead : (w : Waiting) (K : Precedence → List Lexeme → Type 0) → Dead K → (k : TokenKind) (v : List ℕ) {ts rest : List Lexeme} {l : Precedence}
-    → closes k ≡ false → precedence_number l < least_before k → Rises (wanted (Some w)) l (lexeme k v ∷ ts) rest → K (waiting_precedence w) rest → ⊥
+    → closes k ≡ false → precedence_number l < least_before k → Ascends (wanted (Some w)) l (lexeme k v ∷ ts) rest → K (waiting_precedence w) rest → ⊥
 over_dead w K d k v {ts = ts} c h (stays s) x = let b = waiting_wanted w in d k v ts (waiting_precedence w) c (omega (arith, h, s, b)) x
 over_dead w K d k v c h (goes s t r) x = let f = (step_of t).least in omega (arith, h, f)
 
@@ -248,7 +248,7 @@ pub dead_over : (w : Waiting) (K : Precedence → List Lexeme → Type 0) → De
 dead_over w K d k v ts l c h x = over_dead w K d k v c h x.1 x.2
 
 whole_dead : (C : List Lexeme → Type 0) → Needs C → (k : TokenKind) (v : List ℕ) {ts rest : List Lexeme} {l : Precedence}
-    → closes k ≡ false → precedence_number l < least_before k → Rises precedences.Conditional l (lexeme k v ∷ ts) rest → C rest → ⊥
+    → closes k ≡ false → precedence_number l < least_before k → Ascends precedences.Conditional l (lexeme k v ∷ ts) rest → C rest → ⊥
 whole_dead C d k v {ts = ts} c h (stays s) x = d k v ts c x
 whole_dead C d k v c h (goes s t r) x = let f = (step_of t).least in omega (arith, h, f)
 
