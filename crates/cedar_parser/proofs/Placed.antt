@@ -11,7 +11,7 @@ use Rattle.std.specs.HashMap.{get_by}
 use Rattle.std.specs.Str.{bytes_eq}
 use Rattle.std.specs.Rc.{rc_str_bytes}
 use Rattle.std.proofs.lemmas.Grind.{flat_map-append}
-use Rattle.std.proofs.lemmas.List.{append_assoc, append-nil, map-append}
+use Rattle.std.proofs.lemmas.List.{append_assoc, append-nil}
 use Rattle.cedar_exprs.specs.declared.expr.Expr.{Expr}
 use Rattle.cedar_exprs.specs.Walks.{children}
 use Rattle.cedar_lexer.specs.declared.token.Span.{Span}
@@ -27,13 +27,13 @@ use Rattle.cedar_exprs.specs.RecordPairs.{record_values}
 use Rattle.cedar_exprs.specs.BareExpr.{expr_place}
 use Rattle.cedar_exprs.specs.MadeNode.{IsMadeBy, builder_place}
 use Rattle.cedar_exprs.specs.declared.builder.ExprBuilder.{ExprBuilder}
-use Rattle.cedar_lexer.specs.TokenStreams.{IsTaken, IsUntouched, next_of, end_of, first_or, rest_of}
+use Rattle.cedar_lexer.specs.TokenStreams.{IsTaken}
 use Rattle.cedar_lexer.specs.declared.parse_failure.ParseFailure.{ParseFailure}
 use Rattle.cedar_lexer.specs.declared.token.Token.{Token}
 use Rattle.cedar_lexer.specs.declared.token_stream.TokenStream.{TokenStream}
 use Rattle.cedar_parser.specs.Meant.{waiting}
 use Rattle.cedar_parser.specs.Refused.{IsBefore, next_start, start_of}
-use Rattle.cedar_parser.proofs.InOrder.{earlier, taken, here}
+use Rattle.cedar_parser.proofs.InOrder.{taken, here}
 use Rattle.cedar_parser.specs.Places.{IsGroupPlaced, around, items_of, IsPlaced, ArePlaced, placed, none_placed, and_placed, IsNodeAt, AreOpenUpTo, IsPlacedUpTo, ArePartsPlaced, operands_of, waiting_part, group_parts, open_parts, place_of, source_of}
 
 pub wider : {s : List ℕ} {a b : ℕ} {e : Expr Unit} (c d : ℕ) → c ≤ a → b ≤ d → IsPlaced s a b e → IsPlaced s c d e
