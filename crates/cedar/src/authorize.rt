@@ -1,17 +1,13 @@
 //! Decides a request.
 use crate::failure::Failure;
 use crate::inputs::{self, Source};
+use crate::known::Known;
 use crate::status::Status;
 use crate::{report, residual};
 use cedar_authorizer::{Decision, Response};
-use cedar_decisions::decide;
-use cedar_functions::{BuiltinExtension, BuiltinFunctions};
-use cedar_inputs::Store;
-use cedar_request::Request;
-use cedar_request_evaluator::RequestEvaluator;
+use cedar_bindings::Bindings;
 use clap::ArgMatches;
 use std::alloc::Global;
-use std::collections::HashMap;
 
 const FILES: [&str; 4] = ["policies", "entities", "request-json", "context"];
 
@@ -25,12 +21,16 @@ pub fn run(rt: &HostRuntime, options: &ArgMatches<'_>) -> Result<Status, Failure
     } else {
         inputs::request(rt, options)?
     };
-    let entities = inputs::entities(rt, options)?;
+    let known = Known {
+        request,
+        entities: inputs::entities(rt, options)?,
+        bindings: Bindings::new(rt.alloc()),
+    };
     let policies = inputs::read_source(rt, options, "policies")?;
     if options.get_flag("partial") {
-        return residual::authorize(rt, &policies, &entities, &request);
+        return residual::authorize(rt, &policies, &known);
     }
-    let response = response_of(rt.alloc(), &policies, &entities, &request)?;
+    let response = response_of(rt.alloc(), &policies, &known)?;
     if options.get_flag("json") {
         report::print_json(rt, &policies, &response)?;
     } else {
@@ -58,15 +58,8 @@ fn warn_of_templates(rt: &HostRuntime, policies: &Source<'_>) -> Result<(), Fail
     Ok(())
 }
 
-fn response_of(
-    alloc: Global,
-    policies: &Source<'_>,
-    entities: &Store,
-    request: &Request<BuiltinExtension>,
-) -> Result<Response, Failure> {
-    let values = HashMap::new(alloc);
-    let evaluator = RequestEvaluator::new(request, entities, &BuiltinFunctions, &values);
-    match decide(alloc, &policies.text, &evaluator) {
+fn response_of(alloc: Global, policies: &Source<'_>, known: &Known) -> Result<Response, Failure> {
+    match known.decide(alloc, &policies.text) {
         Ok(response) => Ok(response),
         Err(error) => Err(Failure::of_syntax(policies.file, &policies.text, &error)),
     }

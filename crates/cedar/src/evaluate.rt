@@ -2,15 +2,11 @@
 use crate::answers::{self, Style};
 use crate::failure::Failure;
 use crate::inputs;
+use crate::known::Known;
 use crate::status::Status;
 use cedar_bindings::Bindings;
-use cedar_conditions::{Answer, evaluate_condition};
-use cedar_functions::{BuiltinExtension, BuiltinFunctions};
-use cedar_inputs::Store;
-use cedar_request::Request;
-use cedar_request_evaluator::RequestEvaluator;
+use cedar_conditions::Answer;
 use clap::ArgMatches;
-use std::alloc::{AllocError, Global};
 
 const INPUTS: [&str; 6] = [
     "expression",
@@ -26,7 +22,7 @@ pub fn run(rt: &HostRuntime, options: &ArgMatches<'_>) -> Result<Status, Failure
     if !inputs::reads_input_once(options, &INPUTS) {
         return Err(Failure::input_twice());
     }
-    let known = Known::read(rt, options)?;
+    let known = read_known(rt, options)?;
     let text = inputs::condition(rt, options)?;
     let place = inputs::place_of_condition(rt.alloc(), options)?;
     if options.get_flag("batch") {
@@ -36,35 +32,13 @@ pub fn run(rt: &HostRuntime, options: &ArgMatches<'_>) -> Result<Status, Failure
     }
 }
 
-// What is known when a condition is evaluated.
-#[derive(Drop)]
-struct Known {
-    request: Request<BuiltinExtension>,
-    entities: Store,
-    bindings: Bindings,
-}
-
-impl Known {
-    // What the options say.
-    fn read(rt: &HostRuntime, options: &ArgMatches<'_>) -> Result<Known, Failure> {
-        Ok(Known {
-            request: inputs::partial_request(rt, options)?,
-            entities: inputs::known_entities(rt, options)?,
-            bindings: inputs::bindings(rt, options)?,
-        })
-    }
-
-    // The answer to a condition.
-    fn answer(&self, alloc: Global, text: &str) -> Result<Answer, AllocError> {
-        let values = self.bindings.values();
-        let evaluator = RequestEvaluator::new(
-            &self.request,
-            &self.entities,
-            &BuiltinFunctions,
-            values,
-        );
-        evaluate_condition(alloc, text, self.bindings.named(), &evaluator)
-    }
+// What the options say is known.
+fn read_known(rt: &HostRuntime, options: &ArgMatches<'_>) -> Result<Known, Failure> {
+    Ok(Known {
+        request: inputs::partial_request(rt, options)?,
+        entities: inputs::known_entities(rt, options)?,
+        bindings: inputs::bindings(rt, options)?,
+    })
 }
 
 // Answers one condition.
@@ -147,11 +121,12 @@ fn status_of(answer: &Answer, tells_false: bool) -> Status {
 
 // Whether nothing of an answer went to standard output.
 fn is_error(status: Status, style: Style) -> bool {
-    match status {
-        Status::Success | Status::Deny => false,
-        Status::Unknown => style.is_strict && !style.is_json,
-        Status::Failure | Status::Memory | Status::NoCondition | Status::Fault => !style.is_json,
-    }
+    !style.is_json
+        && match status {
+            Status::Success | Status::Deny => false,
+            Status::Unknown => style.is_strict,
+            Status::Failure | Status::Memory | Status::NoCondition | Status::Fault => true,
+        }
 }
 
 // Warns of bound names for which no condition asks.

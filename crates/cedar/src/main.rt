@@ -8,6 +8,7 @@ mod evaluate;
 mod failure;
 mod format;
 mod inputs;
+mod known;
 mod link;
 mod options;
 mod report;

@@ -1,16 +1,11 @@
 //! Decides a request of which not all is known.
 use crate::failure::Failure;
 use crate::inputs::Source;
+use crate::known::Known;
 use crate::status::Status;
 use cedar_authorizer::{PartialResponse, Policy};
-use cedar_decisions::decide_partial;
-use cedar_functions::{BuiltinExtension, BuiltinFunctions};
-use cedar_inputs::Store;
 use cedar_policies::{ActionConstraint, Annotation, Clause, ScopeConstraint, Template};
-use cedar_request::Request;
-use cedar_request_evaluator::RequestEvaluator;
 use std::alloc::{AllocError, Global};
-use std::collections::HashMap;
 use std::rc::RcStr;
 
 /// Prints ALLOW or DENY; or UNKNOWN and the residual policies, which give the answer of all
@@ -18,10 +13,9 @@ use std::rc::RcStr;
 pub fn authorize(
     rt: &HostRuntime,
     policies: &Source<'_>,
-    entities: &Store,
-    request: &Request<BuiltinExtension>,
+    known: &Known,
 ) -> Result<Status, Failure> {
-    match response_of(rt.alloc(), policies, entities, request)? {
+    match response_of(rt.alloc(), policies, known)? {
         PartialResponse::Allow => {
             println!(rt; "ALLOW")?;
             Ok(Status::Success)
@@ -41,12 +35,9 @@ pub fn authorize(
 fn response_of(
     alloc: Global,
     policies: &Source<'_>,
-    entities: &Store,
-    request: &Request<BuiltinExtension>,
+    known: &Known,
 ) -> Result<PartialResponse, Failure> {
-    let values = HashMap::new(alloc);
-    let evaluator = RequestEvaluator::new(request, entities, &BuiltinFunctions, &values);
-    match decide_partial(alloc, &policies.text, &evaluator) {
+    match known.decide_partial(alloc, &policies.text) {
         Ok(response) => Ok(response),
         Err(error) => Err(Failure::of_syntax(policies.file, &policies.text, &error)),
     }

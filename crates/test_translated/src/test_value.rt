@@ -79,9 +79,9 @@ fn pretty_printer(rt: &HostRuntime) -> io::Result<()> {
 
 fn set_collect(rt: &HostRuntime) -> io::Result<()> {
     title(rt, "value: set_collect")?;
-    let set: Set = Set::new(rt.alloc(), vec![in rt.alloc(); Value::from(1)]?)?;
+    let set: Set = Set::from_values(rt.alloc(), vec![in rt.alloc(); Value::from(1)]?)?;
     println!(rt; "  len: {}", set.len())?;
     let member = Value::new(ValueKind::Set(set), None);
-    let set2 = Set::new(rt.alloc(), vec![in rt.alloc(); member]?)?;
+    let set2 = Set::from_values(rt.alloc(), vec![in rt.alloc(); member]?)?;
     println!(rt; "  len: {}", set2.len())
 }
