@@ -7,7 +7,6 @@ use crate::{report, residual};
 use cedar_authorizer::{Decision, Response};
 use cedar_bindings::Bindings;
 use clap::ArgMatches;
-use std::alloc::Global;
 
 const FILES: [&str; 4] = ["policies", "entities", "request-json", "context"];
 
@@ -30,7 +29,7 @@ pub fn run(rt: &HostRuntime, options: &ArgMatches<'_>) -> Result<Status, Failure
     if options.get_flag("partial") {
         return residual::authorize(rt, &policies, &known);
     }
-    let response = response_of(rt.alloc(), &policies, &known)?;
+    let response = policies.parsed(known.decide(rt.alloc(), &policies.text))?;
     if options.get_flag("json") {
         report::print_json(rt, &policies, &response)?;
     } else {
@@ -56,13 +55,6 @@ fn warn_of_templates(rt: &HostRuntime, policies: &Source<'_>) -> Result<(), Fail
         }
     }
     Ok(())
-}
-
-fn response_of(alloc: Global, policies: &Source<'_>, known: &Known) -> Result<Response, Failure> {
-    match known.decide(alloc, &policies.text) {
-        Ok(response) => Ok(response),
-        Err(error) => Err(Failure::of_syntax(policies.file, &policies.text, &error)),
-    }
 }
 
 fn status_of(response: &Response) -> Status {

@@ -6,6 +6,7 @@ use cedar_functions::BuiltinExtension;
 use cedar_inputs::{
     InputError, RequestParts, Store, context_from_json, entities_from_json, entity_from_text,
 };
+use cedar_parser::ParseError;
 use cedar_policies::PolicySet;
 use cedar_policy_parser::parse_policies;
 use cedar_request::{Context, Request};
@@ -50,6 +51,16 @@ pub struct Source<'a> {
     pub file: &'a str,
     /// What it holds.
     pub text: String,
+}
+
+impl Source<'_> {
+    /// What a parser made of the text, or why there is nothing.
+    pub fn parsed<T>(&self, made: Result<T, ParseError>) -> Result<T, Failure> {
+        match made {
+            Ok(made) => Ok(made),
+            Err(error) => Err(Failure::of_syntax(self.file, &self.text, &error)),
+        }
+    }
 }
 
 /// The text of the file that an option names.
@@ -121,10 +132,7 @@ fn bind_argument(alloc: Global, pair: &[&str], bindings: &mut Bindings) -> Resul
 
 /// The policies of a text.
 pub fn policies(rt: &HostRuntime, source: &Source<'_>) -> Result<PolicySet, Failure> {
-    match parse_policies(rt.alloc(), &source.text) {
-        Ok(policies) => Ok(policies),
-        Err(error) => Err(Failure::of_syntax(source.file, &source.text, &error)),
-    }
+    source.parsed(parse_policies(rt.alloc(), &source.text))
 }
 
 /// The entities of a file; there are none without one.

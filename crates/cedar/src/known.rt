@@ -1,5 +1,7 @@
 //! What is known of a request and of entities, and what follows from it.
-ghost use Rattle.std.specs.Prelude.{◌≡◌, IfErr, IfOk};
+ghost use Rattle.std.specs.Prelude.{◌≡◌, IfErr, IfOk, MatchResult};
+ghost use Rattle.semantics_authorize.specs.Authorization.{authorized};
+ghost use Rattle.cedar_lexer.specs.declared.error.ParseError.TheVariants.{Memory};
 ghost use Rattle.cedar_parser.specs.Refused.{IsToldIn};
 ghost use Rattle.cedar_request.specs.Values.{tree_of};
 ghost use Rattle.cedar_request_evaluator.specs.Knowledge.{functions_of, knowledge_of};
@@ -8,8 +10,8 @@ ghost use Rattle.cedar_functions.specs.Extensions.{canonical_call};
 ghost use Rattle.cedar_functions.specs.Functions.{extension_functions};
 ghost use Rattle.cedar_bindings.specs.Bindings.{names_in};
 ghost use Rattle.cedar_authorizer.specs.Responses.{bare_response};
-ghost use Rattle.cedar_decisions.specs.Decisions.{IsDecidedBy};
-ghost use Rattle.cedar_decisions.specs.Partial.{IsPartlyDecidedBy};
+ghost use Rattle.cedar_decisions.specs.Decisions.{IfPolicies, IsDecidedBy};
+ghost use Rattle.cedar_decisions.specs.Partial.{IsPartlyDecided, IsPartlyDecidedBy};
 ghost use Rattle.cedar_conditions.specs.Answers.{IsAnswerTo};
 ghost use Rattle.cedar.specs.Known.{all_known};
 
@@ -47,6 +49,10 @@ impl Known {
         ensures decided { IfOk result (λ response. IsDecidedBy ⟦<BuiltinExtension as Ord>⟧.cmp
             ⟦<BuiltinExtension as PartialEq>⟧.eq extension_functions (all_known self.now)
             policies.now (bare_response response)) }
+        ensures complete { IfPolicies policies.now (λ ps. MatchResult result (λ response.
+            bare_response response ≡ authorized ⟦<BuiltinExtension as Ord>⟧.cmp
+            ⟦<BuiltinExtension as PartialEq>⟧.eq extension_functions (all_known self.now) ps)
+            (λ e. e ≡ Memory)) }
         ensures told { IfErr result (IsToldIn policies.now) }
     {
         decide(alloc, policies, &self.evaluator())
@@ -61,6 +67,9 @@ impl Known {
         ensures decided { IfOk result (IsPartlyDecidedBy ⟦<BuiltinExtension as Ord>⟧.cmp
             ⟦<BuiltinExtension as PartialEq>⟧.eq extension_functions (all_known self.now)
             policies.now) }
+        ensures complete { IfPolicies policies.now (λ ps. MatchResult result
+            (IsPartlyDecided ⟦<BuiltinExtension as Ord>⟧.cmp ⟦<BuiltinExtension as PartialEq>⟧.eq
+            extension_functions (all_known self.now) ps) (λ e. e ≡ Memory)) }
         ensures told { IfErr result (IsToldIn policies.now) }
     {
         decide_partial(alloc, policies, &self.evaluator())

@@ -15,7 +15,7 @@ pub fn authorize(
     policies: &Source<'_>,
     known: &Known,
 ) -> Result<Status, Failure> {
-    match response_of(rt.alloc(), policies, known)? {
+    match policies.parsed(known.decide_partial(rt.alloc(), &policies.text))? {
         PartialResponse::Allow => {
             println!(rt; "ALLOW")?;
             Ok(Status::Success)
@@ -29,17 +29,6 @@ pub fn authorize(
             print(rt, &residual)?;
             Ok(Status::Unknown)
         }
-    }
-}
-
-fn response_of(
-    alloc: Global,
-    policies: &Source<'_>,
-    known: &Known,
-) -> Result<PartialResponse, Failure> {
-    match known.decide_partial(alloc, &policies.text) {
-        Ok(response) => Ok(response),
-        Err(error) => Err(Failure::of_syntax(policies.file, &policies.text, &error)),
     }
 }
 
